@@ -1,0 +1,5 @@
+pub mod Logic
+pub mod Bytes
+pub mod Put
+pub mod Field
+pub mod Turn

@@ -1,0 +1,58 @@
+-- 01, Refusal numbers: the table. Assumes nothing.
+use mathlib.Core.Path.{_≡_, refl, sym, ap, _∙_}
+use mathlib.Core.List.{List, [], _∷_}
+use Prim.Native.Nat.{ℕ, _-_}
+use lib.ListN.{getD}
+use Rattle.refusal.specs.declared.Refusal.{Refusal}
+use Rattle.refusal.specs.declared.Refusal.the-variants.{ShortPacket, LongPacket, NumberEnd, FewDescriptors, NoRoom, SyncFirst, OverAdvance, OutShort, BadRoom, ZeroMask, IdsExhausted, BadRange, BadOrder, BadContent, Incomplete, LongAuth}
+
+-- the number that the table gives a refusal
+abbrev pub numberOf : Refusal → ℕ
+numberOf ShortPacket = 1
+numberOf LongPacket = 2
+numberOf NumberEnd = 3
+numberOf FewDescriptors = 4
+numberOf NoRoom = 5
+numberOf SyncFirst = 6
+numberOf OverAdvance = 7
+numberOf OutShort = 8
+numberOf BadRoom = 9
+numberOf ZeroMask = 10
+numberOf IdsExhausted = 11
+numberOf BadRange = 12
+numberOf BadOrder = 13
+numberOf BadContent = 14
+numberOf Incomplete = 15
+numberOf LongAuth = 16
+
+-- the refusals in the order of the table
+table : List Refusal
+table =
+    ShortPacket ∷ LongPacket ∷ NumberEnd ∷ FewDescriptors ∷ NoRoom ∷ SyncFirst ∷ OverAdvance ∷ OutShort ∷ BadRoom ∷ ZeroMask ∷ IdsExhausted ∷ BadRange ∷ BadOrder ∷ BadContent ∷ Incomplete
+    ∷ LongAuth ∷ []
+
+refusalOf : ℕ → Refusal
+refusalOf n = getD table (n - 1) BadRoom
+
+listed : (r : Refusal) → refusalOf (numberOf r) ≡ r
+unfolding refusalOf table
+listed ShortPacket = refl
+listed LongPacket = refl
+listed NumberEnd = refl
+listed FewDescriptors = refl
+listed NoRoom = refl
+listed SyncFirst = refl
+listed OverAdvance = refl
+listed OutShort = refl
+listed BadRoom = refl
+listed ZeroMask = refl
+listed IdsExhausted = refl
+listed BadRange = refl
+listed BadOrder = refl
+listed BadContent = refl
+listed Incomplete = refl
+listed LongAuth = refl
+
+-- A number says which refusal it is: two of one number are one.
+pub number-one : (r s : Refusal) → numberOf r ≡ numberOf s → r ≡ s
+number-one r s e = sym (listed r) ∙ ap refusalOf e ∙ listed s
