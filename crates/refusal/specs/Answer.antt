@@ -1,7 +1,8 @@
 -- What a call answers, in the rules' own terms. Assumes nothing.
-use mathlib.Core.Path.{_≡_, refl}
+use mathlib.Core.Path.{_≡_, refl, sym, ap, _∙_}
 use mathlib.Core.Bool.{Bool, true, false}
 use Prim.Native.Nat.{ℕ}
+use native.Mathlib.Omega.{arith}
 
 -- what a call gives, or the number of its refusal
 pub data Answer (A : Type 0) : Type 0 where
@@ -13,8 +14,34 @@ unfoldable pub refuse : {A : Type 0} → Bool → ℕ → Answer A → Answer A
 refuse true n a = refuses n
 refuse false n a = a
 
+-- A call that begins with a check: its refusal, or what comes after it.
+abbrev pub after : {A B : Type 0} → Answer A → Answer B → Answer B
+after (gives x) b = b
+after (refuses n) b = refuses n
+
+pub after-given : {A B : Type 0} {x : A} {c : Answer A} (b : Answer B) → gives x ≡ c → b ≡ after c b
+after-given b e = ap (λ k. after k b) e
+
+pub after-refused : {A B : Type 0} {n : ℕ} {c : Answer A} (b : Answer B) → refuses n ≡ c → refuses n ≡ after c b
+after-refused b e = ap (λ k. after k b) e
+
 -- What comes after a refusal may use that its test failed.
 pub refuse-under : {A : Type 0} (b : Bool) (n : ℕ) {x y : Answer A} → (b ≡ false → x ≡ y) → refuse b n x ≡ refuse b n y
 unfolding refuse
 refuse-under true n h = refl
 refuse-under false n h = h refl
+
+-- A call that gives something has passed each of its refusals.
+pub gives-past : {A : Type 0} {x : A} (b : Bool) (n : ℕ) (a : Answer A) → gives x ≡ refuse b n a → b ≡ false
+unfolding refuse
+gives-past true n a e = absurd (let z : _≡_ {A = ℕ} 0 1 = cc in omega arith)
+gives-past false n a e = refl
+
+pub gives-rest : {A : Type 0} {x : A} (b : Bool) (n : ℕ) (a : Answer A) → gives x ≡ refuse b n a → gives x ≡ a
+unfolding refuse
+gives-rest true n a e = absurd (let z : _≡_ {A = ℕ} 0 1 = cc in omega arith)
+gives-rest false n a e = e
+
+-- What an enum says decides it, where it can be read back from what it says: so two answers that a promise allows are equal.
+pub decides : {E A : Type 0} (says : E → Answer A) (back : Answer A → E) → ((e : E) → back (says e) ≡ e) → (a b : E) → says a ≡ says b → a ≡ b
+decides says back h a b e = sym (h a) ∙ ap back e ∙ h b

@@ -1,5 +1,5 @@
 -- 01, Refusal numbers: the table. Assumes nothing.
-use mathlib.Core.Path.{_≡_, refl, sym, ap, _∙_}
+use mathlib.Core.Path.{_≡_, refl}
 use mathlib.Core.List.{List, [], _∷_}
 use Prim.Native.Nat.{ℕ, _-_}
 use lib.ListN.{getD}
@@ -26,15 +26,17 @@ numberOf Incomplete = 15
 numberOf LongAuth = 16
 
 -- the refusals in the order of the table
-table : List Refusal
+unfoldable pub table : List Refusal
 table =
     ShortPacket ∷ LongPacket ∷ NumberEnd ∷ FewDescriptors ∷ NoRoom ∷ SyncFirst ∷ OverAdvance ∷ OutShort ∷ BadRoom ∷ ZeroMask ∷ IdsExhausted ∷ BadRange ∷ BadOrder ∷ BadContent ∷ Incomplete
     ∷ LongAuth ∷ []
 
-refusalOf : ℕ → Refusal
+-- the refusal of a number
+unfoldable pub refusalOf : ℕ → Refusal
 refusalOf n = getD table (n - 1) BadRoom
 
-listed : (r : Refusal) → refusalOf (numberOf r) ≡ r
+-- A number says which refusal it is.
+pub listed : (r : Refusal) → refusalOf (numberOf r) ≡ r
 unfolding refusalOf table
 listed ShortPacket = refl
 listed LongPacket = refl
@@ -52,7 +54,3 @@ listed BadOrder = refl
 listed BadContent = refl
 listed Incomplete = refl
 listed LongAuth = refl
-
--- A number says which refusal it is: two of one number are one.
-pub number-one : (r s : Refusal) → numberOf r ≡ numberOf s → r ≡ s
-number-one r s e = sym (listed r) ∙ ap refusalOf e ∙ listed s
