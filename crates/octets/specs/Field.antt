@@ -1,6 +1,7 @@
 -- A field of n bytes at a place of a list, in either order. Assumes nothing.
-use mathlib.Core.Path.{_≡_, sym, ap, _∙_}
-use Prim.Native.Nat.{ℕ, _+_, _*_, _/_, _%_, _≤_, _<_, _^_}
+use mathlib.Core.Path.{_≡_, refl, sym, ap, _∙_}
+use Prim.Native.Nat.{ℕ, zero, suc, _+_, _*_, _/_, _%_, _≤_, _<_, _^_}
+use native.Mathlib.Nat.{suc-add, mul-suc}
 use native.Mathlib.Omega.{arith}
 use mathlib.Core.List.{List, [], _∷_, _++_}
 use lib.ListN.{length, getD, set}
@@ -59,3 +60,21 @@ unfolding putField
 put-one o s at x h f =
     let e : x % 256 ≡ x = omega arith in
     set-one s at x h ∙ ap (put s at) (sym (bytes-one o x ∙ ap (λ (y : ℕ). y ∷ []) e))
+
+-- n fields of w bytes, side by side from index at on
+unfoldable pub fields : ℕ → ℕ → ℕ → ℕ → List ℕ → List ℕ
+fields o w at zero s = []
+fields o w at (suc n) s = field o at w s ∷ fields o w (at + w) n s
+
+pub length-fields : (o w at n : ℕ) (s : List ℕ) → length (fields o w at n s) ≡ n
+unfolding fields
+length-fields o w at zero s = refl
+length-fields o w at (suc n) s = ap suc (length-fields o w (at + w) n s)
+
+-- one field more stands behind the others
+pub fields-behind : (o w at n : ℕ) (s : List ℕ) → fields o w at (n + 1) s ≡ fields o w at n s ++ (field o (at + w * n) w s ∷ [])
+unfolding fields
+fields-behind o w at zero s = let e : at ≡ at + w * 0 = omega arith in ap (λ (k : ℕ). field o k w s ∷ []) e
+fields-behind o w at (suc n) s =
+    let e : at + w + w * n ≡ at + w * suc n = omega (arith, mul-suc w n) in
+    rw suc-add (ap (λ (l : List ℕ). field o at w s ∷ l) (fields-behind o w (at + w) n s ∙ ap (λ (k : ℕ). fields o w (at + w) n s ++ (field o k w s ∷ [])) e))

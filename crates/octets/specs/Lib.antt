@@ -3,3 +3,4 @@ pub mod Bytes
 pub mod Put
 pub mod Field
 pub mod Turn
+pub mod Lent

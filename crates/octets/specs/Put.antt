@@ -49,6 +49,11 @@ put-put s at n v w e h =
     ∙ ap (λ (k : ℕ). drop k s) q in
     (λ k. t k ++ (w ++ d k)) ∙ simp append-assoc
 
+-- writing on from the start
+pub put-more : (s s₁ s₂ : List ℕ) (n : ℕ) (v w : List ℕ) → length v ≡ n → n + length w ≤ length s → s₁ ≡ put s 0 v → s₂ ≡ put s₁ n w → s₂ ≡ put s 0 (v ++ w)
+put-more s s₁ s₂ n v w e h p q =
+    q ∙ (λ k. put (p k) (sym (zero-add n) k) w) ∙ put-put s 0 n v w e (omega arith)
+
 -- of two at one place the second stands
 pub put-over : (s : List ℕ) (at : ℕ) (v w : List ℕ) → length v ≡ length w → at + length v ≤ length s → put (put s at v) at w ≡ put s at w
 unfolding put
@@ -100,6 +105,10 @@ set-one s i b h = set-split s i b h ∙ rw (add-one i)
 pub set-behind : (s : List ℕ) (at n : ℕ) (v : List ℕ) (b : ℕ) → length v ≡ n → at + n < length s → set (put s at v) (at + n) b ≡ put s at (v ++ (b ∷ []))
 set-behind s at n v b e h =
     set-one (put s at v) (at + n) b (omega (arith, length-put s at v (omega arith))) ∙ put-put s at n v (b ∷ []) e (omega arith)
+
+pub set-two : (s : List ℕ) (at x y : ℕ) → at + 2 ≤ length s → set (set s at x) (at + 1) y ≡ put s at (x ∷ y ∷ [])
+set-two s at x y h =
+    (λ k. set (set-one s at x (omega arith) k) (at + 1) y) ∙ set-behind s at 1 (x ∷ []) y refl (omega arith)
 
 pub set-ahead : (s : List ℕ) (i : ℕ) (v : List ℕ) (b : ℕ) → i + 1 + length v ≤ length s → set (put s (i + 1) v) i b ≡ put s i (b ∷ v)
 unfolding put

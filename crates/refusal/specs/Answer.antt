@@ -15,14 +15,16 @@ refuse true n a = refuses n
 refuse false n a = a
 
 -- A call that begins with a check: its refusal, or what comes after it.
-abbrev pub after : {A B : Type 0} → Answer A → Answer B → Answer B
+unfoldable pub after : {A B : Type 0} → Answer A → Answer B → Answer B
 after (gives x) b = b
 after (refuses n) b = refuses n
 
 pub after-given : {A B : Type 0} {x : A} {c : Answer A} (b : Answer B) → gives x ≡ c → b ≡ after c b
+unfolding after
 after-given b e = ap (λ k. after k b) e
 
 pub after-refused : {A B : Type 0} {n : ℕ} {c : Answer A} (b : Answer B) → refuses n ≡ c → refuses n ≡ after c b
+unfolding after
 after-refused b e = ap (λ k. after k b) e
 
 -- What comes after a refusal may use that its test failed.
@@ -41,6 +43,17 @@ pub gives-rest : {A : Type 0} {x : A} (b : Bool) (n : ℕ) (a : Answer A) → gi
 unfolding refuse
 gives-rest true n a e = absurd (let z : _≡_ {A = ℕ} 0 1 = cc in omega arith)
 gives-rest false n a e = e
+
+-- and so has the check that it begins with
+pub after-check : {B : Type 0} {x : B} (c : Answer Unit) (b : Answer B) → gives x ≡ after c b → gives tt ≡ c
+unfolding after
+after-check (gives y) b e = refl
+after-check (refuses n) b e = absurd (let z : _≡_ {A = ℕ} 0 1 = cc in omega arith)
+
+pub after-rest : {B : Type 0} {x : B} (c : Answer Unit) (b : Answer B) → gives x ≡ after c b → gives x ≡ b
+unfolding after
+after-rest (gives y) b e = e
+after-rest (refuses n) b e = absurd (let z : _≡_ {A = ℕ} 0 1 = cc in omega arith)
 
 -- What an enum says decides it, where it can be read back from what it says: so two answers that a promise allows are equal.
 pub decides : {E A : Type 0} (says : E → Answer A) (back : Answer A → E) → ((e : E) → back (says e) ≡ e) → (a b : E) → says a ≡ says b → a ≡ b

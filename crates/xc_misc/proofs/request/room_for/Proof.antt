@@ -1,0 +1,26 @@
+-- `xc_misc::request::room_for` meets its contract. Assumes nothing.
+use borrow.Author.Tests.{lt-ltb, le-ltb, not-true, not-false}
+use mathlib.Core.Path.{sym, _∙_}
+use Rattle.refusal.specs.Answer.{refuse}
+use Rattle.xc_misc.specs.Requests.{room}
+use borrow.Author.Needs.{needs}
+use Rattle.xc_misc.proofs.request.room_for.Statement.{statement}
+use Rattle.xc_misc.proofs.request.room_for.Tie as tie
+
+is-legal-requires : tie.Need-is-legal-requires
+is-legal-requires c κs = search needs
+
+returns : tie.Need-returns
+unfolding room refuse
+returns c = simp (sym (c .before .is-legal .ensures) ∙ not-true _ (c .if1 .taken))
+
+returns-2 : tie.Need-returns-2
+unfolding room refuse
+returns-2 c = simp (sym (c .before .before .is-legal .ensures) ∙ not-false _ (c .before .if1 .left), lt-ltb _ _ (c .if2 .taken))
+
+returns-3 : tie.Need-returns-3
+unfolding room refuse
+returns-3 c = simp (sym (c .before .before .is-legal .ensures) ∙ not-false _ (c .before .if1 .left), le-ltb _ _ (c .if2 .left))
+
+pub room-for-spec : {M : Type 1} → statement M
+room-for-spec = tie.close (tie.spec is-legal-requires returns returns-2 returns-3)
