@@ -1,0 +1,19 @@
+// Runs the worked values and the outside vectors over the leaves, and writes what they answer; the
+// gate holds it to the file `stdout`.
+//
+// The packets were sent by an X server (X.Org 21.1.7, Xvfb) to a client of each byte order; the
+// ids are those that the Rust answers.
+mod ids;
+mod misc;
+mod numbers;
+mod say;
+
+fn main() {
+    numbers::sending();
+    ids::of_masks();
+    ids::of_ranges();
+    misc::requests();
+    misc::errors();
+    misc::replies();
+    misc::refused();
+}

@@ -1,0 +1,31 @@
+// One word or number of a line at a time.
+use libc::STDOUT_FILENO;
+use refusal::Refusal;
+
+pub(crate) fn word(text: &[u8]) {
+    io::write_all(STDOUT_FILENO, text);
+}
+
+pub(crate) fn number(n: u64) {
+    io::write_all(STDOUT_FILENO, b" ");
+    io::print_decimal(STDOUT_FILENO, n);
+}
+
+pub(crate) fn refused(r: Refusal) {
+    word(b" refused");
+    number(r.number() as u64);
+}
+
+pub(crate) fn end() {
+    word(b"\n");
+}
+
+// The bytes in hex, in one word.
+pub(crate) fn bytes(s: &[u8]) {
+    word(b" ");
+    let mut i = 0;
+    while i < s.len() {
+        io::print_hex(STDOUT_FILENO, s[i] as u64, 2);
+        i += 1;
+    }
+}
