@@ -6,7 +6,7 @@ use native.Mathlib.Numerals.{add-one}
 use native.Mathlib.Omega.{arith}
 use mathlib.Core.List.{List, [], _∷_, _++_, append-assoc, append-nil}
 use lib.ListN.{length, take, drop, getD, set, length-append, length-drop, take-append-drop, List·getD-append}
-use lib.Seq.{take-append-le, take-at, drop-at, drop-drop, take-take, length-take-le, take-nil, take-suc, drop-cons, set-split, set-at, getD-take, getD-drop, take-add, take-length}
+use lib.Seq.{take-append-le, drop-append-le, take-at, drop-at, drop-drop, take-take, length-take-le, take-nil, take-suc, drop-cons, set-split, set-at, getD-take, getD-drop, take-add, take-length}
 
 -- s with the elements v over those from index at on
 unfoldable pub put : List ℕ → ℕ → List ℕ → List ℕ
@@ -152,6 +152,12 @@ cut-none s at = refl
 pub cut-all : (s : List ℕ) → cut 0 (length s) s ≡ s
 unfolding cut
 cut-all s = take-length s
+
+-- what stands behind does not matter
+pub cut-append : (at n : ℕ) (s t : List ℕ) → at + n ≤ length s → cut at n (s ++ t) ≡ cut at n s
+unfolding cut
+cut-append at n s t h =
+    ap (λ (l : List ℕ). take n l) (drop-append-le at s t (omega arith)) ∙ take-append-le n (drop at s) t (omega (arith, length-drop at s))
 
 -- a part of a cut
 pub cut-cut : (s : List ℕ) (at m a n : ℕ) → a + n ≤ m → cut a n (cut at m s) ≡ cut (at + a) n s

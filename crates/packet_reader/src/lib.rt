@@ -1,9 +1,20 @@
-// The packet reader: how long a packet is.
+// The packet reader: how long a packet is, and a partial packet in a buffer that the caller lends.
+//
+// A reader keeps how many bytes of the buffer are filled and how many the packet will have, as far
+// as the bytes so far tell: 32 at first, and once 32 are there the whole length. The caller puts
+// bytes into the part that `buffer` lends and counts them by `advance`, which says when a packet is
+// whole. Bytes past the filled ones mean nothing. The reader never writes the buffer itself.
 ghost use mathlib.Core.Path.{_≡_};
-ghost use Rattle.packet_reader.specs.Frame.{hasLength, total};
+ghost use Prim.Native.Nat.{_≤_};
+ghost use lib.ListN.{length};
+ghost use Rattle.packet_reader.specs.Frame.{hasLength, total, totalOf, aim};
+ghost use Rattle.packet_reader.specs.Reader.{fresh as Reader·fresh, soundb, made, capacity, advanced, saysMade, saysCapacity, saysAdvanced, Lent};
+use refusal::Refusal;
 
-// The bytes that every packet has.
+// The bytes that every packet has, and the most that a buffer may have.
 pub const FIXED: usize = 32;
+
+pub const MOST_BUFFER: usize = 65536;
 
 // The first byte of a reply, and of the event that has a length.
 const REPLY: u8 = 1;
@@ -28,4 +39,140 @@ pub fn packet_length(code: u8, field: u32) -> usize
         return FIXED + 4 * (field as usize);
     }
     FIXED
+}
+
+// How many bytes a packet will have of which the first filled are there.
+fn aim_of(order: u8, bytes: &[u8], filled: usize) -> usize
+    requires { ⌜ 8 ≤ length (now bytes) ⌝ }
+    ensures { λ r. ⌜ r ≡ aim order (now (bytes .entry)) filled ⌝ }
+{
+    if filled < FIXED {
+        return FIXED;
+    }
+    packet_length(bytes[0], octets::get_u32(order, bytes, 4))
+}
+
+// A reader's state: byte order, bytes filled, and the bytes that the packet will have.
+pub struct PacketReader {
+    pub order: u8,
+    pub filled: usize,
+    pub target: usize,
+}
+
+pub enum Made {
+    Reader(PacketReader),
+    Refused(Refusal),
+}
+
+pub enum Capacity {
+    Bytes(usize),
+    Refused(Refusal),
+}
+
+// What counting filled bytes comes to: the packet isn't whole yet, or it is, with so many bytes at
+// the start of the buffer, and the reader begins anew.
+pub enum Advanced {
+    NotYet(PacketReader),
+    Packet(usize, PacketReader),
+    Refused(Refusal),
+}
+
+impl PacketReader {
+    // A reader with nothing filled. Refused by 9 for a buffer that has not 32 to 65,536 bytes, then
+    // by 13.
+    pub fn new(order: u8, buf: &[u8]) -> Made
+        ensures { λ r. ⌜ saysMade r ≡ made order (length (now (buf .entry))) ⌝ }
+    {
+        if buf.len() < FIXED {
+            return Made::Refused(Refusal::BadRoom);
+        }
+        if MOST_BUFFER < buf.len() {
+            return Made::Refused(Refusal::BadRoom);
+        }
+        if !octets::is_legal(order) {
+            return Made::Refused(Refusal::BadOrder);
+        }
+        Made::Reader(fresh(order))
+    }
+
+    // How many bytes the part has that `buffer` lends. Refused by 9 where the reader is not sound
+    // beside its buffer: the number that `buffer`, which lends an empty part then, can't give.
+    pub fn remaining_capacity(self, buf: &[u8]) -> Capacity
+        ensures { λ r. ⌜ saysCapacity r ≡ capacity self (now (buf .entry)) ⌝ }
+    {
+        if !is_sound(self, buf) {
+            return Capacity::Refused(Refusal::BadRoom);
+        }
+        Capacity::Bytes(self.target - self.filled)
+    }
+
+    // The part of the buffer that is to be filled next.
+    pub fn buffer<'a>(self, buf: &'a mut [u8]) -> &'a mut [u8]
+        ensures { λ r. ⌜ Lent self (buf .entry) r ⌝ }
+    {
+        if !is_sound(self, buf) {
+            return &mut buf[0..0];
+        }
+        let start = self.filled;
+        let end = self.target;
+        &mut buf[start..end]
+    }
+
+    // Counts amount bytes of the lent part as filled. Refused by 9 for an unsound reader, 7 for
+    // more than the part has, and 2 where the packet would be longer than the buffer.
+    pub fn advance(self, buf: &[u8], amount: usize) -> Advanced
+        ensures { λ r. ⌜ saysAdvanced r ≡ advanced self (now (buf .entry)) amount ⌝ }
+    {
+        if !is_sound(self, buf) {
+            return Advanced::Refused(Refusal::BadRoom);
+        }
+        if self.target - self.filled < amount {
+            return Advanced::Refused(Refusal::OverAdvance);
+        }
+        let order = self.order;
+        let filled = self.filled + amount;
+        let target = aim_of(order, buf, filled);
+        if buf.len() < target {
+            return Advanced::Refused(Refusal::LongPacket);
+        }
+        if filled < target {
+            return Advanced::NotYet(PacketReader {
+                order: order,
+                filled: filled,
+                target: target,
+            });
+        }
+        Advanced::Packet(target, fresh(order))
+    }
+}
+
+fn fresh(order: u8) -> PacketReader
+    ensures { λ r. ⌜ r ≡ Reader·fresh order ⌝ }
+{
+    PacketReader {
+        order: order,
+        filled: 0,
+        target: FIXED,
+    }
+}
+
+fn is_sound(reader: PacketReader, buf: &[u8]) -> bool
+    ensures { λ r. ⌜ r ≡ soundb reader (now (buf .entry)) ⌝ }
+{
+    if buf.len() < FIXED {
+        return false;
+    }
+    if MOST_BUFFER < buf.len() {
+        return false;
+    }
+    if !octets::is_legal(reader.order) {
+        return false;
+    }
+    if reader.target != aim_of(reader.order, buf, reader.filled) {
+        return false;
+    }
+    if buf.len() < reader.target {
+        return false;
+    }
+    reader.filled < reader.target
 }

@@ -1,0 +1,47 @@
+-- Soundness of a reader in the rules' words, and the same as its test. Assumes nothing.
+use mathlib.Core.Path.{_≡_, refl, sym, ap, _∙_}
+use mathlib.Core.Bool.{Bool, true, false, not}
+use mathlib.Core.List.{List}
+use Prim.Native.Nat.{ℕ, _+_, _-_, _≤_, _<_}
+use lib.Dec.{leb, ltb, eqb}
+use lib.ListN.{length}
+use borrow.Author.Tests.{leb-true, ltb-true, eqb-true, le-leb, lt-ltb, eq-eqb, not-false}
+use Rattle.octets.specs.Logic.{both, both-left, both-right, both-yes}
+use Rattle.octets.specs.Bytes.{legal}
+use Rattle.packet_reader.specs.Frame.{fixed, aim}
+use Rattle.packet_reader.specs.Reader.{mostBuffer, room, soundb}
+use Rattle.packet_reader.specs.declared.PacketReader.{PacketReader}
+
+-- 01, Rooms: what a sound reader is
+pub record Sound (r : PacketReader) (s : List ℕ) : Type 0 where
+  pub least : fixed ≤ length s
+  pub most : length s ≤ mostBuffer
+  pub order-known : legal (r .order) ≡ true
+  pub target-given : r .target ≡ aim (r .order) s (r .filled)
+  pub target-fits : r .target ≤ length s
+  pub not-reached : r .filled < r .target
+
+-- The test holds exactly for sound readers.
+pub sound-is : (r : PacketReader) (s : List ℕ) → soundb r s ≡ true → Sound r s
+unfolding soundb room
+sound-is r s h =
+    let a = both-right _ _ h in let b = both-right _ _ a in let d = both-right _ _ b in
+    record {
+      least = leb-true _ _ (both-left _ _ (both-left _ _ h));
+      most = leb-true _ _ (both-right _ _ (both-left _ _ h));
+      order-known = both-left _ _ a;
+      target-given = eqb-true _ _ (both-left _ _ b);
+      target-fits = leb-true _ _ (both-left _ _ d);
+      not-reached = ltb-true _ _ (both-right _ _ d);
+    }
+
+pub is-sound : (r : PacketReader) (s : List ℕ) → Sound r s → soundb r s ≡ true
+unfolding soundb room
+is-sound r s h =
+    both-yes _ _ (both-yes _ _ (le-leb fixed (length s) (h .least)) (le-leb (length s) mostBuffer (h .most)))
+    (both-yes _ _ (h .order-known)
+    (both-yes _ _ (eq-eqb (r .target) _ (h .target-given)) (both-yes _ _ (le-leb (r .target) (length s) (h .target-fits)) (lt-ltb (r .filled) (r .target) (h .not-reached)))))
+
+-- what a call's test tells
+pub sound-seen : (r : PacketReader) (s : List ℕ) (b : Bool) → b ≡ soundb r s → not b ≡ false → Sound r s
+sound-seen r s b e h = sound-is r s (sym e ∙ not-false b h)
