@@ -3,13 +3,15 @@ use mathlib.Core.Path.{_≡_, refl, sym, ap, _∙_}
 use mathlib.Core.Bool.{Bool, true, false, not}
 use mathlib.Core.List.{List}
 use Prim.Native.Nat.{ℕ, _+_, _-_, _≤_, _<_}
+use native.Mathlib.Omega.{arith}
 use lib.Dec.{leb, ltb, eqb}
 use lib.ListN.{length}
 use borrow.Author.Tests.{leb-true, ltb-true, eqb-true, le-leb, lt-ltb, eq-eqb, not-false}
 use Rattle.octets.specs.Logic.{both, both-left, both-right, both-yes}
 use Rattle.octets.specs.Bytes.{legal}
 use Rattle.packet_reader.specs.Frame.{fixed, aim}
-use Rattle.packet_reader.specs.Reader.{mostBuffer, room, soundb}
+use Rattle.refusal.specs.Answer.{gives, gives-past, gives-rest}
+use Rattle.packet_reader.specs.Reader.{mostBuffer, room, soundb, capacity, Progress, advanced}
 use Rattle.packet_reader.specs.declared.PacketReader.{PacketReader}
 
 -- 01, Rooms: what a sound reader is
@@ -45,3 +47,16 @@ is-sound r s h =
 -- what a call's test tells
 pub sound-seen : (r : PacketReader) (s : List ℕ) (b : Bool) → b ≡ soundb r s → not b ≡ false → Sound r s
 sound-seen r s b e h = sound-is r s (sym e ∙ not-false b h)
+
+-- what an answer tells of the buffer: the part that is lent lies in it, and it has a packet's fixed bytes
+pub capacity-fits : (r : PacketReader) (s : List ℕ) (k : ℕ) → gives k ≡ capacity r s → r .filled + k ≤ length s
+unfolding capacity
+capacity-fits r s k e =
+    let h = sound-is r s (not-false _ (gives-past _ _ _ e)) in
+    let f = gives-rest _ _ _ e in
+    let q : k ≡ r .target - r .filled = cc in
+    omega (arith, h .target-fits, h .not-reached, q)
+
+pub advanced-fixed : (r : PacketReader) (s : List ℕ) (n : ℕ) {x : Progress} → gives x ≡ advanced r s n → fixed ≤ length s
+unfolding advanced
+advanced-fixed r s n e = sound-is r s (not-false _ (gives-past _ _ _ e)) .least

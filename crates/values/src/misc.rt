@@ -165,11 +165,7 @@ fn list(order: u8, packet: &[u8]) {
         }
         ListAnswer::Refused(r) => say::refused(r),
     }
-    let mut i = 0;
-    while i < ids.len() {
-        say::number(ids[i] as u64);
-        i += 1;
-    }
+    say::all(ids);
     say::end();
 }
 

@@ -25,7 +25,24 @@ pub(crate) fn bytes(s: &[u8]) {
     word(b" ");
     let mut i = 0;
     while i < s.len() {
-        io::print_hex(STDOUT_FILENO, s[i] as u64, 2);
+        byte(s[i]);
         i += 1;
     }
+}
+
+fn byte(x: u8) {
+    io::print_hex(STDOUT_FILENO, x as u64, 2);
+}
+
+// Each number.
+pub(crate) fn all(s: &[u32]) {
+    let mut i = 0;
+    while i < s.len() {
+        narrow(s[i]);
+        i += 1;
+    }
+}
+
+fn narrow(n: u32) {
+    number(n as u64);
 }

@@ -1,0 +1,7 @@
+pub mod Ids
+pub mod Runs
+pub mod LowestLaws
+pub mod SoundLaws
+pub mod RunLaws
+pub mod MaskLaws
+pub mod Theorems

@@ -1,0 +1,66 @@
+-- `values::ids::run` meets its contract. Assumes nothing.
+use Prim.Native.Nat.{_≤_, _-_}
+use borrow.Author.Needs.{needs}
+use Rattle.values.proofs.ids.run.Statement.{statement}
+use Rattle.values.proofs.ids.run.Tie as tie
+
+abbrev Inv-loop : tie.InvT-loop
+Inv-loop most a₀ done₀ a done = done ≤ most
+
+abbrev μ-loop : tie.MeasureT-loop
+μ-loop most a₀ done₀ a done = most - done
+
+loop-holds : tie.Need-loop-holds Inv-loop μ-loop
+loop-holds c = search needs
+
+generate-id-requires : tie.Need-generate-id-requires Inv-loop μ-loop
+generate-id-requires c κs = search needs
+
+enum-known-id : tie.Need-enum-known-id Inv-loop μ-loop
+enum-known-id c = search needs
+
+cast-number : tie.Need-cast-number Inv-loop μ-loop
+cast-number c = search needs
+
+number-requires : tie.Need-number-requires Inv-loop μ-loop
+number-requires c κs = search needs
+
+enum-known-r : tie.Need-enum-known-r Inv-loop μ-loop
+enum-known-r c = search needs
+
+refused-requires : tie.Need-refused-requires Inv-loop μ-loop
+refused-requires c κs = search needs
+
+returns : tie.Need-returns Inv-loop μ-loop
+returns c = search needs
+
+add-done : tie.Need-add-done Inv-loop μ-loop
+add-done c = search needs
+
+loop-less : tie.Need-loop-less Inv-loop μ-loop
+loop-less c = search needs
+
+loop-again : tie.Need-loop-again Inv-loop μ-loop
+loop-again c = search needs
+
+returns-2 : tie.Need-returns-2 Inv-loop μ-loop
+returns-2 c = search needs
+
+pub run-spec : {M : Type 1} → statement M
+run-spec =
+    tie.close
+    (tie.spec
+    Inv-loop
+    μ-loop
+    loop-holds
+    generate-id-requires
+    enum-known-id
+    cast-number
+    number-requires
+    enum-known-r
+    refused-requires
+    returns
+    add-done
+    loop-less
+    loop-again
+    returns-2)
