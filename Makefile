@@ -1,12 +1,12 @@
 # The two commands of the README.
 .PHONY: run test
 
-# Prove the leaves and the program over them, and run it.
+# Prove the program `packets` and what it stands on, and run it on bytes that an X server sent.
 run:
-	rt check values
-	target/bin/values
+	rt check packets
+	target/bin/packets < tests/streams/server.bin
 
-# Prove everything from nothing, try every edit that must fail, run every program. The last line is
+# Prove everything from nothing, try every edit that must fail, run every program and every stream. The last line is
 # 'N passed, 0 failed'.
 test:
-	rt ci
+	tests/run
