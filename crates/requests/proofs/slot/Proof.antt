@@ -1,0 +1,15 @@
+-- `requests::slot` meets its contract. Assumes nothing.
+use native.Mathlib.Nat.{mod-lt}
+use mathlib.Core.Path.{refl}
+use borrow.Author.Needs.{needs}
+use Rattle.requests.proofs.slot.Statement.{statement}
+use Rattle.requests.proofs.slot.Tie as tie
+
+rem-result : tie.Need-rem-result
+rem-result c = search needs
+
+returns : tie.Need-returns
+returns c = (refl, mod-lt _ (c .pre))
+
+pub slot-spec : {M : Type 1} → statement M
+slot-spec = tie.close (tie.spec rem-result returns)

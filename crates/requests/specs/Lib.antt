@@ -1,0 +1,5 @@
+pub mod Room
+pub mod Upto
+pub mod Slots
+pub mod Legal
+pub mod Theorems
