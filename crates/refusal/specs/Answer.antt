@@ -19,6 +19,11 @@ unfoldable pub after : {A B : Type 0} → Answer A → Answer B → Answer B
 after (gives x) b = b
 after (refuses n) b = refuses n
 
+-- What is given is passed on.
+unfoldable pub pass : {A B : Type 0} → Answer A → (A → Answer B) → Answer B
+pass (gives x) f = f x
+pass (refuses n) f = refuses n
+
 pub after-given : {A B : Type 0} {x : A} {c : Answer A} (b : Answer B) → gives x ≡ c → b ≡ after c b
 unfolding after
 after-given b e = ap (λ k. after k b) e

@@ -1,0 +1,145 @@
+-- The rules at work: computed runs of the model, one table under one claim, a row or more for each rule. Assumes nothing.
+use mathlib.Core.Path.{_≡_, refl}
+use mathlib.Core.Bool.{Bool, true, false, not}
+use mathlib.Core.List.{List, [], _∷_, _++_}
+use Prim.Native.Nat.{ℕ}
+use lib.ListN.{replicate, getD}
+use Rattle.octets.specs.Logic.{choose, both, either}
+use Rattle.octets.specs.Bytes.{bytesOf, numberIn, lowBytes, lowNumber, turned}
+use Rattle.octets.specs.Put.{cut}
+use Rattle.octets.specs.Field.{field}
+use Rattle.refusal.specs.Answer.{refuse, pass}
+use Rattle.sequence.specs.Numbering.{full, inRange}
+use Rattle.sequence.specs.Sending.{sending, mustSync}
+use Rattle.requests.specs.Room.{underMode}
+use Rattle.model.specs.Client.{Held, Client, costs, descriptorsOf}
+use Rattle.model.specs.Model as Model
+use Rattle.model.specs.Calls.{Call, send, enqueue-fds, enqueue, discard, poll, check, poll-reply, prepare, poll-event, take-closed, Said, number, done, filed, nothing, took, again, absent, answer, closed, refused, step, run}
+use Rattle.model.specs.declared.ReplyFdKind.the-variants.{NoReply, ReplyWithoutFds, ReplyWithFds}
+use Rattle.model.specs.declared.DiscardMode.the-variants.{DiscardReply, DiscardReplyAndError}
+use Rattle.model.specs.declared.Place.the-variants.{Replies, Events, Dropped}
+
+-- a packet of 32 bytes: its code, its byte 1, its wire number
+abbrev pk : ℕ → ℕ → ℕ → List ℕ
+pk code second wire = code ∷ second ∷ (bytesOf 108 2 wire ++ replicate 28 0)
+
+abbrev kept : ℕ → List ℕ → List ℕ → Held
+kept n p fds = record { number = n; packet = p; descriptors = fds }
+
+-- a state with these numbers and nothing else
+abbrev numbersAt : ℕ → ℕ → ℕ → Client
+numbersAt w e r = record { order = 108; most-requests = 4; most-bytes = 500; numbers = record { written = w; expected = e; read = r }; outstanding = []; replies = []; events = []; waiting = []; closing = [] }
+
+-- a row: a state, the calls made from there, each with what it says
+pub record Row : Type 0 where
+  pub start : Client
+  pub calls : List Call
+  pub said : List Said
+
+abbrev pub All : List Row → Type 0
+All [] = Unit {0}
+All (r ∷ rs) = (run (r .start) (r .calls) .said ≡ r .said) × All rs
+
+-- DiscardReplyAndError closes as the Rust's `retain` does: two of request 1 go, one of request 2 is behind them
+abbrev row1 : Row
+row1 = record {
+  start = Model.fresh 108 4 500;
+  calls = send ReplyWithFds ∷ send ReplyWithoutFds ∷ enqueue-fds (1 ∷ 2 ∷ []) ∷ enqueue (pk 1 1 1) ∷ enqueue (pk 1 1 1) ∷ enqueue (pk 1 0 2) ∷ discard 1 DiscardReplyAndError ∷ take-closed 9 ∷ [];
+  said = number 1 ∷ number 2 ∷ done ∷ filed Replies 1 ∷ filed Replies 1 ∷ filed Replies 2 ∷ done ∷ closed (2 ∷ 1 ∷ []) ∷ [];
+}
+
+-- DiscardReply closes in list order, and an error among the removed becomes an event
+abbrev row2 : Row
+row2 = record {
+  start = Model.fresh 108 4 500;
+  calls = send ReplyWithFds ∷ send ReplyWithoutFds ∷ enqueue-fds (1 ∷ 2 ∷ []) ∷ enqueue (pk 1 1 1) ∷ enqueue (pk 0 7 1) ∷ enqueue (pk 1 1 1) ∷ enqueue (pk 1 0 2) ∷ discard 1 DiscardReply ∷ take-closed 9 ∷ poll-event 32 ∷ poll 2 32 0 ∷ [];
+  said = number 1 ∷ number 2 ∷ done ∷ filed Replies 1 ∷ filed Replies 1 ∷ filed Replies 1 ∷ filed Replies 2 ∷ done ∷ closed (1 ∷ 2 ∷ []) ∷ took (kept 1 (pk 0 7 1) []) ∷ took (kept 2 (pk 1 0 2) []) ∷ [];
+}
+
+-- a reply taken by `poll_check` or `poll_for_reply` closes its descriptors; one taken with them does not
+abbrev row3 : Row
+row3 = record {
+  start = Model.fresh 108 4 500;
+  calls = send ReplyWithFds ∷ enqueue-fds (3 ∷ 4 ∷ 5 ∷ 6 ∷ []) ∷ enqueue (pk 1 2 1) ∷ check 1 32 ∷ take-closed 2 ∷ enqueue (pk 1 1 1) ∷ poll-reply 1 32 ∷ take-closed 2 ∷ enqueue (pk 1 1 1) ∷ poll 1 32 1 ∷ take-closed 0 ∷ [];
+  said = number 1 ∷ done ∷ filed Replies 1 ∷ took (kept 1 (pk 1 2 1) (3 ∷ 4 ∷ [])) ∷ closed (3 ∷ 4 ∷ []) ∷ filed Replies 1 ∷ took (kept 1 (pk 1 1 1) (5 ∷ [])) ∷ closed (5 ∷ []) ∷ filed Replies 1 ∷ took (kept 1 (pk 1 1 1) (6 ∷ [])) ∷ closed [] ∷ [];
+}
+
+-- the answered request stays: a second reply has its mode and takes descriptors, an error is dropped
+abbrev row4 : Row
+row4 = record {
+  start = Model.fresh 108 4 500;
+  calls = send ReplyWithFds ∷ enqueue-fds (6 ∷ 7 ∷ 8 ∷ []) ∷ discard 1 DiscardReplyAndError ∷ enqueue (pk 1 1 1) ∷ enqueue (pk 1 1 1) ∷ enqueue (pk 0 0 1) ∷ take-closed 2 ∷ [];
+  said = number 1 ∷ done ∷ done ∷ filed Dropped 1 ∷ filed Dropped 1 ∷ filed Dropped 1 ∷ closed (6 ∷ 7 ∷ []) ∷ [];
+}
+
+-- next reply expected can fall; a number above the last written lets every request go
+abbrev row5 : Row
+row5 = record {
+  start = Model.fresh 108 4 500;
+  calls = send ReplyWithoutFds ∷ enqueue (pk 2 0 900) ∷ prepare 900 ∷ send ReplyWithoutFds ∷ prepare 900 ∷ enqueue (pk 0 0 1) ∷ [];
+  said = number 1 ∷ filed Events 900 ∷ answer false ∷ number 2 ∷ answer true ∷ filed Events 65537 ∷ [];
+}
+
+-- an error: a reply without a mode, an event under DiscardReply or with no request
+abbrev row6 : Row
+row6 = record {
+  start = Model.fresh 108 4 500;
+  calls = send NoReply ∷ send NoReply ∷ discard 2 DiscardReply ∷ enqueue (pk 0 0 1) ∷ enqueue (pk 0 0 2) ∷ enqueue (pk 0 0 3) ∷ poll-event 32 ∷ poll-event 32 ∷ poll-event 32 ∷ [];
+  said = number 1 ∷ number 2 ∷ done ∷ filed Replies 1 ∷ filed Events 2 ∷ filed Events 3 ∷ took (kept 2 (pk 0 0 2) []) ∷ took (kept 3 (pk 0 0 3) []) ∷ nothing ∷ [];
+}
+
+-- code 11 carries no number and raises nothing; every other code is numbered
+abbrev row7 : Row
+row7 = record {
+  start = Model.fresh 108 4 500;
+  calls = enqueue (pk 2 0 5) ∷ enqueue (pk 11 255 65535) ∷ enqueue (pk 139 0 6) ∷ enqueue (pk 35 0 5) ∷ [];
+  said = filed Events 5 ∷ filed Events 5 ∷ filed Events 6 ∷ filed Events 65541 ∷ [];
+}
+
+-- 1 for a short packet; 4 for descriptors that do not wait, and nothing changed
+abbrev row8 : Row
+row8 = record {
+  start = Model.fresh 108 4 500;
+  calls = enqueue (0 ∷ 0 ∷ []) ∷ send ReplyWithFds ∷ enqueue (pk 1 1 1) ∷ prepare 1 ∷ enqueue-fds (9 ∷ []) ∷ enqueue (pk 1 1 1) ∷ [];
+  said = refused 1 ∷ number 1 ∷ refused 4 ∷ answer false ∷ done ∷ filed Replies 1 ∷ [];
+}
+
+-- 5 for a request over K, and for a packet over S; a dropped packet needs no room, and a moved error none
+abbrev row9 : Row
+row9 = record {
+  start = Model.fresh 108 1 48;
+  calls = send NoReply ∷ send ReplyWithoutFds ∷ enqueue (pk 0 0 1) ∷ enqueue (pk 2 0 1) ∷ poll-reply 1 0 ∷ poll-event 32 ∷ discard 1 DiscardReplyAndError ∷ enqueue (pk 2 0 1) ∷ enqueue (pk 0 0 1) ∷ [];
+  said = number 1 ∷ refused 5 ∷ filed Replies 1 ∷ refused 5 ∷ absent ∷ took (kept 1 (pk 0 0 1) []) ∷ done ∷ filed Events 1 ∷ filed Dropped 1 ∷ [];
+}
+
+-- 8 comes after nothing was found, and leaves all
+abbrev row10 : Row
+row10 = record {
+  start = Model.fresh 108 4 500;
+  calls = send ReplyWithFds ∷ enqueue-fds (4 ∷ []) ∷ poll 1 0 0 ∷ enqueue (pk 1 1 1) ∷ poll 1 31 1 ∷ poll 1 32 0 ∷ check 1 31 ∷ poll 1 32 1 ∷ check 1 0 ∷ enqueue (pk 2 0 2) ∷ check 1 0 ∷ poll-event 31 ∷ poll-event 32 ∷ poll-reply 1 0 ∷ [];
+  said = number 1 ∷ done ∷ nothing ∷ filed Replies 1 ∷ refused 8 ∷ refused 8 ∷ refused 8 ∷ took (kept 1 (pk 1 1 1) (4 ∷ [])) ∷ again ∷ filed Events 2 ∷ absent ∷ refused 8 ∷ took (kept 2 (pk 2 0 2) []) ∷ again ∷ [];
+}
+
+-- 3 and then 6 on sending, never 6 with a reply; 3 on intake
+abbrev row11 : Row
+row11 = record {
+  start = numbersAt 65534 0 0;
+  calls = send NoReply ∷ send ReplyWithoutFds ∷ send NoReply ∷ enqueue (pk 2 0 65535) ∷ [];
+  said = refused 6 ∷ number 65535 ∷ number 65536 ∷ filed Events 65535 ∷ [];
+}
+
+-- the end of the numbers
+abbrev row12 : Row
+row12 = record {
+  start = numbersAt 9223372036854775807 9223372036854775806 9223372036854775807;
+  calls = send NoReply ∷ send ReplyWithoutFds ∷ enqueue (pk 2 0 0) ∷ enqueue (pk 2 0 65535) ∷ [];
+  said = refused 3 ∷ refused 3 ∷ refused 3 ∷ filed Events 9223372036854775807 ∷ [];
+}
+
+abbrev pub table : List Row
+table = row1 ∷ row2 ∷ row3 ∷ row4 ∷ row5 ∷ row6 ∷ row7 ∷ row8 ∷ row9 ∷ row10 ∷ row11 ∷ row12 ∷ []
+
+-- THE EXAMPLES: each row runs as it says.
+pub examples : All table
+unfolding run step Model.sendRequest Model.enqueueFds Model.enqueuePacket Model.discardReply Model.takeClosed Model.pollForReplyOrError Model.pollCheck Model.pollForReply Model.prepareCheck Model.pollForEvent Model.find pass refuse sending mustSync both either choose Model.numberOf inRange full field numberIn cut turned bytesOf lowBytes lowNumber Model.numbered Model.askedOf Model.headOf Model.placeOf Model.claimed Model.takeIn costs descriptorsOf Model.withMode underMode Model.ofNumber Model.notOf Model.above Model.errorsOf Model.turned
+examples = (refl, (refl, (refl, (refl, (refl, (refl, (refl, (refl, (refl, (refl, (refl, (refl, tt))))))))))))

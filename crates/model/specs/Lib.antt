@@ -1,0 +1,4 @@
+pub mod Client
+pub mod Model
+pub mod Calls
+pub mod Examples
