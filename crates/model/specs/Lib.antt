@@ -2,3 +2,8 @@ pub mod Client
 pub mod Model
 pub mod Calls
 pub mod Examples
+pub mod Reading
+pub mod Sound
+pub mod Promise
+pub mod Says
+pub mod ReadingLaws

@@ -4,6 +4,16 @@
 // `specs/Model.antt` is the page to believe: the state as the rules speak of it and one executable
 // function for each call. Nothing there knows a room.
 
+mod soundness;
+
+use descriptors::Counts;
+use held::Window;
+use refusal::Refusal;
+use sequence::SequenceNumber;
+pub use soundness::LEAST_STORE;
+pub use soundness::MOST_STORE;
+pub use soundness::is_sound;
+
 // Whether a request has a reply, and whether the reply has descriptors.
 pub enum ReplyFdKind {
     NoReply,
@@ -24,4 +34,73 @@ pub enum Place {
     Replies,
     Events,
     Dropped,
+}
+
+// A connection's state, all but the rooms that are lent with it: byte order, the lengths of the
+// request room and of the packet store, the three numbers, the first outstanding number, where the
+// held packets lie in the store, and how many descriptors are where.
+pub struct Connection {
+    pub order: u8,
+    pub capacity: usize,
+    pub room: usize,
+    pub written: u64,
+    pub expected: u64,
+    pub read: u64,
+    pub first: u64,
+    pub window: Window,
+    pub counts: Counts,
+}
+
+// ---- what the calls answer: each hands back the state to go on with, and a refusal none
+
+// `new`, `enqueue_fds` and `discard_reply`.
+pub enum Next {
+    State(Connection),
+    Refused(Refusal),
+}
+
+// `send_request`: the number of the request.
+pub enum Sent {
+    Number(SequenceNumber, Connection),
+    Refused(Refusal),
+}
+
+// `enqueue_packet`: where the packet was filed, and under which number.
+pub enum Enqueued {
+    Filed(Place, SequenceNumber, Connection),
+    Refused(Refusal),
+}
+
+// `poll_for_reply_or_error`: a packet of so many bytes with so many descriptors is in the outputs.
+pub enum Polled {
+    Packet(usize, usize, Connection),
+    Nothing(Connection),
+    Refused(Refusal),
+}
+
+// `poll_check_for_reply_or_error` and `poll_for_reply`: a packet of so many bytes is in the output.
+pub enum PollReply {
+    TryAgain(Connection),
+    NoReply(Connection),
+    Reply(usize, Connection),
+    Refused(Refusal),
+}
+
+// `poll_for_event_with_sequence`: an event's number, and so many bytes of it are in the output.
+pub enum Event {
+    Packet(SequenceNumber, usize, Connection),
+    Nothing(Connection),
+    Refused(Refusal),
+}
+
+// `take_closed_fds`: so many descriptors are in the output.
+pub enum Closed {
+    Taken(usize, Connection),
+    Refused(Refusal),
+}
+
+// `prepare_check_for_reply_or_error`.
+pub enum Prepared {
+    Answer(bool),
+    Refused(Refusal),
 }

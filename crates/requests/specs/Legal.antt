@@ -10,7 +10,7 @@ use mathlib.Core.List.{List, [], _∷_, _++_, map}
 use lib.ListN.{length, getD}
 use Rattle.octets.specs.Logic.{both, both-left, both-right, both-yes}
 use Rattle.octets.specs.Put.{cut, length-cut, getD-cut}
-use Rattle.requests.specs.Room.{byteOf, legal, requestOf, upto, byteAt, requestAt, legalRun, legals, outstanding, putRequest}
+use Rattle.requests.specs.Room.{byteOf, legal, upto, byteAt, requestAt, legalRun, legals, outstanding, putRequest}
 use Rattle.requests.specs.Slots.{byte-request, legal-byte, mod-on, byte-same, byte-other}
 use Rattle.requests.specs.Upto.{upto-add, upto-behind, upto-same, upto-is, upto-map}
 use Rattle.requests.specs.declared.Request.{Request}

@@ -1,7 +1,8 @@
 -- 01, Rooms: the request room, byte by byte and as the outstanding requests. Assumes nothing.
-use mathlib.Core.Bool.{Bool, true, false}
+use mathlib.Core.Path.{_≡_}
+use mathlib.Core.Bool.{Bool, true}
 use mathlib.Core.List.{List, [], _∷_}
-use Prim.Native.Nat.{ℕ, zero, suc, _+_, _*_, _/_, _%_}
+use Prim.Native.Nat.{ℕ, zero, suc, _+_, _*_, _/_, _%_, _≤_}
 use lib.Dec.{leb, eqb}
 use lib.ListN.{length, getD, set}
 use Rattle.octets.specs.Logic.{choose, both}
@@ -13,12 +14,18 @@ use Rattle.requests.specs.declared.Request.{Request}
 abbrev pub mostRequests : ℕ
 mostRequests = 65536
 
-unfoldable pub sized : ℕ → List ℕ → Bool
-sized k room = both (leb 1 k) (both (leb k mostRequests) (eqb (length room) k))
-
 -- how many requests a room has bytes for
 unfoldable pub capacity : List ℕ → ℕ
 capacity room = length room
+
+-- a room for k requests
+pub record Sized (k : ℕ) (room : List ℕ) : Type 0 where
+  pub least : 1 ≤ k
+  pub most : k ≤ mostRequests
+  pub holds : capacity room ≡ k
+
+unfoldable pub sized : ℕ → List ℕ → Bool
+sized k room = both (leb 1 k) (both (leb k mostRequests) (eqb (length room) k))
 
 -- ---- one request
 

@@ -1,4 +1,4 @@
--- Where a number's byte is, and what a store there changes. Assumes nothing.
+-- The byte of a request, where a number's byte is, and what a store there changes. Assumes nothing.
 use mathlib.Core.Path.{_≡_, refl, sym, ap, _∙_}
 use Prim.Native.Nat.{ℕ, _+_, _*_, _-_, _/_, _≤_, _<_, _%_}
 use native.Mathlib.Nat.{mod-lt, mod-add-mod, mod-eq-of-lt, mod-eq-sub-mod}
@@ -7,11 +7,11 @@ use mathlib.Core.Bool.{Bool, true, false}
 use mathlib.Core.List.{List, [], _∷_, _++_}
 use lib.ListN.{length, set, getD, length-set}
 use lib.Seq.{getD-set-same, getD-set-other}
-use lib.Dec.{eqb, ltb, leb}
+use lib.Dec.{eqb, ltb}
 use native.Mathlib.Decide.{ℕ-discrete}
 use borrow.Author.Tests.{ltb-true, ltb-false, leb-true, eqb-true, eqb-false}
 use Rattle.octets.specs.Logic.{choose}
-use Rattle.requests.specs.Room.{modeNumber, modeOf, byteOf, legal, requestOf, upto, byteAt, putRequest}
+use Rattle.requests.specs.Room.{modeNumber, modeOf, byteOf, legal, requestOf, upto, byteAt, requestAt, outstanding, putRequest}
 use Rattle.requests.specs.Upto.{length-upto, getD-upto, upto-behind, upto-same, upto-is}
 use Rattle.requests.specs.declared.Mode.{Mode}
 use Rattle.requests.specs.declared.Mode.the-variants.{Keep, DiscardReply, DiscardReplyAndError}
@@ -19,7 +19,7 @@ use Rattle.requests.specs.declared.Request.{Request}
 
 -- ---- one request and its byte
 
--- by the six cases
+-- a request is read back from its byte, which is legal: by the six cases
 pub request-byte : (r : Request) → requestOf (byteOf r) ≡ r
 unfolding requestOf byteOf modeOf choose
 request-byte r = go (r .descriptors) (r .mode)
@@ -49,7 +49,7 @@ mode-most Keep = omega arith
 mode-most DiscardReply = omega arith
 mode-most DiscardReplyAndError = omega arith
 
--- and the byte of what a legal byte is read as
+-- a legal byte is that of the request that it is read as
 mode-number : (n : ℕ) → n ≤ 2 → modeNumber (modeOf n) ≡ n
 unfolding modeOf choose
 mode-number n h = go (eqb n 0) refl (eqb n 1) refl
@@ -124,39 +124,44 @@ byte-other room n m r h =
     ap (λ (k : ℕ). getD (set room (n % length room) (byteOf r)) (m % k) 0) (length-set room (n % length room) (byteOf r))
     ∙ getD-set-other room (n % length room) (m % length room) (byteOf r) 0 h
 
--- What is read of the bytes by a function h, one number after the other, up to as many as the room has bytes.
-module _ {A : Type 0} (h : ℕ → A) (room : List ℕ) (first count : ℕ) (r : Request) where
-  -- a store behind the last
-  pub upto-send : count < length room → upto (λ x. h (byteAt (putRequest room (first + count) r) x)) first (count + 1) ≡ upto (λ x. h (byteAt room x)) first count ++ (h (byteOf r) ∷ [])
-  upto-send f =
-      let room' : List ℕ = putRequest room (first + count) r in
-      upto-behind (λ x. h (byteAt room' x)) first count
-      ∙ (λ j.
-      upto-same (λ x. h (byteAt room' x)) (λ x. h (byteAt room x)) first count
-      (λ i p. ap h (byte-other room (first + count) (first + i) r (mod-apart (length room) first count i f (omega arith) (λ e. omega arith)))) j
-      ++ (h (byte-same room (first + count) (first + count) r refl (omega arith) j) ∷ []))
+-- ---- the outstanding requests after a store
 
-  -- a store at one of them
-  pub upto-put : (i : ℕ) → i < count → count ≤ length room
-      → upto (λ x. h (byteAt (putRequest room (first + i) r) x)) first count ≡ set (upto (λ x. h (byteAt room x)) first count) i (h (byteOf r))
-  upto-put i p f =
-      upto-is (λ x. h (byteAt room' x)) first count (set old i b) b (length-set old i b ∙ length-upto (λ x. h (byteAt room x)) first count)
-      (λ j q. go j q (ℕ-discrete j i))
+module _ (room : List ℕ) (first count : ℕ) (r : Request) where
+  request-same : (n m : ℕ) → m % length room ≡ n % length room → 0 < length room → requestAt (putRequest room n r) m ≡ r
+  unfolding requestAt
+  request-same n m e h = ap requestOf (byte-same room n m r e h) ∙ request-byte r
+
+  request-other : (n m : ℕ) → (m % length room ≡ n % length room → ⊥) → requestAt (putRequest room n r) m ≡ requestAt room m
+  unfolding requestAt
+  request-other n m h = ap requestOf (byte-other room n m r h)
+
+  -- behind the last
+  pub send : count < length room → outstanding (putRequest room (first + count) r) first (count + 1) ≡ outstanding room first count ++ (r ∷ [])
+  unfolding outstanding
+  send f =
+      let room' : List ℕ = putRequest room (first + count) r in
+      let old : upto (requestAt room') first count ≡ upto (requestAt room) first count =
+      upto-same (requestAt room') (requestAt room) first count
+      (λ i p. request-other (first + count) (first + i) (mod-apart (length room) first count i f (omega arith) (λ e. omega arith))) in
+      upto-behind (requestAt room') first count ∙ (λ j. old j ++ (request-same (first + count) (first + count) refl (omega arith) j ∷ []))
+
+  -- at one of them
+  pub change : (i : ℕ) → i < count → count ≤ length room → outstanding (putRequest room (first + i) r) first count ≡ set (outstanding room first count) i r
+  unfolding outstanding
+  change i p f =
+      upto-is (requestAt room') first count (set old i r) r (length-set old i r ∙ length-upto (requestAt room) first count) (λ j q. go j q (ℕ-discrete j i))
     where
       room' : List ℕ
       room' = putRequest room (first + i) r
 
-      old : List A
-      old = upto (λ x. h (byteAt room x)) first count
+      old : List Request
+      old = upto (requestAt room) first count
 
-      b : A
-      b = h (byteOf r)
-
-      go : (j : ℕ) → j < count → Dec (j ≡ i) → h (byteAt room' (first + j)) ≡ getD (set old i b) j b
+      go : (j : ℕ) → j < count → Dec (j ≡ i) → requestAt room' (first + j) ≡ getD (set old i r) j r
       go j q (yes e) =
-          ap h (byte-same room (first + i) (first + j) r (ap (λ (x : ℕ). (first + x) % length room) e) (omega arith))
-          ∙ sym (getD-set-same old i b b (omega (arith, length-upto (λ x. h (byteAt room x)) first count)))
-          ∙ ap (λ (x : ℕ). getD (set old i b) x b) (sym e)
+          request-same (first + i) (first + j) (ap (λ (x : ℕ). (first + x) % length room) e) (omega arith)
+          ∙ sym (getD-set-same old i r r (omega (arith, length-upto (requestAt room) first count)))
+          ∙ ap (λ (x : ℕ). getD (set old i r) x r) (sym e)
       go j q (no ne) =
-          ap h (byte-other room (first + i) (first + j) r (mod-apart (length room) first i j (omega arith) (omega arith) ne))
-          ∙ sym (getD-set-other old i j b b ne ∙ getD-upto (λ x. h (byteAt room x)) first count j b q)
+          request-other (first + i) (first + j) (mod-apart (length room) first i j (omega arith) (omega arith) ne)
+          ∙ sym (getD-set-other old i j r r ne ∙ getD-upto (requestAt room) first count j r q)

@@ -1,18 +1,16 @@
--- The laws of the request room that the floors above cite: they speak of `outstanding`, of `capacity` and of the bytes that `putRequest`
--- and `putMode` leave, and of no layout. They hold for each room of one byte or more and wherever the run of outstanding numbers starts.
--- Assumes nothing.
+-- The laws of the request room that the floors above cite, for each room of one byte or more and wherever the run of outstanding numbers
+-- starts. Those of `outstanding` speak of no layout. Assumes nothing.
 use mathlib.Core.Path.{_≡_, refl, sym, ap, _∙_}
 use mathlib.Core.Logic.{_↔_}
-use mathlib.Core.Bool.{Bool, true, false}
+use mathlib.Core.Bool.{true}
 use mathlib.Core.List.{List, [], _∷_, _++_, map}
 use Prim.Native.Nat.{ℕ, suc, _+_, _-_, _≤_, _<_, _%_}
-use native.Mathlib.Nat.{add-zero}
 use native.Mathlib.Omega.{arith}
 use lib.ListN.{length, drop, getD, set, length-set}
 use lib.Dec.{leb, eqb}
 use borrow.Author.Tests.{leb-true, le-leb, eqb-true, eq-eqb}
 use Rattle.octets.specs.Logic.{both, both-left, both-right, both-yes}
-use Rattle.requests.specs.Room.{mostRequests, sized, capacity, byteOf, legal, requestOf, upto, byteAt, requestAt, outstanding, legalRun, legals, putRequest, underMode, putMode}
+use Rattle.requests.specs.Room.{mostRequests, Sized, sized, capacity, byteOf, legal, requestOf, upto, byteAt, requestAt, outstanding, legalRun, legals, putRequest, underMode, putMode}
 use Rattle.requests.specs.Upto.{length-upto, getD-upto, upto-drop}
 use Rattle.requests.specs.Slots as Slots
 use Rattle.requests.specs.Legal as Legal
@@ -31,12 +29,7 @@ request-byte r = Slots.request-byte r
 
 -- ---- a room's size
 
--- A room for k requests has a capacity of k, from 1 to 65,536.
-pub record Sized (k : ℕ) (room : List ℕ) : Type 0 where
-  pub least : 1 ≤ k
-  pub most : k ≤ mostRequests
-  pub holds : capacity room ≡ k
-
+-- The test holds exactly where the room is one for k requests.
 pub sized-is : (k : ℕ) (room : List ℕ) → sized k room ≡ true ↔ Sized k room
 unfolding sized capacity
 sized-is k room = (there, λ s. both-yes _ _ (le-leb 1 k (s .least)) (both-yes _ _ (le-leb k mostRequests (s .most)) (eq-eqb (length room) k (s .holds))))
@@ -46,12 +39,18 @@ sized-is k room = (there, λ s. both-yes _ _ (le-leb 1 k (s .least)) (both-yes _
         let t : both (leb k mostRequests) (eqb (length room) k) ≡ true = both-right _ _ h in
         record { least = leb-true 1 k (both-left _ _ h); most = leb-true k mostRequests (both-left _ _ t); holds = eqb-true (length room) k (both-right _ _ t) }
 
+-- Setting a mode is to set the request under that mode, so what follows holds of it too.
+pub mode-put : (room : List ℕ) (n : ℕ) (m : Mode) → putMode room n m ≡ putRequest room n (underMode m (requestAt room n))
+unfolding putMode
+mode-put room n m = refl
+
 module _ (room : List ℕ) (n : ℕ) (r : Request) where
-  -- Setting a request leaves the room's size,
+  -- Setting a request leaves the room's capacity,
   pub capacity-put : capacity (putRequest room n r) ≡ capacity room
   unfolding capacity putRequest
   capacity-put = length-set room (n % length room) (byteOf r)
 
+  -- and for how many requests it is one,
   pub sized-put : (k : ℕ) → sized k (putRequest room n r) ≡ sized k room
   unfolding sized putRequest
   sized-put k = ap (λ (l : ℕ). both (leb 1 k) (both (leb k mostRequests) (eqb l k))) (length-set room (n % length room) (byteOf r))
@@ -88,13 +87,13 @@ module _ (room : List ℕ) (first count : ℕ) where
 
   -- Sending: the new request stands behind the others.
   pub outstanding-send : (r : Request) → count < capacity room → outstanding (putRequest room (first + count) r) first (count + 1) ≡ outstanding room first count ++ (r ∷ [])
-  unfolding outstanding requestAt capacity
-  outstanding-send r h = Slots.upto-send requestOf room first count r h ∙ ap (λ (x : Request). outstanding room first count ++ (x ∷ [])) (Slots.request-byte r)
+  unfolding capacity
+  outstanding-send r h = Slots.send room first count r h
 
   -- Setting the request at place i changes that one.
   pub outstanding-put : (i : ℕ) (r : Request) → i < count → count ≤ capacity room → outstanding (putRequest room (first + i) r) first count ≡ set (outstanding room first count) i r
-  unfolding outstanding requestAt capacity
-  outstanding-put i r h f = Slots.upto-put requestOf room first count r i h f ∙ ap (set (outstanding room first count) i) (Slots.request-byte r)
+  unfolding capacity
+  outstanding-put i r h f = Slots.change room first count r i h f
 
   -- Setting a mode keeps whether the request has descriptors.
   pub outstanding-mode : (i : ℕ) (m : Mode) (d : Request) → i < count → count ≤ capacity room
@@ -104,12 +103,12 @@ module _ (room : List ℕ) (first count : ℕ) where
       outstanding-put i (underMode m (requestAt room (first + i))) h f
       ∙ ap (λ (x : Request). set (outstanding room first count) i (underMode m x)) (sym (getD-upto (requestAt room) first count i d h))
 
--- None are outstanding, wherever they start.
+-- Where there are none the list is empty, whatever number would be the first.
 pub outstanding-none : (room : List ℕ) (first : ℕ) → outstanding room first 0 ≡ []
 unfolding outstanding upto
 outstanding-none room first = refl
 
--- The oldest, and then the others.
+-- The oldest stands before the others.
 pub outstanding-first : (room : List ℕ) (first count : ℕ) → outstanding room first (suc count) ≡ requestAt room first ∷ outstanding room (suc first) count
 unfolding outstanding upto
 outstanding-first room first count = refl
@@ -125,10 +124,11 @@ pub legals-none : (room : List ℕ) (first : ℕ) → legals room first 0 ≡ tr
 unfolding legals legalRun upto
 legals-none room first = refl
 
--- It holds exactly where these bytes are those of some requests, and they are those of the outstanding ones.
+-- It holds exactly where these bytes are those of some requests;
 pub legals-encoded : (room : List ℕ) (first count : ℕ) → legals room first count ≡ true ↔ ((rs : List Request) × (upto (byteAt room) first count ≡ map byteOf rs))
 legals-encoded room first count = Legal.legals-encoded room first count
 
+-- and then they are those of the outstanding ones.
 pub legals-bytes : (room : List ℕ) (first count : ℕ) → legals room first count ≡ true → upto (byteAt room) first count ≡ map byteOf (outstanding room first count)
 legals-bytes room first count h = Legal.legals-bytes room first count h
 
@@ -138,14 +138,10 @@ module _ (room : List ℕ) (first count : ℕ) (h : legals room first count ≡ 
   unfolding capacity
   legals-send r pos = Legal.legals-send room first count r pos h
 
-  -- as any request or its mode is set,
+  -- as any request is set,
   pub legals-put : (n : ℕ) (r : Request) → 0 < capacity room → legals (putRequest room n r) first count ≡ true
   unfolding capacity
   legals-put n r pos = Legal.legals-put room first count n r pos h
-
-  pub legals-mode : (n : ℕ) (m : Mode) → 0 < capacity room → legals (putMode room n m) first count ≡ true
-  unfolding capacity putMode
-  legals-mode n m pos = Legal.legals-put room first count n (underMode m (requestAt room n)) pos h
 
   -- and as older ones go.
   pub legals-drop : (k : ℕ) → legals room (first + k) (count - k) ≡ true

@@ -1,6 +1,5 @@
 -- `requests::get` meets its contract. Assumes nothing.
 use Rattle.requests.specs.Room.{capacity, byteAt, requestAt}
-use mathlib.Core.Path.{ap}
 use borrow.Author.Needs.{needs}
 use Rattle.requests.proofs.get.Statement.{statement}
 use Rattle.requests.proofs.get.Tie as tie

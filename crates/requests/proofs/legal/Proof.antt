@@ -3,7 +3,7 @@ use native.Mathlib.Omega.{arith}
 use borrow.Author.Tests.{not-true, not-false}
 use Rattle.octets.specs.Logic.{both}
 use Rattle.requests.specs.Legal.{legal-one, legal-two}
-use mathlib.Core.Path.{sym, ap, _∙_}
+use mathlib.Core.Path.{sym, _∙_}
 use Rattle.requests.specs.Room.{capacity}
 use borrow.Author.Needs.{needs}
 use Rattle.requests.proofs.legal.Statement.{statement}

@@ -1,0 +1,124 @@
+-- A fresh connection is sound and is read as the model's. Assumes nothing.
+use mathlib.Core.Path.{_≡_, refl, sym, ap, _∙_, subst}
+use mathlib.Core.Bool.{Bool, true, false, not}
+use mathlib.Core.List.{List, [], map}
+use Prim.Native.Nat.{ℕ, _+_, _-_, _≤_, _<_}
+use native.Mathlib.Omega.{arith}
+use lib.Dec.{leb, eqb}
+use lib.ListN.{length}
+use borrow.Author.Tests.{leb-true, eqb-true, eq-eqb, le-leb, lt-leb, ne-eqb, not-false}
+use Rattle.octets.specs.Logic.{both, both-left, both-right, both-yes}
+use Rattle.octets.specs.Bytes.{legal}
+use Rattle.refusal.specs.Answer.{Answer, gives, refuses, refuse, gives-past, gives-rest, refuse-under}
+use Rattle.requests.specs.Room.{outstanding, capacity}
+use Rattle.requests.specs.Theorems.{outstanding-none, legals-none, sized-is}
+use Rattle.held.specs.Reading as Store
+use Rattle.held.specs.Theorems as Held
+use Rattle.held.specs.Soundness.{Holds}
+use Rattle.descriptors.specs.Room as Slots
+use Rattle.descriptors.specs.Theorems as Fds
+use Rattle.model.specs.Client.{Client}
+use Rattle.model.specs.Model.{mostDescriptors, mostRequests, leastBytes, mostBytes, roomy, fresh}
+use Rattle.model.specs.Reading.{Rooms, rooms, reads, withDescriptors, eventOf, slotsOf}
+use Rattle.model.specs.Promise.{Done, Exact, modelOf, exact-refused, exact-given, gives-same, model-refuse}
+use Rattle.model.specs.Sound.{Sound, soundb}
+use Rattle.model.specs.declared.Connection.{Connection}
+use Rattle.sending.specs.Send.{same}
+use Rattle.connection.specs.Calls.{freshState, openExact, opened, Opens}
+
+module _ (o : ℕ) (r : Rooms) (f : length (r .slots) ≡ mostDescriptors) (g : roomy (length (r .requests)) (length (r .store)) ≡ true) where
+  most : length (r .store) ≤ mostBytes
+  unfolding roomy
+  most = leb-true _ _ (both-right _ _ (both-right _ _ g))
+
+  empty : Holds 0 (record { start = 0; end = 0 }) (r .store) []
+  empty = Held.sound-empty 0 (record { start = 0; end = 0 }) (r .store) most refl (omega arith)
+
+  none : Slots.Lists (slotsOf (freshState o (length (r .requests)) (length (r .store))) r) [] [] []
+  none = Fds.none-lists (r .slots)
+
+  -- it is read as the model's
+  pub fresh-read : reads (freshState o (length (r .requests)) (length (r .store))) r ≡ fresh o (length (r .requests)) (length (r .store))
+  unfolding reads Store.only withDescriptors
+  fresh-read = λ k. record {
+    order = o;
+    most-requests = length (r .requests);
+    most-bytes = length (r .store);
+    numbers = record { written = 0; expected = 0; read = 0 };
+    outstanding = outstanding-none (r .requests) 1 k;
+    replies = withDescriptors (Store.only 0 (empty .reads k)) (none .holding-is k);
+    events = map eventOf (Store.only 1 (empty .reads k));
+    waiting = none .waiting-is k;
+    closing = none .closing-is k;
+  }
+
+  -- and sound, in one of the two orders
+  pub fresh-sound : legal o ≡ true → Sound (freshState o (length (r .requests)) (length (r .store))) r
+  unfolding roomy capacity Store.only Store.fdsIn
+  fresh-sound h =
+      let a : 1 ≤ length (r .requests) = leb-true _ _ (both-left _ _ (both-left _ _ g)) in
+      let b : length (r .requests) ≤ mostRequests = leb-true _ _ (both-right _ _ (both-left _ _ g)) in
+      let l : leastBytes ≤ length (r .store) = leb-true _ _ (both-left _ _ (both-right _ _ g)) in
+      record {
+        order = h;
+        requests = sized-is (length (r .requests)) (r .requests) .1 (record { least = a; most = b; holds = refl });
+        store = refl;
+        numbers = record {
+          store-least = l;
+          store-most = most;
+          written-most = omega arith;
+          expected-most = omega arith;
+          read-most = omega arith;
+          first-least = omega arith;
+          first-most = omega arith;
+          count-most = omega arith;
+        };
+        legal-bytes = legals-none (r .requests) 1;
+        slots = Fds.sound-is (slotsOf (freshState o (length (r .requests)) (length (r .store))) r) .1 (record { long = f; most = omega arith });
+        held = Held.sound-exactly 0 (record { start = 0; end = 0 }) (r .store) .1 (empty .sound);
+        descriptors = ap (λ hs. Store.fdsIn (Store.only 0 hs)) (empty .reads);
+      }
+
+-- `new` is the model's.
+pub open-model : (o : ℕ) (r : Rooms) → modelOf (openExact o r) ≡ opened o r
+unfolding openExact opened modelOf
+open-model o r =
+    model-refuse _ 9 _
+    ∙ refuse-under _ 9
+    (λ f.
+    model-refuse _ 9 _
+    ∙ refuse-under _ 9
+    (λ g. model-refuse _ 13 _ ∙ ap (λ (x : Client). refuse (not (legal o)) 13 (gives (tt, x))) (fresh-read o r (eqb-true _ _ (not-false _ f)) (not-false _ g))))
+
+-- The state that it leaves is sound.
+pub open-sound : (o : ℕ) (r : Rooms) (d : Done Unit) → gives d ≡ openExact o r → Sound (d .state) (d .left)
+unfolding openExact
+open-sound o r d e =
+    let e₁ = gives-rest _ _ _ e in let e₂ = gives-rest _ _ _ e₁ in
+    subst (λ (x : Done Unit). Sound (x .state) (x .left)) (gives-same (sym (gives-rest _ _ _ e₂)))
+    (fresh-sound o r (eqb-true _ _ (not-false _ (gives-past _ _ _ e))) (not-false _ (gives-past _ _ _ e₁)) (not-false _ (gives-past _ _ _ e₂)))
+
+-- how it comes out
+module _ (o : ℕ) (r : Rooms) where
+  pub opens-slots : (length (r .slots) ≡ mostDescriptors → ⊥) → Opens o r (refuses 9)
+  unfolding openExact refuse
+  opens-slots h = record { exact = exact-refused same _ r 9 (simp (ne-eqb _ _ h)); model = open-model o r }
+
+  module _ (f : length (r .slots) ≡ mostDescriptors) where
+    pub opens-rooms : roomy (length (r .requests)) (length (r .store)) ≡ false → Opens o r (refuses 9)
+    unfolding openExact refuse
+    opens-rooms h = record { exact = exact-refused same _ r 9 (simp (eq-eqb _ _ f, h)); model = open-model o r }
+
+    module _ (g : roomy (length (r .requests)) (length (r .store)) ≡ true) where
+      pub opens-order : legal o ≡ false → Opens o r (refuses 13)
+      unfolding openExact refuse
+      opens-order h = record { exact = exact-refused same _ r 13 (simp (eq-eqb _ _ f, g, h)); model = open-model o r }
+
+      pub opens-done : legal o ≡ true → (c : Connection) → c ≡ freshState o (length (r .requests)) (length (r .store)) → Opens o r (gives (tt, c))
+      unfolding openExact refuse
+      opens-done h c e =
+          subst (λ (x : Connection). Opens o r (gives (tt, x))) (sym e)
+          (record {
+            exact = exact-given same _ r (record { value = tt; state = freshState o (length (r .requests)) (length (r .store)); left = r }) (simp (eq-eqb _ _ f, g, h));
+            model = open-model o r;
+          })

@@ -1,0 +1,149 @@
+// A client's connection to an X server, without the socket.
+//
+// State goes in by value and comes back inside the answer; the three rooms (requests, held packets,
+// descriptors) are lent with every call, and may hold anything: each call first decides whether
+// state and rooms are sound, and refuses by 9 what is not. Then it does as the model says
+// (`model`), or refuses by the number that the rules give, and a refusal leaves the state and every
+// lent byte as found. Nothing is allocated and nothing blocks: the caller reads and writes the
+// socket.
+use descriptors::Counts;
+use held::Window;
+use model::Closed;
+use model::Connection;
+use model::Next;
+use model::Prepared;
+use model::ReplyFdKind;
+use model::Sent;
+use refusal::Refusal;
+ghost use mathlib.Core.Path.{_≡_};
+ghost use mathlib.Core.List.{List};
+ghost use lib.ListN.{length};
+ghost use Rattle.model.specs.Model.{sendRequest, enqueueFds, roomy};
+ghost use Rattle.model.specs.Reading.{rooms};
+ghost use Rattle.model.specs.Promise.{Promise};
+ghost use Rattle.model.specs.Says.{saysNext, saysSent, saysClosed, saysPrepared};
+ghost use Rattle.sending.specs.Send.{same, sendExact};
+ghost use Rattle.sending.specs.Fds.{enqueueExact};
+ghost use Rattle.connection.specs.Calls.{Opens, Closes, Prepares, freshState as Calls·freshState};
+
+// A fresh connection in these rooms: its request room and its packet store have the lengths that
+// they are lent with from then on. Refused by 9 for a room out of range or other than 256 slots for
+// descriptors, then by 13.
+pub fn new(order: u8, requests: &[u8], store: &[u8], slots: &[u32]) -> Next
+    ensures { λ r. ⌜ Opens order (rooms (now (requests .entry)) (now (store .entry)) (now (slots .entry))) (saysNext r) ⌝ }
+{
+    let c = fresh(order, requests.len(), store.len());
+    if slots.len() != descriptors::MOST_DESCRIPTORS {
+        return Next::Refused(Refusal::BadRoom);
+    }
+    if !in_range(requests.len(), store.len()) {
+        return Next::Refused(Refusal::BadRoom);
+    }
+    if !octets::is_legal(order) {
+        return Next::Refused(Refusal::BadOrder);
+    }
+    Next::State(c)
+}
+
+// A request was written. Answers its number; refused by 9, 3 at the end of the numbers, 6 where a
+// request with a reply must be sent first, 5 where the request room is full.
+pub fn send_request(
+    c: Connection,
+    requests: &mut [u8],
+    store: &[u8],
+    slots: &[u32],
+    kind: ReplyFdKind,
+) -> Sent
+    ensures { λ r. ⌜ Promise same (sendExact c (rooms (now (requests .entry)) (now (store .entry)) (now (slots .entry))) kind) (λ m. sendRequest m kind) c (rooms (now (requests .entry)) (now (store .entry)) (now (slots .entry))) (saysSent r) (rooms (now (requests .exit)) (now (store .entry)) (now (slots .entry))) ⌝ }
+{
+    if !model::is_sound(c, requests, store, slots) {
+        return Sent::Refused(Refusal::BadRoom);
+    }
+    sending::send_request(c, requests, kind)
+}
+
+// Descriptors came with bytes of the server: they wait for the replies that they belong to. Refused
+// by 9, and 5 for over 256 inside.
+pub fn enqueue_fds(
+    c: Connection,
+    requests: &[u8],
+    store: &[u8],
+    slots: &mut [u32],
+    list: &[u32],
+) -> Next
+    ensures { λ r. ⌜ Promise same (enqueueExact c (rooms (now (requests .entry)) (now (store .entry)) (now (slots .entry))) (now (list .entry))) (λ m. enqueueFds m (now (list .entry))) c (rooms (now (requests .entry)) (now (store .entry)) (now (slots .entry))) (saysNext r) (rooms (now (requests .entry)) (now (store .entry)) (now (slots .exit))) ⌝ }
+{
+    if !model::is_sound(c, requests, store, slots) {
+        return Next::Refused(Refusal::BadRoom);
+    }
+    sending::enqueue_fds(c, slots, list)
+}
+
+// The descriptors to be closed, whole and in their order. Refused by 9, and 8 where out has too few
+// places.
+pub fn take_closed_fds(
+    c: Connection,
+    requests: &[u8],
+    store: &[u8],
+    slots: &mut [u32],
+    out: &mut [u32],
+) -> Closed
+    ensures { λ r. ⌜ Closes c (rooms (now (requests .entry)) (now (store .entry)) (now (slots .entry))) (now (out .entry)) (saysClosed r) (rooms (now (requests .entry)) (now (store .entry)) (now (slots .exit))) (now (out .exit)) ⌝ }
+{
+    if !model::is_sound(c, requests, store, slots) {
+        return Closed::Refused(Refusal::BadRoom);
+    }
+    sending::take_closed_fds(c, slots, out)
+}
+
+// Whether a sync must be sent before the answer of a request can be waited for. Refused by 9.
+pub fn prepare_check_for_reply_or_error(
+    c: Connection,
+    requests: &[u8],
+    store: &[u8],
+    slots: &[u32],
+    number: u64,
+) -> Prepared
+    ensures { λ r. ⌜ Prepares c (rooms (now (requests .entry)) (now (store .entry)) (now (slots .entry))) number (saysPrepared r) ⌝ }
+{
+    if !model::is_sound(c, requests, store, slots) {
+        return Prepared::Refused(Refusal::BadRoom);
+    }
+    Prepared::Answer(c.expected < number)
+}
+
+fn fresh(order: u8, capacity: usize, room: usize) -> Connection
+    ensures { λ r. ⌜ r ≡ Calls·freshState order capacity room ⌝ }
+{
+    Connection {
+        order: order,
+        capacity: capacity,
+        room: room,
+        written: 0,
+        expected: 0,
+        read: 0,
+        first: 1,
+        window: Window { start: 0, end: 0 },
+        counts: Counts {
+            closed: 0,
+            held: 0,
+            waiting: 0,
+        },
+    }
+}
+
+// Whether the lengths of the request room and of the packet store are in their ranges.
+fn in_range(capacity: usize, room: usize) -> bool
+    ensures { λ r. ⌜ r ≡ roomy capacity room ⌝ }
+{
+    if capacity < 1 {
+        return false;
+    }
+    if requests::MOST_REQUESTS < capacity {
+        return false;
+    }
+    if room < model::LEAST_STORE {
+        return false;
+    }
+    room <= model::MOST_STORE
+}

@@ -1,0 +1,172 @@
+-- Laws of tests, of lists and of bytes that know nothing of a record. Assumes nothing.
+use mathlib.Core.Path.{_≡_, refl, sym, ap, _∙_, subst}
+use mathlib.Core.Bool.{Bool, true, false}
+use mathlib.Core.List.{List, [], _∷_, _++_}
+use mathlib.Core.Logic.{_⊎_, inl, inr}
+use Prim.Native.Nat.{ℕ, suc, _+_, _-_, _*_, _/_, _%_, _≤_, _<_, _^_}
+use native.Mathlib.Omega.{arith}
+use native.Mathlib.Decide.{decLt}
+use lib.Dec.{eqb}
+use lib.Pow.{pow-add}
+use lib.ListN.{length, take, drop, getD, length-take, List·getD-eq-default}
+use lib.Seq.{take-at, drop-at, drop-drop}
+use borrow.Author.Tests.{eq-eqb, eqb-true}
+use Rattle.octets.specs.Logic.{choose, both, both-left, both-right, both-yes, apart}
+use Rattle.octets.specs.Bytes.{littleOrder, lowBytes, lowNumber, turned, bytesOf, numberIn, length-bytesOf, number-bytes}
+use Rattle.octets.specs.Put.{put, cut, put-put, take-put-before, drop-put-after, cut-cut, getD-cut, take-cut, drop-cut}
+use Rattle.octets.specs.Field.{field, field-one}
+
+-- ---- tests
+
+pub is-or-not : (b : Bool) → (b ≡ true) ⊎ (b ≡ false)
+is-or-not true = inl refl
+is-or-not false = inr refl
+
+pub choose-yes : {A : Type 0} (b : Bool) (x y : A) → b ≡ true → choose b x y ≡ x
+unfolding choose
+choose-yes b x y e = ap (λ (t : Bool). choose t x y) e
+
+pub choose-no : {A : Type 0} (b : Bool) (x y : A) → b ≡ false → choose b x y ≡ y
+unfolding choose
+choose-no b x y e = ap (λ (t : Bool). choose t x y) e
+
+-- what holds of either holds of the one that is chosen
+pub choose-either : {A : Type 0} (P : A → Type 0) (b : Bool) (x y : A) → (b ≡ true → P x) → (b ≡ false → P y) → P (choose b x y)
+unfolding choose
+choose-either P true x y p q = p refl
+choose-either P false x y p q = q refl
+
+-- a test that can't hold fails
+pub not-so : (b : Bool) → (b ≡ true → ⊥) → b ≡ false
+not-so true h = absurd (h refl)
+not-so false h = refl
+
+-- ---- two lists are the same
+
+unfoldable pub same : List ℕ → List ℕ → Bool
+same [] [] = true
+same [] (y ∷ ys) = false
+same (x ∷ xs) [] = false
+same (x ∷ xs) (y ∷ ys) = both (eqb x y) (same xs ys)
+
+pub same-is : (a b : List ℕ) → same a b ≡ true → a ≡ b
+unfolding same
+same-is [] [] h = refl
+same-is [] (y ∷ b) h = apart refl (sym h)
+same-is (x ∷ a) [] h = apart refl (sym h)
+same-is (x ∷ a) (y ∷ b) h =
+    let e : x ≡ y = eqb-true x y (both-left _ _ h) in
+    λ k. e k ∷ same-is a b (both-right _ _ h) k
+
+pub same-append : (a x y : List ℕ) → same (a ++ x) (a ++ y) ≡ same x y
+unfolding same both
+same-append [] x y = refl
+same-append (b ∷ a) x y = ap (λ (t : Bool). both t (same (a ++ x) (a ++ y))) (eq-eqb b b refl) ∙ same-append a x y
+
+same-self : (a : List ℕ) → same a a ≡ true
+unfolding same
+same-self [] = refl
+same-self (x ∷ a) = both-yes _ _ (eq-eqb x x refl) (same-self a)
+
+pub same-yes : (a b : List ℕ) → a ≡ b → same a b ≡ true
+same-yes a b e = ap (λ (l : List ℕ). same a l) (sym e) ∙ same-self a
+
+-- ---- cuts of two lists side by side
+
+pub cut-first : (a b : List ℕ) (n : ℕ) → length a ≡ n → cut 0 n (a ++ b) ≡ a
+unfolding cut
+cut-first a b n e = take-at a b n e
+
+pub cut-skip : (a b : List ℕ) (n k m : ℕ) → length a ≡ n → cut (n + k) m (a ++ b) ≡ cut k m b
+unfolding cut
+cut-skip a b n k m e =
+    ap (λ (l : List ℕ). take m l) (sym (drop-drop k n (a ++ b)) ∙ ap (λ (l : List ℕ). drop k l) (drop-at a b n e))
+
+-- a cut that is two lists side by side holds each of them
+pub cut-left : (s : List ℕ) (at m : ℕ) (a b : List ℕ) → cut at m s ≡ a ++ b → length a ≤ m → cut at (length a) s ≡ a
+cut-left s at m a b e h = sym (take-cut s at m (length a) h) ∙ ap (λ (l : List ℕ). take (length a) l) e ∙ take-at a b (length a) refl
+
+pub cut-right : (s : List ℕ) (at m : ℕ) (a b : List ℕ) → cut at m s ≡ a ++ b → length a ≤ m → cut (at + length a) (m - length a) s ≡ b
+cut-right s at m a b e h = sym (drop-cut s at m (length a) h) ∙ ap (λ (l : List ℕ). drop (length a) l) e ∙ drop-at a b (length a) refl
+
+-- writing on behind what was written
+pub put-next : (s s₁ s₂ : List ℕ) (at n : ℕ) (v w : List ℕ) → s₁ ≡ put s at v → length v ≡ n → s₂ ≡ put s₁ (at + n) w → at + n + length w ≤ length s → s₂ ≡ put s at (v ++ w)
+put-next s s₁ s₂ at n v w p l q h = q ∙ ap (λ (x : List ℕ). put x (at + n) w) p ∙ put-put s at n v w l h
+
+-- a put that covers one before
+pub put-cover : (s : List ℕ) (at k : ℕ) (v w : List ℕ) → at ≤ k → k + length v ≤ at + length w → k + length v ≤ length s → put (put s k v) at w ≡ put s at w
+unfolding put
+put-cover s at k v w h f r =
+    λ j. take-put-before s k v at h (omega arith) j ++ (w ++ drop-put-after s k v (at + length w) f r j)
+
+-- ---- fields
+
+-- a field of a cut
+pub field-cut : (o : ℕ) (s : List ℕ) (at m k n : ℕ) → k + n ≤ m → field o k n (cut at m s) ≡ field o (at + k) n s
+unfolding field
+field-cut o s at m k n h = ap (numberIn o) (cut-cut s at m k n h)
+
+pub field-drop : (o : ℕ) (s : List ℕ) (at k n : ℕ) → field o k n (drop at s) ≡ field o (at + k) n s
+unfolding field cut
+field-drop o s at k n = ap (λ (l : List ℕ). numberIn o (take n l)) (drop-drop k at s)
+
+pub byte-drop : (o : ℕ) (s : List ℕ) (at k : ℕ) → at + k < length s → getD s (at + k) 0 ≡ field o k 1 (drop at s)
+byte-drop o s at k h = field-one o s (at + k) h ∙ sym (field-drop o s at k 1)
+
+-- a field near the front of a cut is one of all that follows
+pub field-front : (o : ℕ) (s : List ℕ) (at m k n : ℕ) → k + n ≤ m → field o k n (cut at m s) ≡ field o k n (drop at s)
+unfolding field cut
+field-front o s at m k n h = field-cut o s at m k n h ∙ sym (field-drop o s at k n)
+
+-- a number as n bytes, least significant first
+abbrev pub word : ℕ → ℕ → List ℕ
+word n x = bytesOf littleOrder n x
+
+pub field-first : (n x : ℕ) (b : List ℕ) → x < 2 ^ (8 * n) → field littleOrder 0 n (word n x ++ b) ≡ x
+unfolding field
+field-first n x b h = ap (numberIn littleOrder) (cut-first (word n x) b n (length-bytesOf littleOrder n x)) ∙ number-bytes littleOrder n x h
+
+pub field-skip : (n x k m : ℕ) (b : List ℕ) → field littleOrder (n + k) m (word n x ++ b) ≡ field littleOrder k m b
+unfolding field
+field-skip n x k m b = ap (numberIn littleOrder) (cut-skip (word n x) b n k m (length-bytesOf littleOrder n x))
+
+-- every element is a byte
+abbrev pub Octets : List ℕ → Type 0
+Octets s = (i : ℕ) → getD s i 0 < 256
+
+low-read : (bs : List ℕ) → Octets bs → lowBytes (length bs) (lowNumber bs) ≡ bs
+unfolding lowBytes lowNumber
+low-read [] h = refl
+low-read (b ∷ bs) h =
+    let p : b < 256 = h 0 in
+    let q : (b + 256 * lowNumber bs) % 256 ≡ b = omega arith in
+    let r : (b + 256 * lowNumber bs) / 256 ≡ lowNumber bs = omega arith in
+    (λ k. q k ∷ lowBytes (length bs) (r k)) ∙ ap (λ (l : List ℕ). b ∷ l) (low-read bs (λ i. h (suc i)))
+
+-- Write after read: bytes are what their number is written as.
+pub word-number : (bs : List ℕ) (n : ℕ) → length bs ≡ n → Octets bs → word n (numberIn littleOrder bs) ≡ bs
+unfolding bytesOf numberIn turned choose
+word-number bs n e h = ap (λ (m : ℕ). lowBytes m (lowNumber bs)) (sym e) ∙ low-read bs h
+
+low-below : (bs : List ℕ) → Octets bs → lowNumber bs < 2 ^ (8 * length bs)
+unfolding lowNumber
+low-below [] h = omega arith
+low-below (b ∷ bs) h =
+    let p : b < 256 = h 0 in
+    let e : 8 * suc (length bs) ≡ 8 + 8 * length bs = omega arith in
+    let q : 2 ^ (8 * suc (length bs)) ≡ 256 * 2 ^ (8 * length bs) = rw (e, pow-add 2 8 (8 * length bs)) in
+    omega (arith, q, low-below bs (λ i. h (suc i)))
+
+-- and their number fits as many.
+pub number-below : (bs : List ℕ) (n : ℕ) → length bs ≡ n → Octets bs → numberIn littleOrder bs < 2 ^ (8 * n)
+unfolding numberIn turned choose
+number-below bs n e h = subst (λ (m : ℕ). lowNumber bs < 2 ^ (8 * m)) e (low-below bs h)
+
+pub octets-cut : (at n : ℕ) (s : List ℕ) → Octets s → Octets (cut at n s)
+unfolding cut
+octets-cut at n s h i = elim (decLt i n) [ yes p ↦ rw (getD-cut s at n i p) (h (at + i)) | no q ↦ past q ]
+  where
+    past : (i < n → ⊥) → getD (cut at n s) i 0 < 256
+    past q =
+        let e : getD (cut at n s) i 0 ≡ 0 = List·getD-eq-default (cut at n s) 0 (omega (arith, length-take n (drop at s))) in
+        omega arith

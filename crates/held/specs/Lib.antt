@@ -1,0 +1,13 @@
+pub mod General
+pub mod Head
+pub mod Front
+pub mod Reading
+pub mod Rows
+pub mod Soundness
+pub mod Walk
+pub mod Find
+pub mod Moves
+pub mod Shows
+pub mod Lies
+pub mod Keeps
+pub mod Theorems

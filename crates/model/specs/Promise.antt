@@ -1,0 +1,122 @@
+-- The form of a promise of a connection's call. Assumes nothing.
+use mathlib.Core.Path.{_≡_, refl, sym, ap, _∙_}
+use mathlib.Core.Bool.{Bool, true, false, not}
+use mathlib.Core.List.{List, []}
+use Prim.Native.Nat.{ℕ}
+use Rattle.octets.specs.Put.{put}
+use native.Mathlib.Omega.{arith}
+use Rattle.refusal.specs.Answer.{Answer, gives, refuses, refuse, pass}
+use Rattle.model.specs.Client.{Client}
+use Rattle.model.specs.Reading.{Rooms, reads}
+use Rattle.model.specs.Sound.{Sound, soundb, sound-is}
+use Rattle.model.specs.declared.Connection.{Connection}
+
+-- what a call gives, with the state that it hands back and the rooms that it leaves
+pub record Done (A : Type 0) : Type 0 where
+  pub value : A
+  pub state : Connection
+  pub left : Rooms
+
+-- An exact outcome, `Answer (Done A)`, decides everything. Of it:
+
+-- the answer, in which a value is shown by f (of a packet its length, say),
+unfoldable pub answerOf : {A B : Type 0} → (A → B) → Answer (Done A) → Answer (B × Connection)
+answerOf f (gives d) = gives (f (d .value), d .state)
+answerOf f (refuses n) = refuses n
+
+-- the rooms at exit: a refusal leaves them as found,
+unfoldable pub roomsOf : {A : Type 0} → Answer (Done A) → Rooms → Rooms
+roomsOf (gives d) r = d .left
+roomsOf (refuses n) r = r
+
+-- a lent output at exit: what f takes of the value stands at its start, and a refusal leaves it as found,
+unfoldable pub outputOf : {A : Type 0} → (A → List ℕ) → Answer (Done A) → List ℕ → List ℕ
+outputOf f (gives d) out = put out 0 (f (d .value))
+outputOf f (refuses n) out = out
+
+-- and what it is in the model's terms.
+unfoldable pub modelOf : {A : Type 0} → Answer (Done A) → Answer (A × Client)
+modelOf (gives d) = gives (d .value, reads (d .state) (d .left))
+modelOf (refuses n) = refuses n
+
+-- 9 before all else, for a state that is not sound
+unfoldable pub guarded : {A : Type 0} → Connection → Rooms → Answer A → Answer A
+guarded c r e = refuse (not (soundb c r)) 9 e
+
+-- EXACT: answer and rooms at exit are those of the outcome e.
+pub record Exact {A B : Type 0} (f : A → B) (e : Answer (Done A)) (r : Rooms) (a : Answer (B × Connection)) (r' : Rooms) : Type 0 where
+  pub answers : a ≡ answerOf f e
+  pub leaves : r' ≡ roomsOf e r
+
+-- THE PROMISE of a public call: it is exactly e, or 9 where the state is not sound; and e is what the model m says of the state as it is read.
+pub record Promise {A B : Type 0} (f : A → B) (e : Answer (Done A)) (m : Client → Answer (A × Client)) (c : Connection) (r : Rooms) (a : Answer (B × Connection)) (r' : Rooms) : Type 0 where
+  pub exact : Exact f (guarded c r e) r a r'
+  pub model : modelOf (guarded c r e) ≡ guarded c r (m (reads c r))
+
+-- ---- laws
+
+-- two ways on that agree wherever something is given
+pub pass-agree : {A B : Type 0} (a : Answer A) (f g : A → Answer B) → ((x : A) → gives x ≡ a → f x ≡ g x) → pass a f ≡ pass a g
+unfolding pass
+pass-agree (gives x) f g h = h x refl
+pass-agree (refuses n) f g h = refl
+
+-- what came of something that was given
+pub pass-given : {A B : Type 0} (a : Answer A) (f : A → Answer B) (d : B) → gives d ≡ pass a f → (x : A) × (gives x ≡ a) × (gives d ≡ f x)
+unfolding pass
+pass-given (gives x) f d e = (x, refl, e)
+pass-given (refuses n) f d e = absurd (let z : _≡_ {A = ℕ} 0 1 = cc in omega arith)
+
+pub gives-same : {A : Type 0} {x y : A} → gives x ≡ gives y → x ≡ y
+gives-same e = cc
+
+-- the model of a way on
+pub model-pass : {A B : Type 0} (a : Answer A) (f : A → Answer (Done B)) → modelOf (pass a f) ≡ pass a (λ x. modelOf (f x))
+unfolding pass modelOf
+model-pass (gives x) f = refl
+model-pass (refuses n) f = refl
+
+pub model-refuse : {B : Type 0} (b : Bool) (n : ℕ) (e : Answer (Done B)) → modelOf (refuse b n e) ≡ refuse b n (modelOf e)
+unfolding refuse modelOf
+model-refuse true n e = refl
+model-refuse false n e = refl
+
+-- An outcome that is known makes a step exact.
+pub exact-refused : {A B : Type 0} (f : A → B) (e : Answer (Done A)) (r : Rooms) (n : ℕ) → refuses n ≡ e → Exact f e r (refuses n) r
+unfolding answerOf roomsOf
+exact-refused f e r n h = record { answers = ap (answerOf f) h; leaves = ap (λ k. roomsOf k r) h }
+
+pub exact-given : {A B : Type 0} (f : A → B) (e : Answer (Done A)) (r : Rooms) (d : Done A) → gives d ≡ e → Exact f e r (gives (f (d .value), d .state)) (d .left)
+unfolding answerOf roomsOf
+exact-given f e r d h = record { answers = ap (answerOf f) h; leaves = ap (λ k. roomsOf k r) h }
+
+-- A promise is kept where the step is exact and, for a sound state, does as the model.
+pub guarded-model : {A : Type 0} (e : Answer (Done A)) (m : Client → Answer (A × Client)) (c : Connection) (r : Rooms) → (Sound c r → modelOf e ≡ m (reads c r))
+    → modelOf (guarded c r e) ≡ guarded c r (m (reads c r))
+unfolding guarded refuse modelOf
+guarded-model e m c r h = go (soundb c r) refl
+  where
+    go : (b : Bool) → soundb c r ≡ b → modelOf (refuse (not b) 9 e) ≡ refuse (not b) 9 (m (reads c r))
+    go true q = h (sound-is c r q)
+    go false q = refl
+
+-- the test passed, or did not
+pub guarded-on : {A : Type 0} (c : Connection) (r : Rooms) (e : Answer A) → soundb c r ≡ true → guarded c r e ≡ e
+unfolding guarded refuse
+guarded-on c r e h = simp h
+
+pub guarded-off : {A : Type 0} (c : Connection) (r : Rooms) (e : Answer A) → soundb c r ≡ false → guarded c r e ≡ refuses 9
+unfolding guarded refuse
+guarded-off c r e h = simp h
+
+-- THE PROMISE of a call is kept: it refuses by 9 what is not sound, and otherwise makes its step.
+module _ {A B : Type 0} (f : A → B) (e : Answer (Done A)) (m : Client → Answer (A × Client)) (c : Connection) (r : Rooms) (law : Sound c r → modelOf e ≡ m (reads c r)) where
+  pub promise-unsound : soundb c r ≡ false → Promise f e m c r (refuses 9) r
+  promise-unsound h = record { exact = exact-refused f (guarded c r e) r 9 (sym (guarded-off c r e h)); model = guarded-model e m c r law }
+
+  pub promise-sound : (a : Answer (B × Connection)) (r' : Rooms) → soundb c r ≡ true → Exact f e r a r' → Promise f e m c r a r'
+  promise-sound a r' h x =
+      record {
+        exact = record { answers = x .answers ∙ ap (answerOf f) (sym (guarded-on c r e h)); leaves = x .leaves ∙ ap (λ k. roomsOf k r) (sym (guarded-on c r e h)) };
+        model = guarded-model e m c r law;
+      }

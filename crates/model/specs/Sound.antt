@@ -1,0 +1,154 @@
+-- 01, Rooms: when a state is sound with its rooms. Assumes nothing.
+use mathlib.Core.Path.{_≡_, refl, sym, ap, _∙_}
+use mathlib.Core.Bool.{Bool, true, false, not}
+use mathlib.Core.List.{List}
+use Prim.Native.Nat.{ℕ, _+_, _-_, _≤_, _<_}
+use lib.Dec.{leb, eqb}
+use lib.ListN.{length}
+use borrow.Author.Tests.{leb-true, eqb-true, le-leb, eq-eqb, not-true, not-false}
+use native.Mathlib.Omega.{arith}
+use Rattle.octets.specs.Logic.{choose, both, both-left, both-right, both-yes}
+use Rattle.octets.specs.Bytes.{legal}
+use Rattle.sequence.specs.Numbering.{lastNumber}
+use Rattle.requests.specs.Room.{sized, capacity, legals}
+use Rattle.requests.specs.Theorems.{sized-is}
+use Rattle.descriptors.specs.Theorems as Fds
+use Rattle.held.specs.Reading as Store
+use Rattle.held.specs.Walk.{walked}
+use Rattle.held.specs.declared.Walked.the-variants as Walked
+use Rattle.descriptors.specs.Room as Slots
+use Rattle.model.specs.Model.{leastBytes, mostBytes}
+use Rattle.model.specs.Reading.{Rooms, count, slotsOf}
+use Rattle.model.specs.declared.Connection.{Connection}
+
+-- "its full numbers are in range, outstanding requests are a run without gaps from 1 or more up to the last written and at most K"; S is in its range
+pub record Numbers (c : Connection) : Type 0 where
+  pub store-least : leastBytes ≤ c .room
+  pub store-most : c .room ≤ mostBytes
+  pub written-most : c .written ≤ lastNumber
+  pub expected-most : c .expected ≤ lastNumber
+  pub read-most : c .read ≤ lastNumber
+  pub first-least : 1 ≤ c .first
+  pub first-most : c .first ≤ c .written + 1
+  pub count-most : count c ≤ c .capacity
+
+unfoldable pub numbersb : Connection → Bool
+numbersb c =
+    both (leb leastBytes (c .room))
+    (both (leb (c .room) mostBytes)
+    (both (leb (c .written) lastNumber)
+    (both (leb (c .expected) lastNumber)
+    (both (leb (c .read) lastNumber)
+    (both (leb 1 (c .first))
+    (both (leb (c .first) (c .written + 1)) (leb (count c) (c .capacity))))))))
+
+-- "the store reads as held records .., reply numbers never fall, no held number is above the last read"; as many descriptors are held as the replies have
+unfoldable pub heldb : Connection → List ℕ → Bool
+heldb c s = both (Store.soundb (c .read) (c .window) s) (eqb (Store.fdsIn (Store.replies (c .window) s)) (c .counts .held))
+
+-- "its lent lengths are those given at the start, its byte order is `l` or `B`, .. each request byte is legal, .. and descriptors number at most 256"
+unfoldable pub soundb : Connection → Rooms → Bool
+soundb c r =
+    both (legal (c .order))
+    (both (sized (c .capacity) (r .requests))
+    (both (eqb (length (r .store)) (c .room))
+    (both (numbersb c)
+    (both (legals (r .requests) (c .first) (count c))
+    (both (Slots.sound (slotsOf c r)) (heldb c (r .store)))))))
+
+-- the same, part by part
+pub record Sound (c : Connection) (r : Rooms) : Type 0 where
+  pub order : legal (c .order) ≡ true
+  pub requests : sized (c .capacity) (r .requests) ≡ true
+  pub store : length (r .store) ≡ c .room
+  pub numbers : Numbers c
+  pub legal-bytes : legals (r .requests) (c .first) (count c) ≡ true
+  pub slots : Slots.sound (slotsOf c r) ≡ true
+  pub held : Store.soundb (c .read) (c .window) (r .store) ≡ true
+  pub descriptors : Store.fdsIn (Store.replies (c .window) (r .store)) ≡ c .counts .held
+
+-- The test of the numbers, and of the whole, holds exactly where the sentence does.
+pub numbers-is : (c : Connection) → numbersb c ≡ true → Numbers c
+unfolding numbersb
+numbers-is c h =
+    let h₁ = both-right _ _ h in let h₂ = both-right _ _ h₁ in let h₃ = both-right _ _ h₂ in let h₄ = both-right _ _ h₃ in let h₅ = both-right _ _ h₄ in let h₆ = both-right _ _ h₅ in
+    record {
+      store-least = leb-true _ _ (both-left _ _ h);
+      store-most = leb-true _ _ (both-left _ _ h₁);
+      written-most = leb-true _ _ (both-left _ _ h₂);
+      expected-most = leb-true _ _ (both-left _ _ h₃);
+      read-most = leb-true _ _ (both-left _ _ h₄);
+      first-least = leb-true _ _ (both-left _ _ h₅);
+      first-most = leb-true _ _ (both-left _ _ h₆);
+      count-most = leb-true _ _ (both-right _ _ h₆);
+    }
+
+pub is-numbers : (c : Connection) → Numbers c → numbersb c ≡ true
+unfolding numbersb
+is-numbers c n =
+    both-yes _ _ (le-leb leastBytes (c .room) (n .store-least))
+    (both-yes _ _ (le-leb (c .room) mostBytes (n .store-most))
+    (both-yes _ _ (le-leb (c .written) lastNumber (n .written-most))
+    (both-yes _ _ (le-leb (c .expected) lastNumber (n .expected-most))
+    (both-yes _ _ (le-leb (c .read) lastNumber (n .read-most))
+    (both-yes _ _ (le-leb 1 (c .first) (n .first-least))
+    (both-yes _ _ (le-leb (c .first) (c .written + 1) (n .first-most)) (le-leb (count c) (c .capacity) (n .count-most))))))))
+
+pub sound-is : (c : Connection) (r : Rooms) → soundb c r ≡ true → Sound c r
+unfolding soundb heldb
+sound-is c r h =
+    let h₁ = both-right _ _ h in let h₂ = both-right _ _ h₁ in let h₃ = both-right _ _ h₂ in let h₄ = both-right _ _ h₃ in let h₅ = both-right _ _ h₄ in
+    let g = both-right _ _ h₅ in
+    record {
+      order = both-left _ _ h;
+      requests = both-left _ _ h₁;
+      store = eqb-true _ _ (both-left _ _ h₂);
+      numbers = numbers-is c (both-left _ _ h₃);
+      legal-bytes = both-left _ _ h₄;
+      slots = both-left _ _ h₅;
+      held = both-left _ _ g;
+      descriptors = eqb-true _ _ (both-right _ _ g);
+    }
+
+pub is-sound : (c : Connection) (r : Rooms) → Sound c r → soundb c r ≡ true
+unfolding soundb heldb
+is-sound c r h =
+    both-yes _ _ (h .order)
+    (both-yes _ _ (h .requests)
+    (both-yes _ _ (eq-eqb (length (r .store)) (c .room) (h .store))
+    (both-yes _ _ (is-numbers c (h .numbers))
+    (both-yes _ _ (h .legal-bytes)
+    (both-yes _ _ (h .slots) (both-yes _ _ (h .held) (eq-eqb _ _ (h .descriptors))))))))
+
+-- what a walk over the store tells
+pub walked-sound : (c : Connection) (s : List ℕ) (n : ℕ) → Walked.Sound n ≡ walked (c .read) (c .window) s → eqb n (c .counts .held) ≡ heldb c s
+unfolding walked heldb choose both
+walked-sound c s n e = go (Store.soundb (c .read) (c .window) s) e
+  where
+    go : (t : Bool) → Walked.Sound n ≡ choose t (Walked.Sound (Store.fdsIn (Store.replies (c .window) s))) Walked.Unsound
+        → eqb n (c .counts .held) ≡ both t (eqb (Store.fdsIn (Store.replies (c .window) s)) (c .counts .held))
+    go true q = let z : n ≡ Store.fdsIn (Store.replies (c .window) s) = cc in ap (λ (m : ℕ). eqb m (c .counts .held)) z
+    go false q = absurd (let z : _≡_ {A = ℕ} 0 1 = cc in omega arith)
+
+pub walked-unsound : (c : Connection) (s : List ℕ) → Walked.Unsound ≡ walked (c .read) (c .window) s → false ≡ heldb c s
+unfolding walked heldb choose both
+walked-unsound c s e = go (Store.soundb (c .read) (c .window) s) e
+  where
+    go : (t : Bool) → Walked.Unsound ≡ choose t (Walked.Sound (Store.fdsIn (Store.replies (c .window) s))) Walked.Unsound
+        → false ≡ both t (eqb (Store.fdsIn (Store.replies (c .window) s)) (c .counts .held))
+    go true q = absurd (let z : _≡_ {A = ℕ} 0 1 = cc in omega arith)
+    go false q = refl
+
+-- what a call's test tells
+pub sound-seen : (c : Connection) (r : Rooms) (b : Bool) → b ≡ soundb c r → not b ≡ false → soundb c r ≡ true
+sound-seen c r b e h = sym e ∙ not-false b h
+
+pub unsound-seen : (c : Connection) (r : Rooms) (b : Bool) → b ≡ soundb c r → not b ≡ true → soundb c r ≡ false
+unsound-seen c r b e h = sym e ∙ not-true b h
+
+-- what the steps ask of a sound state
+pub room-there : (c : Connection) (r : Rooms) → Sound c r → 0 < capacity (r .requests)
+room-there c r S = let z = sized-is (c .capacity) (r .requests) .0 (S .requests) in omega (arith, z .least, z .holds)
+
+pub slots-there : (c : Connection) (r : Rooms) → Sound c r → Slots.Sound (slotsOf c r)
+slots-there c r S = Fds.sound-is (slotsOf c r) .0 (S .slots)

@@ -1,0 +1,52 @@
+-- Descriptors that come in, and the close list that goes out, exactly. Assumes nothing.
+use mathlib.Core.Path.{_≡_}
+use mathlib.Core.Bool.{Bool}
+use mathlib.Core.List.{List}
+use Prim.Native.Nat.{ℕ, _+_}
+use lib.Dec.{ltb}
+use lib.ListN.{length}
+use Rattle.refusal.specs.Answer.{Answer, gives, refuse}
+use Rattle.descriptors.specs.Room as Slots
+use Rattle.model.specs.Model.{mostDescriptors}
+use Rattle.model.specs.Reading.{Rooms, rooms, slotsOf}
+use Rattle.model.specs.Promise.{Done, Exact, outputOf}
+use Rattle.model.specs.Says.{saysNext, saysClosed}
+use Rattle.sending.specs.Send.{same}
+use Rattle.model.specs.declared.Connection.{Connection}
+use Rattle.model.specs.declared.Next.{Next}
+use Rattle.model.specs.declared.Closed.{Closed}
+use Rattle.descriptors.specs.declared.Counts.{Counts}
+
+-- the state with these counts
+abbrev pub countedState : Connection → Counts → Connection
+countedState c n = record {
+  order = c .order;
+  capacity = c .capacity;
+  room = c .room;
+  written = c .written;
+  expected = c .expected;
+  read = c .read;
+  first = c .first;
+  window = c .window;
+  counts = n;
+}
+
+-- what a move of descriptors leaves
+abbrev pub movedTo : {A : Type 0} → A → Connection → Rooms → Slots.Room → Done A
+movedTo x c r d = record { value = x; state = countedState c (d .counts); left = rooms (r .requests) (r .store) (d .slots) }
+
+-- 5 for over 256 inside; otherwise they wait behind the others.
+unfoldable pub enqueueExact : Connection → Rooms → List ℕ → Answer (Done Unit)
+enqueueExact c r list = refuse (ltb mostDescriptors (Slots.total (c .counts) + length list)) 5 (gives (movedTo tt c r (Slots.enqueue list (slotsOf c r))))
+
+-- 8 where the output is too small; otherwise the close list leaves whole.
+unfoldable pub closeExact : Connection → Rooms → ℕ → Answer (Done (List ℕ))
+closeExact c r places = refuse (ltb places (c .counts .closed)) 8 (gives (movedTo (Slots.closing (slotsOf c r)) c r (Slots.takeClosed (slotsOf c r))))
+
+-- The steps are exact, whatever the rooms that they are not lent.
+pub record EnqueueStep (c : Connection) (list f : List ℕ) (a : Next) (f' : List ℕ) : Type 0 where
+  pub exact : (q s : List ℕ) → Exact same (enqueueExact c (rooms q s f) list) (rooms q s f) (saysNext a) (rooms q s f')
+
+pub record CloseStep (c : Connection) (f out : List ℕ) (a : Closed) (f' out' : List ℕ) : Type 0 where
+  pub exact : (q s : List ℕ) → Exact length (closeExact c (rooms q s f) (length out)) (rooms q s f) (saysClosed a) (rooms q s f')
+  pub output : (q s : List ℕ) → out' ≡ outputOf same (closeExact c (rooms q s f) (length out)) out
