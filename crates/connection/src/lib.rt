@@ -10,6 +10,7 @@ use descriptors::Counts;
 use held::Window;
 use model::Closed;
 use model::Connection;
+use model::Enqueued;
 use model::Next;
 use model::Prepared;
 use model::ReplyFdKind;
@@ -18,12 +19,13 @@ use refusal::Refusal;
 ghost use mathlib.Core.Path.{_≡_};
 ghost use mathlib.Core.List.{List};
 ghost use lib.ListN.{length};
-ghost use Rattle.model.specs.Model.{sendRequest, enqueueFds, roomy};
+ghost use Rattle.model.specs.Model.{sendRequest, enqueueFds, enqueuePacket, roomy};
 ghost use Rattle.model.specs.Reading.{rooms};
 ghost use Rattle.model.specs.Promise.{Promise};
-ghost use Rattle.model.specs.Says.{saysNext, saysSent, saysClosed, saysPrepared};
+ghost use Rattle.model.specs.Says.{saysNext, saysSent, saysEnqueued, saysClosed, saysPrepared};
 ghost use Rattle.sending.specs.Send.{same, sendExact};
-ghost use Rattle.sending.specs.Fds.{enqueueExact};
+ghost use Rattle.sending.specs.Fds.{enqueueExact as Fds·enqueueExact};
+ghost use Rattle.intake.specs.Exact.{enqueueExact, shown};
 ghost use Rattle.connection.specs.Calls.{Opens, Closes, Prepares, freshState as Calls·freshState};
 
 // A fresh connection in these rooms: its request room and its packet store have the lengths that
@@ -71,12 +73,30 @@ pub fn enqueue_fds(
     slots: &mut [u32],
     list: &[u32],
 ) -> Next
-    ensures { λ r. ⌜ Promise same (enqueueExact c (rooms (now (requests .entry)) (now (store .entry)) (now (slots .entry))) (now (list .entry))) (λ m. enqueueFds m (now (list .entry))) c (rooms (now (requests .entry)) (now (store .entry)) (now (slots .entry))) (saysNext r) (rooms (now (requests .entry)) (now (store .entry)) (now (slots .exit))) ⌝ }
+    ensures { λ r. ⌜ Promise same (Fds·enqueueExact c (rooms (now (requests .entry)) (now (store .entry)) (now (slots .entry))) (now (list .entry))) (λ m. enqueueFds m (now (list .entry))) c (rooms (now (requests .entry)) (now (store .entry)) (now (slots .entry))) (saysNext r) (rooms (now (requests .entry)) (now (store .entry)) (now (slots .exit))) ⌝ }
 {
     if !model::is_sound(c, requests, store, slots) {
         return Next::Refused(Refusal::BadRoom);
     }
     sending::enqueue_fds(c, slots, list)
+}
+
+// A packet came from the server. Answers where it was filed and under which number; refused by 9, 1
+// under 32 bytes, 2 over 65,536, 3 past the last number, 4 where it claims more descriptors than
+// wait, 5 where the store has no room.
+pub fn enqueue_packet(
+    c: Connection,
+    requests: &[u8],
+    store: &mut [u8],
+    slots: &mut [u32],
+    packet: &[u8],
+) -> Enqueued
+    ensures { λ r. ⌜ Promise shown (enqueueExact c (rooms (now (requests .entry)) (now (store .entry)) (now (slots .entry))) (now (packet .entry))) (λ m. enqueuePacket m (now (packet .entry))) c (rooms (now (requests .entry)) (now (store .entry)) (now (slots .entry))) (saysEnqueued r) (rooms (now (requests .entry)) (now (store .exit)) (now (slots .exit))) ⌝ }
+{
+    if !model::is_sound(c, requests, store, slots) {
+        return Enqueued::Refused(Refusal::BadRoom);
+    }
+    intake::enqueue_packet(c, requests, store, slots, packet)
 }
 
 // The descriptors to be closed, whole and in their order. Refused by 9, and 8 where out has too few

@@ -1,0 +1,95 @@
+-- A packet taken in, exactly. Assumes nothing.
+use mathlib.Core.Path.{_≡_}
+use mathlib.Core.Bool.{Bool, true}
+use mathlib.Core.List.{List}
+use Prim.Native.Nat.{ℕ, _≤_}
+use lib.ListN.{length}
+use Rattle.refusal.specs.Answer.{Answer, gives, pass}
+use Rattle.held.specs.Head.{held, reply, event}
+use Rattle.held.specs.Moves.{Left, left, Room, appended}
+use Rattle.descriptors.specs.Room as Slots
+use Rattle.model.specs.Model.{codeOf, isHeld, Filing}
+use Rattle.model.specs.Reading.{Rooms, rooms, slotsOf}
+use Rattle.model.specs.Promise.{Done, Exact}
+use Rattle.model.specs.Says.{saysEnqueued}
+use Rattle.model.specs.declared.Connection.{Connection}
+use Rattle.model.specs.declared.Enqueued.{Enqueued}
+use Rattle.model.specs.declared.Place.{Place}
+use Rattle.model.specs.declared.Place.the-variants as Place
+use Rattle.held.specs.declared.Window.{Window}
+use Rattle.descriptors.specs.declared.Counts.{Counts}
+use Rattle.intake.specs.Plan.{Task, raisedTo, firstAfter, planOf}
+
+-- ---- the state
+
+-- once a packet of the code has the number n
+abbrev pub numberedState : Connection → ℕ → ℕ → Connection
+numberedState c code n = record {
+  order = c .order;
+  capacity = c .capacity;
+  room = c .room;
+  written = c .written;
+  expected = raisedTo code n (c .expected);
+  read = n;
+  first = firstAfter (c .first) (c .written) n;
+  window = c .window;
+  counts = c .counts;
+}
+
+-- with this window and these counts
+abbrev pub movedState : Connection → Window → Counts → Connection
+movedState c w n = record {
+  order = c .order;
+  capacity = c .capacity;
+  room = c .room;
+  written = c .written;
+  expected = c .expected;
+  read = c .read;
+  first = c .first;
+  window = w;
+  counts = n;
+}
+
+-- ---- filing
+
+-- where a packet was filed, and under which number
+abbrev pub filing : Place → ℕ → Filing
+filing place n = record { place = place; number = n }
+
+-- what is left where the held packets are l and the descriptors are d
+abbrev pub doneBy : Place → Connection → Rooms → Left → Slots.Room → Done Filing
+doneBy place c r l d = record { value = filing place (c .read); state = movedState c (l .window) (d .counts); left = rooms (r .requests) (l .store) (d .slots) }
+
+-- Under the last number read: a reply is held, and with it the k descriptors that it claims; an event is held and has none; those of a dropped packet are closed.
+abbrev pub filedAs : Place → Connection → Rooms → ℕ → List ℕ → Done Filing
+filedAs Place.Replies c r k p = doneBy Place.Replies c r (appended (c .window) (r .store) (held (c .read) k reply p)) (Slots.hold k (slotsOf c r))
+filedAs Place.Events c r k p = doneBy Place.Events c r (appended (c .window) (r .store) (held (c .read) 0 event p)) (slotsOf c r)
+filedAs Place.Dropped c r k p = doneBy Place.Dropped c r (left (c .window) (r .store)) (Slots.closeWaiting k (slotsOf c r))
+
+-- what filing asks for: the claimed descriptors wait, and a packet that is held has room
+pub record MayFile (c : Connection) (s f : List ℕ) (place : Place) (k n : ℕ) : Type 0 where
+  pub slots : Slots.Sound (Slots.room f (c .counts))
+  pub some : k ≤ c .counts .waiting
+  pub room : isHeld place ≡ true → Room (c .window) s n
+
+-- what filing leaves, whatever the request room
+pub record FileDone (c : Connection) (s f : List ℕ) (place : Place) (k : ℕ) (p : List ℕ) (a : Connection) (s' f' : List ℕ) : Type 0 where
+  pub done : (q : List ℕ) → record { value = filing place (c .read); state = a; left = rooms q s' f' } ≡ filedAs place c (rooms q s f) k p
+
+-- ---- the step
+
+-- a plan carried out
+unfoldable pub carriedOut : Connection → Rooms → List ℕ → Task → Done Filing
+carriedOut c r p t = filedAs (t .place) (numberedState c (codeOf p) (t .number)) r (t .claimed) p
+
+-- 1, 2, 3, 4, 5, or what the plan says
+unfoldable pub enqueueExact : Connection → Rooms → List ℕ → Answer (Done Filing)
+enqueueExact c r p = pass (planOf c (r .requests) p) (λ t. gives (carriedOut c r p t))
+
+-- where a packet was filed, shown as it is
+abbrev pub shown : Filing → Filing
+shown f = f
+
+-- THE STEP is exact.
+pub record EnqueueStep (c : Connection) (q s f p : List ℕ) (a : Enqueued) (s' f' : List ℕ) : Type 0 where
+  pub exact : Exact shown (enqueueExact c (rooms q s f) p) (rooms q s f) (saysEnqueued a) (rooms q s' f')

@@ -1,0 +1,194 @@
+-- A packet that is filed: the state as it is read, and that it is sound. Assumes nothing.
+use mathlib.Core.Path.{_≡_, refl, sym, ap, _∙_, subst}
+use mathlib.Core.Bool.{Bool, true, false}
+use mathlib.Core.List.{List, [], _∷_, _++_, map, map-append}
+use Prim.Native.Nat.{ℕ, _+_, _-_, _≤_, _<_}
+use native.Mathlib.Omega.{arith}
+use lib.ListN.{length, take, drop}
+use lib.Seq.{drop-at, take-take}
+use Rattle.sequence.specs.Numbering.{lastNumber}
+use Rattle.octets.specs.Logic.{choose}
+use Rattle.held.specs.Head as Record
+use Rattle.held.specs.Reading as Store
+use Rattle.held.specs.Moves.{Left, appended}
+use Rattle.held.specs.Rows.{fdsIn-append}
+use Rattle.held.specs.Theorems as Held
+use Rattle.descriptors.specs.Room as Slots
+use Rattle.descriptors.specs.Theorems as Fds
+use Rattle.model.specs.Client.{Client, setReplies, setEvents, setWaiting, setClosing, header}
+use Rattle.model.specs.Client as Client
+use Rattle.model.specs.Model.{isHeld, close, filed}
+use Rattle.model.specs.Reading.{Rooms, rooms, count, withDescriptors, eventOf, slotsOf, reads}
+use Rattle.model.specs.ReadingLaws.{with-append, with-more}
+use Rattle.model.specs.Promise.{Done}
+use Rattle.model.specs.Sound.{Sound}
+use Rattle.model.specs.declared.Connection.{Connection}
+use Rattle.model.specs.declared.Place.{Place}
+use Rattle.model.specs.declared.Place.the-variants as Place
+use Rattle.held.specs.declared.Window.{Window}
+use Rattle.intake.specs.Exact.{movedState, filedAs}
+
+-- what is known of a packet that is filed with k descriptors: its length is allowed, they wait, their count is a byte, and it has room where it is held
+pub record Fine (c : Connection) (place : Place) (k n : ℕ) : Type 0 where
+  pub least : Record.leastPacket ≤ n
+  pub most : n ≤ Record.mostPacket
+  pub some : k ≤ c .counts .waiting
+  pub byte : k ≤ 255
+  pub room : isHeld place ≡ true → Store.used (c .window) + (header + n) ≤ c .room
+
+-- one record more, with the descriptors that stand behind all others
+with-one : (a : List Record.Held) (h : Record.Held) (fds more : List ℕ) → Store.fdsIn a ≡ length fds
+    → withDescriptors (a ++ (h ∷ [])) (fds ++ more) ≡ withDescriptors a fds ++ (record { number = h .number; packet = h .packet; descriptors = take (h .fds) more } ∷ [])
+unfolding withDescriptors
+with-one a h fds more e =
+    with-append a (h ∷ []) (fds ++ more)
+    ∙ (λ i. with-more a fds more (omega arith) i ++ withDescriptors (h ∷ []) (drop-at fds more (Store.fdsIn a) (sym e) i))
+
+fds-one : (a : List Record.Held) (h : Record.Held) → Store.fdsIn (a ++ (h ∷ [])) ≡ Store.fdsIn a + h .fds
+unfolding Store.fdsIn
+fds-one a h = fdsIn-append a (h ∷ []) ∙ omega arith
+
+module _ (c : Connection) (r : Rooms) (S : Sound c r) where
+  slots-sound : Slots.Sound (slotsOf c r)
+  slots-sound = Fds.sound-is (slotsOf c r) .0 (S .slots)
+
+  store-sound : Store.Sound (c .read) (c .window) (r .store)
+  store-sound = Held.sound-exactly (c .read) (c .window) (r .store) .0 (S .held)
+
+  -- a sound state with other held packets and other descriptors
+  pub moved-sound : (l : Left) (d : Slots.Room) → length (l .store) ≡ length (r .store) → Store.Sound (c .read) (l .window) (l .store) → Slots.Sound d
+      → Store.fdsIn (Store.replies (l .window) (l .store)) ≡ d .counts .held → Sound (movedState c (l .window) (d .counts)) (rooms (r .requests) (l .store) (d .slots))
+  moved-sound l d long H D e =
+      let N = S .numbers in
+      record {
+        order = S .order;
+        requests = S .requests;
+        store = long ∙ S .store;
+        numbers = record {
+          store-least = N .store-least;
+          store-most = N .store-most;
+          written-most = N .written-most;
+          expected-most = N .expected-most;
+          read-most = N .read-most;
+          first-least = N .first-least;
+          first-most = N .first-most;
+          count-most = N .count-most;
+        };
+        legal-bytes = S .legal-bytes;
+        slots = Fds.sound-is d .1 D;
+        held = Held.sound-exactly (c .read) (l .window) (l .store) .1 H;
+        descriptors = e;
+      }
+
+  -- and as it is read
+  moved-read : (l : Left) (d : Slots.Room) (replies events : List Client.Held) (wait toClose : List ℕ)
+      → withDescriptors (Store.replies (l .window) (l .store)) (Slots.holding d) ≡ replies → map eventOf (Store.events (l .window) (l .store)) ≡ events
+      → Slots.waiting d ≡ wait → Slots.closing d ≡ toClose
+      → reads (movedState c (l .window) (d .counts)) (rooms (r .requests) (l .store) (d .slots)) ≡ setClosing (setWaiting (setEvents (setReplies (reads c r) replies) events) wait) toClose
+  unfolding reads
+  moved-read l d replies events wait toClose R E W C = λ i. record {
+    order = c .order;
+    most-requests = c .capacity;
+    most-bytes = c .room;
+    numbers = record { written = c .written; expected = c .expected; read = c .read };
+    outstanding = reads c r .outstanding;
+    replies = R i;
+    events = E i;
+    waiting = W i;
+    closing = C i;
+  }
+
+  -- ---- held
+
+  module _ (p : List ℕ) (least : Record.leastPacket ≤ length p) (most : length p ≤ Record.mostPacket) (room : Store.used (c .window) + (header + length p) ≤ c .room) where
+    append-done : (h : Record.Held) → h .number ≡ c .read → h .packet ≡ p → h .kind ≤ Record.event → h .fds ≤ Record.mostFds (h .kind)
+        → Held.Appended (c .window) (r .store) h (appended (c .window) (r .store) h)
+    append-done h n e kind count =
+        let l : length (h .packet) ≡ length p = ap length e in
+        Held.append-law (c .read) (c .window) (r .store) store-sound h
+        (record { number = omega (arith, S .numbers .read-most); least = omega arith; most = omega arith; kind = kind; count = count })
+        (omega (arith, S .store)) (omega arith)
+
+    module _ (k : ℕ) (some : k ≤ c .counts .waiting) (byte : k ≤ 255) where
+      abbrev rec : Record.Held
+      rec = Record.held (c .read) k Record.reply p
+
+      reply-done : Held.Appended (c .window) (r .store) rec (appended (c .window) (r .store) rec)
+      unfolding Record.mostFds choose
+      reply-done = append-done rec refl refl (omega arith) byte
+
+      reply-sound : Sound (filedAs Place.Replies c r k p .state) (filedAs Place.Replies c r k p .left)
+      unfolding Slots.hold
+      reply-sound =
+          moved-sound (appended (c .window) (r .store) rec) (Slots.hold k (slotsOf c r)) (reply-done .long) (reply-done .sound) (Fds.hold-sound (slotsOf c r) slots-sound k some)
+          (ap Store.fdsIn (reply-done .own) ∙ fds-one (Store.replies (c .window) (r .store)) rec ∙ ap (λ (x : ℕ). x + k) (S .descriptors))
+
+      reply-read : reads (filedAs Place.Replies c r k p .state) (filedAs Place.Replies c r k p .left)
+          ≡ filed Place.Replies (record { number = c .read; packet = p; descriptors = take k (reads c r .waiting) }) (setWaiting (reads c r) (drop k (reads c r .waiting)))
+      unfolding reads
+      reply-read =
+          let L = Fds.hold-lists (slotsOf c r) slots-sound k some in
+          let fds : List ℕ = Slots.holding (slotsOf c r) in
+          let wait : List ℕ = Slots.waiting (slotsOf c r) in
+          let old : List Record.Held = Store.replies (c .window) (r .store) in
+          let f : Store.fdsIn old ≡ length fds = S .descriptors ∙ sym (Fds.length-holding (slotsOf c r) slots-sound) in
+          moved-read (appended (c .window) (r .store) rec) (Slots.hold k (slotsOf c r)) _ _ _ _
+          ((λ i. withDescriptors (reply-done .own i) (L .holding-is i))
+          ∙ with-one old rec fds (take k wait) f
+          ∙ ap (λ (x : List ℕ). withDescriptors old fds ++ (record { number = c .read; packet = p; descriptors = x } ∷ [])) (take-take k k wait (omega arith)))
+          (ap (map eventOf) (reply-done .other Record.event (λ q. omega arith)))
+          (L .waiting-is) (L .closing-is)
+
+    abbrev ev : Record.Held
+    ev = Record.held (c .read) 0 Record.event p
+
+    event-done : Held.Appended (c .window) (r .store) ev (appended (c .window) (r .store) ev)
+    event-done = append-done ev refl refl (omega arith) (omega arith)
+
+    event-sound : (k : ℕ) → Sound (filedAs Place.Events c r k p .state) (filedAs Place.Events c r k p .left)
+    event-sound k =
+        moved-sound (appended (c .window) (r .store) ev) (slotsOf c r) (event-done .long) (event-done .sound) slots-sound
+        (ap Store.fdsIn (event-done .other Record.reply (λ q. omega arith)) ∙ S .descriptors)
+
+    event-read : (k : ℕ) → reads (filedAs Place.Events c r k p .state) (filedAs Place.Events c r k p .left)
+        ≡ filed Place.Events (record { number = c .read; packet = p; descriptors = take 0 (reads c r .waiting) }) (setWaiting (reads c r) (drop 0 (reads c r .waiting)))
+    unfolding reads
+    event-read k =
+        moved-read (appended (c .window) (r .store) ev) (slotsOf c r) _ _ _ _
+        (ap (λ (l : List Record.Held). withDescriptors l (Slots.holding (slotsOf c r))) (event-done .other Record.reply (λ q. omega arith)))
+        (ap (map eventOf) (event-done .own) ∙ map-append eventOf (Store.events (c .window) (r .store)) (ev ∷ []))
+        refl refl
+
+  -- ---- dropped
+
+  module _ (p : List ℕ) (k : ℕ) (some : k ≤ c .counts .waiting) where
+    dropped-sound : Sound (filedAs Place.Dropped c r k p .state) (filedAs Place.Dropped c r k p .left)
+    unfolding Slots.closeWaiting
+    dropped-sound =
+        moved-sound (record { window = c .window; store = r .store }) (Slots.closeWaiting k (slotsOf c r)) refl store-sound (Fds.closeWaiting-sound (slotsOf c r) slots-sound k some) (S .descriptors)
+
+    dropped-read : reads (filedAs Place.Dropped c r k p .state) (filedAs Place.Dropped c r k p .left)
+        ≡ filed Place.Dropped (record { number = c .read; packet = p; descriptors = take k (reads c r .waiting) }) (setWaiting (reads c r) (drop k (reads c r .waiting)))
+    unfolding reads
+    dropped-read =
+        let L = Fds.closeWaiting-lists (slotsOf c r) slots-sound k some in
+        moved-read (record { window = c .window; store = r .store }) (Slots.closeWaiting k (slotsOf c r)) _ _ _ _
+        (ap (withDescriptors (Store.replies (c .window) (r .store))) (L .holding-is)) refl (L .waiting-is) (L .closing-is)
+
+  -- ---- any place
+
+  module _ (p : List ℕ) (k : ℕ) where
+    -- Filing leaves a sound state,
+    pub filed-sound : (place : Place) → Fine c place k (length p) → Sound (filedAs place c r k p .state) (filedAs place c r k p .left)
+    filed-sound Place.Replies F = reply-sound p (F .least) (F .most) (F .room refl) k (F .some) (F .byte)
+    filed-sound Place.Events F = event-sound p (F .least) (F .most) (F .room refl) k
+    filed-sound Place.Dropped F = dropped-sound p k (F .some)
+
+    -- and does as the model; an event claims nothing.
+    pub filed-read : (place : Place) → (place ≡ Place.Events → k ≡ 0) → Fine c place k (length p) → reads (filedAs place c r k p .state) (filedAs place c r k p .left)
+        ≡ filed place (record { number = c .read; packet = p; descriptors = take k (reads c r .waiting) }) (setWaiting (reads c r) (drop k (reads c r .waiting)))
+    filed-read Place.Replies z F = reply-read p (F .least) (F .most) (F .room refl) k (F .some) (F .byte)
+    filed-read Place.Events z F =
+        event-read p (F .least) (F .most) (F .room refl) k
+        ∙ ap (λ (m : ℕ). filed Place.Events (record { number = c .read; packet = p; descriptors = take m (reads c r .waiting) }) (setWaiting (reads c r) (drop m (reads c r .waiting)))) (sym (z refl))
+    filed-read Place.Dropped z F = dropped-read p k (F .some)

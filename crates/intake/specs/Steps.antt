@@ -1,0 +1,106 @@
+-- How filing and the step come out, each way. Assumes nothing.
+use mathlib.Core.Path.{_≡_, refl, sym, ap, _∙_, subst}
+use mathlib.Core.Bool.{Bool, true, false}
+use mathlib.Core.List.{List}
+use Prim.Native.Nat.{ℕ, _+_, _≤_, _<_}
+use native.Mathlib.Omega.{arith}
+use lib.ListN.{length}
+use Rattle.refusal.specs.Answer.{Answer, gives, refuses, refuse, pass}
+use Rattle.refusal.specs.Numbers.{numberOf}
+use Rattle.refusal.specs.declared.Refusal.{Refusal}
+use Rattle.sequence.specs.declared.SequenceNumber.{SequenceNumber}
+use Rattle.held.specs.Head.{held, reply, event, leastPacket}
+use Rattle.held.specs.Moves.{Left, left, Room, Leaves, appended}
+use Rattle.held.specs.declared.Window.{Window}
+use Rattle.descriptors.specs.Room as Slots
+use Rattle.descriptors.specs.declared.Counts.{Counts}
+use Rattle.model.specs.Model.{codeOf, isHeld}
+use Rattle.model.specs.Reading.{rooms}
+use Rattle.model.specs.Promise.{exact-refused, exact-given}
+use Rattle.model.specs.Says.{saysEnqueued}
+use Rattle.model.specs.declared.Connection.{Connection}
+use Rattle.model.specs.declared.Enqueued.the-variants as Enqueued
+use Rattle.model.specs.declared.Place.{Place}
+use Rattle.model.specs.declared.Place.the-variants as Place
+use Rattle.intake.specs.declared.Plan.{Plan}
+use Rattle.intake.specs.declared.Plan.the-variants as Plan
+use Rattle.intake.specs.Plan.{saysPlan, Ready, planOf}
+use Rattle.intake.specs.Exact.{numberedState, movedState, filing, filedAs, MayFile, FileDone, carriedOut, enqueueExact, shown, EnqueueStep}
+use Rattle.intake.specs.Planned.{Planned, planned}
+
+-- ---- filing
+
+module _ (c : Connection) (s f : List ℕ) (place : Place) (k : ℕ) (p : List ℕ) (w : Window) (n : Counts) (a : Connection) (A : a ≡ movedState c w n) where
+  pub file-reply : place ≡ Place.Replies → (s' : List ℕ) → Leaves (appended (c .window) s (held (c .read) k reply p)) w s' → n ≡ Slots.holdCounts k (c .counts) → FileDone c s f place k p a s' f
+  unfolding Slots.hold
+  file-reply e s' l h = record {
+    done = λ q.
+        (λ i. record { value = filing place (c .read); state = (A ∙ (λ j. movedState c (l .window j) (h j))) i; left = rooms q (l .store i) f })
+        ∙ (λ i. record {
+          value = filing (e i) (c .read);
+          state = movedState c (appended (c .window) s (held (c .read) k reply p) .window) (Slots.holdCounts k (c .counts));
+          left = rooms q (appended (c .window) s (held (c .read) k reply p) .store) f;
+        })
+        ∙ ap (λ (x : Place). filedAs x c (rooms q s f) k p) (sym e);
+  }
+
+  pub file-event : place ≡ Place.Events → (s' : List ℕ) → Leaves (appended (c .window) s (held (c .read) 0 event p)) w s' → n ≡ c .counts → FileDone c s f place k p a s' f
+  file-event e s' l h = record {
+    done = λ q.
+        (λ i. record { value = filing place (c .read); state = (A ∙ (λ j. movedState c (l .window j) (h j))) i; left = rooms q (l .store i) f })
+        ∙ (λ i. record {
+          value = filing (e i) (c .read);
+          state = movedState c (appended (c .window) s (held (c .read) 0 event p) .window) (c .counts);
+          left = rooms q (appended (c .window) s (held (c .read) 0 event p) .store) f;
+        })
+        ∙ ap (λ (x : Place). filedAs x c (rooms q s f) k p) (sym e);
+  }
+
+  pub file-dropped : place ≡ Place.Dropped → (f' : List ℕ) → w ≡ c .window → Slots.room f' n ≡ Slots.closeWaiting k (Slots.room f (c .counts)) → FileDone c s f place k p a s f'
+  file-dropped e f' v h = record {
+    done = λ q.
+        (λ i. record { value = filing place (c .read); state = (A ∙ (λ j. movedState c (v j) (h j .counts))) i; left = rooms q s (h i .slots) })
+        ∙ (λ i. record {
+          value = filing (e i) (c .read);
+          state = movedState c (c .window) (Slots.closeWaiting k (Slots.room f (c .counts)) .counts);
+          left = rooms q s (Slots.closeWaiting k (Slots.room f (c .counts)) .slots);
+        })
+        ∙ ap (λ (x : Place). filedAs x c (rooms q s f) k p) (sym e);
+  }
+
+-- ---- the step
+
+module _ (c : Connection) (q s f p : List ℕ) (x : Plan) (e : saysPlan x ≡ planOf c q p) where
+  pub step-stop : (r : Refusal) → x ≡ Plan.Stop r → EnqueueStep c q s f p (Enqueued.Refused r) s f
+  unfolding enqueueExact pass
+  step-stop r g = record {
+    exact = exact-refused shown (enqueueExact c (rooms q s f) p) (rooms q s f) (numberOf r) (ap (λ z. pass z (λ t. gives (carriedOut c (rooms q s f) p t))) (ap saysPlan (sym g) ∙ e));
+  }
+
+  module _ (place : Place) (n : SequenceNumber) (k : ℕ) (g : x ≡ Plan.File place n k) where
+    pub step-planned : Planned c q p (record { place = place; number = n .0; claimed = k })
+    step-planned = planned c q p _ (ap saysPlan (sym g) ∙ e)
+
+    pub step-some : 0 < length p
+    step-some = omega (arith, step-planned .least)
+
+    module _ (next : Connection) (N : next ≡ numberedState c (codeOf p) (n .0)) where
+      pub step-may : Ready c q s f → MayFile next s f place k (length p)
+      step-may R =
+          let P = step-planned in
+          subst (λ (y : Connection). MayFile y s f place k (length p)) (sym N)
+          (record {
+            slots = R .slots;
+            some = P .some;
+            room = λ h. record { order = R .order; within = R .within; most = P .most; room = omega (arith, P .room h, R .store) };
+          })
+
+      pub step-file : (a : Connection) (s' f' : List ℕ) → FileDone next s f place k p a s' f' → EnqueueStep c q s f p (Enqueued.Filed place n a) s' f'
+      unfolding enqueueExact carriedOut pass
+      step-file a s' f' d =
+          let z : record { value = filing place (n .0); state = a; left = rooms q s' f' } ≡ filedAs place (numberedState c (codeOf p) (n .0)) (rooms q s f) k p =
+          (λ i. record { value = filing place (sym N i .read); state = a; left = rooms q s' f' }) ∙ d .done q ∙ ap (λ (y : Connection). filedAs place y (rooms q s f) k p) N in
+          record {
+            exact = exact-given shown (enqueueExact c (rooms q s f) p) (rooms q s f) (record { value = filing place (n .0); state = a; left = rooms q s' f' })
+                (ap gives z ∙ ap (λ y. pass y (λ t. gives (carriedOut c (rooms q s f) p t))) (ap saysPlan (sym g) ∙ e));
+          }
