@@ -8,12 +8,17 @@ use lib.ListN.{length}
 use Rattle.octets.specs.Bytes.{legal}
 use Rattle.refusal.specs.Answer.{Answer, gives, refuses, refuse}
 use Rattle.model.specs.Client.{Client}
-use Rattle.model.specs.Model.{mostDescriptors, roomy, fresh, new, takeClosed, prepareCheck}
+use Rattle.model.specs.Model.{mostDescriptors, roomy, fresh, sendRequest, enqueueFds, takeClosed, Filing, enqueuePacket, Taken, pollForReplyOrError, pollCheck, pollForReply, prepareCheck, pollForEvent}
 use Rattle.model.specs.Reading.{Rooms, rooms, reads}
 use Rattle.model.specs.Promise.{Done, Exact, Promise, outputOf, modelOf, guarded}
+use Rattle.model.specs.Says.{Shown, shownTaken, ShownEvent, shownEvent, ShownPoll, shownPoll, bytesOfTaken, descriptorsOfTaken, bytesOfPoll}
 use Rattle.model.specs.declared.Connection.{Connection}
-use Rattle.sending.specs.Send.{same}
+use Rattle.model.specs.declared.ReplyFdKind.{ReplyFdKind}
+use Rattle.sending.specs.Send.{same, sendExact}
+use Rattle.sending.specs.Fds as Fds
 use Rattle.sending.specs.Fds.{closeExact}
+use Rattle.intake.specs.Exact.{enqueueExact, shown}
+use Rattle.polling.specs.Exact.{eventExact, takenExact, checkedExact, repliedExact}
 
 -- a state with nothing sent, read or held
 abbrev pub freshState : ℕ → ℕ → ℕ → Connection
@@ -49,10 +54,39 @@ pub record Opens (o : ℕ) (r : Rooms) (a : Answer (Unit × Connection)) : Type 
   pub exact : Exact same (openExact o r) r a r
   pub model : modelOf (openExact o r) ≡ opened o r
 
--- `take_closed_fds`: the promise, and the close list at the start of the output.
-pub record Closes (c : Connection) (r : Rooms) (out : List ℕ) (a : Answer (ℕ × Connection)) (r' : Rooms) (out' : List ℕ) : Type 0 where
-  pub promise : Promise length (closeExact c r (length out)) (λ m. takeClosed m (length out)) c r a r'
-  pub output : out' ≡ outputOf same (guarded c r (closeExact c r (length out))) out
+-- ---- the promises, call by call: what the call is exactly, and which function of the model that is
+
+abbrev pub Sends : Connection → Rooms → ReplyFdKind → Answer (ℕ × Connection) → Rooms → Type 0
+Sends c r kind = Promise same (sendExact c r kind) (λ m. sendRequest m kind) c r
+
+abbrev pub EnqueuesFds : Connection → Rooms → List ℕ → Answer (Unit × Connection) → Rooms → Type 0
+EnqueuesFds c r list = Promise same (Fds.enqueueExact c r list) (λ m. enqueueFds m list) c r
+
+abbrev pub Enqueues : Connection → Rooms → List ℕ → Answer (Filing × Connection) → Rooms → Type 0
+Enqueues c r p = Promise shown (enqueueExact c r p) (λ m. enqueuePacket m p) c r
+
+-- A call that hands something out: its promise, and what g takes of the value at the start of the lent output.
+pub record Hands {A B : Type 0} (f : A → B) (g : A → List ℕ) (e : Answer (Done A)) (m : Client → Answer (A × Client)) (c : Connection) (r : Rooms) (out : List ℕ)
+    (a : Answer (B × Connection)) (r' : Rooms) (out' : List ℕ) : Type 0 where
+  pub promise : Promise f e m c r a r'
+  pub output : out' ≡ outputOf g (guarded c r e) out
+
+abbrev pub Closes : Connection → Rooms → List ℕ → Answer (ℕ × Connection) → Rooms → List ℕ → Type 0
+Closes c r out = Hands length same (closeExact c r (length out)) (λ m. takeClosed m (length out)) c r out
+
+abbrev pub PollsEvent : Connection → Rooms → List ℕ → Answer (ShownEvent × Connection) → Rooms → List ℕ → Type 0
+PollsEvent c r out = Hands shownEvent bytesOfTaken (eventExact c r (length out)) (λ m. pollForEvent m (length out)) c r out
+
+abbrev pub Checks : Connection → Rooms → ℕ → List ℕ → Answer (ShownPoll × Connection) → Rooms → List ℕ → Type 0
+Checks c r n out = Hands shownPoll bytesOfPoll (checkedExact c r n (length out)) (λ m. pollCheck m n (length out)) c r out
+
+abbrev pub PollsReply : Connection → Rooms → ℕ → List ℕ → Answer (ShownPoll × Connection) → Rooms → List ℕ → Type 0
+PollsReply c r n out = Hands shownPoll bytesOfPoll (repliedExact c r n (length out)) (λ m. pollForReply m n (length out)) c r out
+
+-- `poll_for_reply_or_error` has two outputs, for the packet and for its descriptors.
+pub record Polls (c : Connection) (r : Rooms) (n : ℕ) (out fds : List ℕ) (a : Answer (Shown × Connection)) (r' : Rooms) (out' fds' : List ℕ) : Type 0 where
+  pub packet : Hands shownTaken bytesOfTaken (takenExact c r n (length out) (length fds)) (λ m. pollForReplyOrError m n (length out) (length fds)) c r out a r' out'
+  pub descriptors : fds' ≡ outputOf descriptorsOfTaken (guarded c r (takenExact c r n (length out) (length fds))) fds
 
 -- `prepare_check_for_reply_or_error`: 9, or the model's word; state and rooms are not even lent to be written.
 abbrev pub Prepares : Connection → Rooms → ℕ → Answer Bool → Type 0

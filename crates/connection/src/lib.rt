@@ -11,7 +11,10 @@ use held::Window;
 use model::Closed;
 use model::Connection;
 use model::Enqueued;
+use model::Event;
 use model::Next;
+use model::PollReply;
+use model::Polled;
 use model::Prepared;
 use model::ReplyFdKind;
 use model::Sent;
@@ -19,14 +22,10 @@ use refusal::Refusal;
 ghost use mathlib.Core.Path.{_≡_};
 ghost use mathlib.Core.List.{List};
 ghost use lib.ListN.{length};
-ghost use Rattle.model.specs.Model.{sendRequest, enqueueFds, enqueuePacket, roomy};
+ghost use Rattle.model.specs.Model.{roomy};
 ghost use Rattle.model.specs.Reading.{rooms};
-ghost use Rattle.model.specs.Promise.{Promise};
-ghost use Rattle.model.specs.Says.{saysNext, saysSent, saysEnqueued, saysClosed, saysPrepared};
-ghost use Rattle.sending.specs.Send.{same, sendExact};
-ghost use Rattle.sending.specs.Fds.{enqueueExact as Fds·enqueueExact};
-ghost use Rattle.intake.specs.Exact.{enqueueExact, shown};
-ghost use Rattle.connection.specs.Calls.{Opens, Closes, Prepares, freshState as Calls·freshState};
+ghost use Rattle.model.specs.Says.{saysNext, saysSent, saysEnqueued, saysPolled, saysPollReply, saysEvent, saysClosed, saysPrepared};
+ghost use Rattle.connection.specs.Calls.{Opens, Sends, EnqueuesFds, Enqueues, Polls, Checks, PollsReply, PollsEvent, Closes, Prepares, freshState as Calls·freshState};
 
 // A fresh connection in these rooms: its request room and its packet store have the lengths that
 // they are lent with from then on. Refused by 9 for a room out of range or other than 256 slots for
@@ -56,7 +55,7 @@ pub fn send_request(
     slots: &[u32],
     kind: ReplyFdKind,
 ) -> Sent
-    ensures { λ r. ⌜ Promise same (sendExact c (rooms (now (requests .entry)) (now (store .entry)) (now (slots .entry))) kind) (λ m. sendRequest m kind) c (rooms (now (requests .entry)) (now (store .entry)) (now (slots .entry))) (saysSent r) (rooms (now (requests .exit)) (now (store .entry)) (now (slots .entry))) ⌝ }
+    ensures { λ r. ⌜ Sends c (rooms (now (requests .entry)) (now (store .entry)) (now (slots .entry))) kind (saysSent r) (rooms (now (requests .exit)) (now (store .entry)) (now (slots .entry))) ⌝ }
 {
     if !model::is_sound(c, requests, store, slots) {
         return Sent::Refused(Refusal::BadRoom);
@@ -73,7 +72,7 @@ pub fn enqueue_fds(
     slots: &mut [u32],
     list: &[u32],
 ) -> Next
-    ensures { λ r. ⌜ Promise same (Fds·enqueueExact c (rooms (now (requests .entry)) (now (store .entry)) (now (slots .entry))) (now (list .entry))) (λ m. enqueueFds m (now (list .entry))) c (rooms (now (requests .entry)) (now (store .entry)) (now (slots .entry))) (saysNext r) (rooms (now (requests .entry)) (now (store .entry)) (now (slots .exit))) ⌝ }
+    ensures { λ r. ⌜ EnqueuesFds c (rooms (now (requests .entry)) (now (store .entry)) (now (slots .entry))) (now (list .entry)) (saysNext r) (rooms (now (requests .entry)) (now (store .entry)) (now (slots .exit))) ⌝ }
 {
     if !model::is_sound(c, requests, store, slots) {
         return Next::Refused(Refusal::BadRoom);
@@ -91,12 +90,83 @@ pub fn enqueue_packet(
     slots: &mut [u32],
     packet: &[u8],
 ) -> Enqueued
-    ensures { λ r. ⌜ Promise shown (enqueueExact c (rooms (now (requests .entry)) (now (store .entry)) (now (slots .entry))) (now (packet .entry))) (λ m. enqueuePacket m (now (packet .entry))) c (rooms (now (requests .entry)) (now (store .entry)) (now (slots .entry))) (saysEnqueued r) (rooms (now (requests .entry)) (now (store .exit)) (now (slots .exit))) ⌝ }
+    ensures { λ r. ⌜ Enqueues c (rooms (now (requests .entry)) (now (store .entry)) (now (slots .entry))) (now (packet .entry)) (saysEnqueued r) (rooms (now (requests .entry)) (now (store .exit)) (now (slots .exit))) ⌝ }
 {
     if !model::is_sound(c, requests, store, slots) {
         return Enqueued::Refused(Refusal::BadRoom);
     }
     intake::enqueue_packet(c, requests, store, slots, packet)
+}
+
+// The oldest reply or error of a request, with its descriptors, which are the caller's from then on.
+// Refused by 9, and 8 where out or fds is too small.
+pub fn poll_for_reply_or_error(
+    c: Connection,
+    requests: &[u8],
+    store: &mut [u8],
+    slots: &mut [u32],
+    number: u64,
+    out: &mut [u8],
+    fds: &mut [u32],
+) -> Polled
+    ensures { λ r. ⌜ Polls c (rooms (now (requests .entry)) (now (store .entry)) (now (slots .entry))) number (now (out .entry)) (now (fds .entry)) (saysPolled r) (rooms (now (requests .entry)) (now (store .exit)) (now (slots .exit))) (now (out .exit)) (now (fds .exit)) ⌝ }
+{
+    if !model::is_sound(c, requests, store, slots) {
+        return Polled::Refused(Refusal::BadRoom);
+    }
+    polling::poll_for_reply_or_error(c, store, slots, number, out, fds)
+}
+
+// The oldest reply or error of a request; its descriptors are to be closed. NoReply only where a
+// packet above the number was read. Refused by 9, and 8 where out is too small.
+pub fn poll_check_for_reply_or_error(
+    c: Connection,
+    requests: &[u8],
+    store: &mut [u8],
+    slots: &mut [u32],
+    number: u64,
+    out: &mut [u8],
+) -> PollReply
+    ensures { λ r. ⌜ Checks c (rooms (now (requests .entry)) (now (store .entry)) (now (slots .entry))) number (now (out .entry)) (saysPollReply r) (rooms (now (requests .entry)) (now (store .exit)) (now (slots .exit))) (now (out .exit)) ⌝ }
+{
+    if !model::is_sound(c, requests, store, slots) {
+        return PollReply::Refused(Refusal::BadRoom);
+    }
+    polling::poll_check(c, store, slots, number, out)
+}
+
+// The oldest reply of a request; its descriptors are to be closed. An error becomes an event, and
+// there is no reply. Refused by 9, and 8 where out is too small for a reply.
+pub fn poll_for_reply(
+    c: Connection,
+    requests: &[u8],
+    store: &mut [u8],
+    slots: &mut [u32],
+    number: u64,
+    out: &mut [u8],
+) -> PollReply
+    ensures { λ r. ⌜ PollsReply c (rooms (now (requests .entry)) (now (store .entry)) (now (slots .entry))) number (now (out .entry)) (saysPollReply r) (rooms (now (requests .entry)) (now (store .exit)) (now (slots .exit))) (now (out .exit)) ⌝ }
+{
+    if !model::is_sound(c, requests, store, slots) {
+        return PollReply::Refused(Refusal::BadRoom);
+    }
+    polling::poll_for_reply(c, store, slots, number, out)
+}
+
+// The oldest event, with its number. Refused by 9, and 8 where out is too small.
+pub fn poll_for_event_with_sequence(
+    c: Connection,
+    requests: &[u8],
+    store: &mut [u8],
+    slots: &[u32],
+    out: &mut [u8],
+) -> Event
+    ensures { λ r. ⌜ PollsEvent c (rooms (now (requests .entry)) (now (store .entry)) (now (slots .entry))) (now (out .entry)) (saysEvent r) (rooms (now (requests .entry)) (now (store .exit)) (now (slots .entry))) (now (out .exit)) ⌝ }
+{
+    if !model::is_sound(c, requests, store, slots) {
+        return Event::Refused(Refusal::BadRoom);
+    }
+    polling::poll_for_event(c, store, out)
 }
 
 // The descriptors to be closed, whole and in their order. Refused by 9, and 8 where out has too few

@@ -1,0 +1,48 @@
+-- `connection::poll_for_reply` meets its contract. Assumes nothing.
+use Rattle.polling.specs.Theorems.{ready, replied-model}
+use Rattle.connection.specs.Laws.{hands-unsound, hands-sound}
+use Rattle.model.specs.Sound.{sound-is, sound-seen, unsound-seen}
+use borrow.Author.Needs.{needs}
+use Rattle.connection.proofs.poll_for_reply.Statement.{statement}
+use Rattle.connection.proofs.poll_for_reply.Tie as tie
+
+is-sound-requires : tie.Need-is-sound-requires
+is-sound-requires c κs = search needs
+
+same-length : tie.Need-same-length
+same-length c = search needs
+
+same-length-2 : tie.Need-same-length-2
+same-length-2 c = search needs
+
+returns : tie.Need-returns
+returns c = hands-unsound _ _ _ _ _ _ _ (λ S. replied-model _ _ S _ _) (unsound-seen _ _ _ (c .before .is-sound .ensures) (c .if1 .taken))
+
+poll-for-reply-requires : tie.Need-poll-for-reply-requires
+poll-for-reply-requires c κs = ready _ _ (sound-is _ _ (sound-seen _ _ _ (c .before .before .before .before .is-sound .ensures) (c .before .before .before .if1 .left)))
+
+same-length-3 : tie.Need-same-length-3
+same-length-3 c = search needs
+
+same-length-4 : tie.Need-same-length-4
+same-length-4 c = search needs
+
+same-length-5 : tie.Need-same-length-5
+same-length-5 c = search needs
+
+returns-2 : tie.Need-returns-2
+returns-2 c = hands-sound _ _ _ _ _ _ _ (λ S. replied-model _ _ S _ _) _ _ _ (sound-seen _ _ _ (c .before .before .before .before .before .before .before .before .before .before .before .is-sound .ensures) (c .before .before .before .before .before .before .before .before .before .before .if1 .left)) (c .before .before .before .before .before .before .poll-for-reply .ensures .exact _) (c .before .before .before .before .before .before .poll-for-reply .ensures .output _)
+
+pub poll-for-reply-spec : {M : Type 1} → statement M
+poll-for-reply-spec =
+    tie.close
+    (tie.spec
+    is-sound-requires
+    same-length
+    same-length-2
+    returns
+    poll-for-reply-requires
+    same-length-3
+    same-length-4
+    same-length-5
+    returns-2)

@@ -1,0 +1,79 @@
+-- `polling::poll_check` meets its contract. Assumes nothing.
+use mathlib.Core.Path.{_∙_, sym}
+use Rattle.polling.specs.Steps.{reply-within, reply-slots, checked-short, checked-given, checked-past, checked-again}
+use borrow.Author.Needs.{needs}
+use Rattle.polling.proofs.poll_check.Statement.{statement}
+use Rattle.polling.proofs.poll_check.Tie as tie
+
+find-reply-requires : tie.Need-find-reply-requires
+find-reply-requires c κs = search needs
+
+enum-known-place : tie.Need-enum-known-place
+enum-known-place c = search needs
+
+same-length : tie.Need-same-length
+same-length c = search needs
+
+returns : tie.Need-returns
+returns c = checked-short _ _ _ _ (c .before .before .before .before .before .before .before .before .before .before .before .pre) (c .before .before .place .given .0 .0) (sym (c .before .before .place .given .1) ∙ c .before .before .before .before .find-reply .ensures) _ (c .if1 .taken)
+
+cast-n : tie.Need-cast-n
+cast-n c = search needs
+
+close-held-requires : tie.Need-close-held-requires
+close-held-requires c κs = reply-slots (c .before .before .before .before .before .before .before .before .before .before .before .before .before .args .c) _ _ _ (c .before .before .before .before .before .before .before .before .before .before .before .before .before .pre) (c .before .before .before .before .place .given .0 .0) (sym (c .before .before .before .before .place .given .1) ∙ c .before .before .before .before .before .before .find-reply .ensures)
+
+take-requires : tie.Need-take-requires
+take-requires c κs = (reply-within (c .before .before .before .before .before .before .before .before .before .before .before .before .before .before .before .before .before .before .args .c) _ _ _ (c .before .before .before .before .before .before .before .before .before .before .before .before .before .before .before .before .before .before .pre) (c .before .before .before .before .before .before .before .before .before .place .given .0 .0) (sym (c .before .before .before .before .before .before .before .before .before .place .given .1) ∙ c .before .before .before .before .before .before .before .before .before .before .before .find-reply .ensures), search needs)
+
+left-requires : tie.Need-left-requires
+left-requires c κs = search needs
+
+enum-told : tie.Need-enum-told
+enum-told c = search needs
+
+same-length-2 : tie.Need-same-length-2
+same-length-2 c = search needs
+
+returns-2 : tie.Need-returns-2
+returns-2 c = checked-past _ _ _ _ (sym (c .before .before .enum-told .given .1) ∙ c .before .before .before .before .find-reply .ensures) _ (c .if2 .taken)
+
+same-length-3 : tie.Need-same-length-3
+same-length-3 c = search needs
+
+same-length-4 : tie.Need-same-length-4
+same-length-4 c = search needs
+
+same-length-5 : tie.Need-same-length-5
+same-length-5 c = search needs
+
+returns-3 : tie.Need-returns-3
+returns-3 c = checked-given _ _ _ _ (c .before .before .before .before .before .before .before .before .before .before .before .before .before .before .before .before .before .before .before .before .before .before .before .before .pre) (c .before .before .before .before .before .before .before .before .before .before .before .before .before .before .before .place .given .0 .0) (sym (c .before .before .before .before .before .before .before .before .before .before .before .before .before .before .before .place .given .1) ∙ c .before .before .before .before .before .before .before .before .before .before .before .before .before .before .before .before .before .find-reply .ensures) _ (c .before .before .before .before .before .before .before .before .before .before .before .before .before .if1 .left) _ _ _ _ _ _ (c .before .before .before .before .before .take .ensures) (c .before .before .before .before .before .before .before .before .before .before .close-held .ensures) (c .left .ensures)
+
+same-length-6 : tie.Need-same-length-6
+same-length-6 c = search needs
+
+returns-4 : tie.Need-returns-4
+returns-4 c = checked-again _ _ _ _ (sym (c .before .before .enum-told .given .1) ∙ c .before .before .before .before .find-reply .ensures) _ (c .if2 .left)
+
+pub poll-check-spec : {M : Type 1} → statement M
+poll-check-spec =
+    tie.close
+    (tie.spec
+    find-reply-requires
+    enum-known-place
+    same-length
+    returns
+    cast-n
+    close-held-requires
+    take-requires
+    left-requires
+    enum-told
+    same-length-2
+    returns-2
+    same-length-3
+    same-length-4
+    same-length-5
+    returns-3
+    same-length-6
+    returns-4)

@@ -1,0 +1,59 @@
+-- `polling::poll_for_event` meets its contract. Assumes nothing.
+use mathlib.Core.Path.{_∙_, sym}
+use Rattle.polling.specs.Steps.{event-short, event-taken, event-none, event-within}
+use borrow.Author.Needs.{needs}
+use Rattle.polling.proofs.poll_for_event.Statement.{statement}
+use Rattle.polling.proofs.poll_for_event.Tie as tie
+
+find-event-requires : tie.Need-find-event-requires
+find-event-requires c κs = search needs
+
+enum-known-place : tie.Need-enum-known-place
+enum-known-place c = search needs
+
+same-length : tie.Need-same-length
+same-length c = search needs
+
+returns : tie.Need-returns
+returns c = event-short _ _ (c .before .before .before .before .before .before .before .before .before .pre) (c .before .before .place .given .0 .0) (sym (c .before .before .place .given .1) ∙ c .before .before .before .before .find-event .ensures) _ (c .if1 .taken)
+
+take-requires : tie.Need-take-requires
+take-requires c κs = (event-within (c .before .before .before .before .before .before .before .before .before .before .before .args .c) _ (c .before .before .before .before .before .before .before .before .before .before .before .pre) (c .before .before .before .before .place .given .0 .0) (sym (c .before .before .before .before .place .given .1) ∙ c .before .before .before .before .before .before .find-event .ensures), search needs)
+
+left-requires : tie.Need-left-requires
+left-requires c κs = search needs
+
+enum-told : tie.Need-enum-told
+enum-told c = search needs
+
+same-length-2 : tie.Need-same-length-2
+same-length-2 c = search needs
+
+same-length-3 : tie.Need-same-length-3
+same-length-3 c = search needs
+
+returns-2 : tie.Need-returns-2
+returns-2 c = event-taken _ _ (c .before .before .before .before .before .before .before .before .before .before .before .before .before .before .before .before .before .pre) (c .before .before .before .before .before .before .before .before .before .before .place .given .0 .0) (sym (c .before .before .before .before .before .before .before .before .before .before .place .given .1) ∙ c .before .before .before .before .before .before .before .before .before .before .before .before .find-event .ensures) _ (c .before .before .before .before .before .before .before .before .if1 .left) _ _ _ _ (c .before .before .before .before .before .take .ensures) (c .left .ensures)
+
+same-length-4 : tie.Need-same-length-4
+same-length-4 c = search needs
+
+returns-3 : tie.Need-returns-3
+returns-3 c = event-none _ _ _ (sym (c .enum-told .given .1) ∙ c .before .before .find-event .ensures)
+
+pub poll-for-event-spec : {M : Type 1} → statement M
+poll-for-event-spec =
+    tie.close
+    (tie.spec
+    find-event-requires
+    enum-known-place
+    same-length
+    returns
+    take-requires
+    left-requires
+    enum-told
+    same-length-2
+    same-length-3
+    returns-2
+    same-length-4
+    returns-3)

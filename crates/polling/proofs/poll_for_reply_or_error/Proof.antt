@@ -1,0 +1,83 @@
+-- `polling::poll_for_reply_or_error` meets its contract. Assumes nothing.
+use mathlib.Core.Path.{_∙_, sym}
+use Rattle.polling.specs.Steps.{reply-within, reply-slots, taken-short, taken-narrow, taken-given, taken-none}
+use borrow.Author.Needs.{needs}
+use Rattle.polling.proofs.poll_for_reply_or_error.Statement.{statement}
+use Rattle.polling.proofs.poll_for_reply_or_error.Tie as tie
+
+find-reply-requires : tie.Need-find-reply-requires
+find-reply-requires c κs = search needs
+
+enum-known-place : tie.Need-enum-known-place
+enum-known-place c = search needs
+
+cast-n : tie.Need-cast-n
+cast-n c = search needs
+
+same-length : tie.Need-same-length
+same-length c = search needs
+
+returns : tie.Need-returns
+returns c = taken-short _ _ _ _ (c .before .before .before .before .before .before .before .before .before .before .before .before .before .pre) (c .before .before .before .place .given .0 .0) (sym (c .before .before .before .place .given .1) ∙ c .before .before .before .before .before .find-reply .ensures) _ _ (c .if1 .taken)
+
+same-length-2 : tie.Need-same-length-2
+same-length-2 c = search needs
+
+returns-2 : tie.Need-returns-2
+returns-2 c = taken-narrow _ _ _ _ (c .before .before .before .before .before .before .before .before .before .before .before .before .before .before .pre) (c .before .before .before .before .place .given .0 .0) (sym (c .before .before .before .before .place .given .1) ∙ c .before .before .before .before .before .before .find-reply .ensures) _ _ (c .before .if1 .left) (c .if2 .taken)
+
+hand-out-requires : tie.Need-hand-out-requires
+hand-out-requires c κs = let h = reply-slots (c .before .before .before .before .before .before .before .before .before .before .before .before .before .before .before .before .args .c) _ _ _ (c .before .before .before .before .before .before .before .before .before .before .before .before .before .before .before .before .pre) (c .before .before .before .before .before .before .place .given .0 .0) (sym (c .before .before .before .before .before .before .place .given .1) ∙ c .before .before .before .before .before .before .before .before .find-reply .ensures) in (h .0, h .1, search needs)
+
+take-requires : tie.Need-take-requires
+take-requires c κs = (reply-within (c .before .before .before .before .before .before .before .before .before .before .before .before .before .before .before .before .before .before .before .before .before .before .before .args .c) _ _ _ (c .before .before .before .before .before .before .before .before .before .before .before .before .before .before .before .before .before .before .before .before .before .before .before .pre) (c .before .before .before .before .before .before .before .before .before .before .before .before .before .place .given .0 .0) (sym (c .before .before .before .before .before .before .before .before .before .before .before .before .before .place .given .1) ∙ c .before .before .before .before .before .before .before .before .before .before .before .before .before .before .before .find-reply .ensures), search needs)
+
+left-requires : tie.Need-left-requires
+left-requires c κs = search needs
+
+enum-told : tie.Need-enum-told
+enum-told c = search needs
+
+same-length-3 : tie.Need-same-length-3
+same-length-3 c = search needs
+
+same-length-4 : tie.Need-same-length-4
+same-length-4 c = search needs
+
+same-length-5 : tie.Need-same-length-5
+same-length-5 c = search needs
+
+same-length-6 : tie.Need-same-length-6
+same-length-6 c = search needs
+
+returns-3 : tie.Need-returns-3
+returns-3 c = taken-given _ _ _ _ (c .before .before .before .before .before .before .before .before .before .before .before .before .before .before .before .before .before .before .before .before .before .before .before .before .before .before .before .before .before .pre) (c .before .before .before .before .before .before .before .before .before .before .before .before .before .before .before .before .before .before .before .place .given .0 .0) (sym (c .before .before .before .before .before .before .before .before .before .before .before .before .before .before .before .before .before .before .before .place .given .1) ∙ c .before .before .before .before .before .before .before .before .before .before .before .before .before .before .before .before .before .before .before .before .before .find-reply .ensures) _ _ (c .before .before .before .before .before .before .before .before .before .before .before .before .before .before .before .before .if1 .left) (c .before .before .before .before .before .before .before .before .before .before .before .before .before .before .before .if2 .left) _ _ _ _ _ _ _ (c .before .before .before .before .before .take .ensures) (c .before .before .before .before .before .before .before .before .before .before .before .before .hand-out .ensures) (c .left .ensures)
+
+same-length-7 : tie.Need-same-length-7
+same-length-7 c = search needs
+
+returns-4 : tie.Need-returns-4
+returns-4 c = taken-none _ _ _ _ (sym (c .enum-told .given .1) ∙ c .before .before .find-reply .ensures) _ _
+
+pub poll-for-reply-or-error-spec : {M : Type 1} → statement M
+poll-for-reply-or-error-spec =
+    tie.close
+    (tie.spec
+    find-reply-requires
+    enum-known-place
+    cast-n
+    same-length
+    returns
+    same-length-2
+    returns-2
+    hand-out-requires
+    take-requires
+    left-requires
+    enum-told
+    same-length-3
+    same-length-4
+    same-length-5
+    same-length-6
+    returns-3
+    same-length-7
+    returns-4)

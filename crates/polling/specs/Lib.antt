@@ -1,0 +1,4 @@
+pub mod Exact
+pub mod Steps
+pub mod Rows
+pub mod Theorems

@@ -1,0 +1,291 @@
+-- How each poll comes out: what its code needs at a place that was found, and that its outcome is the exact one. Assumes nothing.
+use mathlib.Core.Path.{_≡_, refl, sym, ap, _∙_, subst}
+use mathlib.Core.Bool.{Bool, true, false}
+use mathlib.Core.List.{List, [], _∷_, _++_}
+use Prim.Native.Nat.{ℕ, _+_, _≤_, _<_}
+use native.Mathlib.Omega.{arith}
+use lib.Dec.{ltb, eqb}
+use lib.ListN.{length, getD}
+use borrow.Author.Tests.{lt-ltb, le-ltb, eq-eqb, ne-eqb}
+use Rattle.octets.specs.Logic.{choose, either}
+use Rattle.octets.specs.Put.{put, put-none, length-cut}
+use Rattle.refusal.specs.Answer.{Answer, gives, refuses, refuse}
+use Rattle.refusal.specs.declared.Refusal.the-variants as Refusal
+use Rattle.held.specs.General.{choose-yes, choose-no}
+use Rattle.held.specs.Head.{headerSize, reply, event}
+use Rattle.held.specs.Reading as Store
+use Rattle.held.specs.Rows.{fdsIn-append}
+use Rattle.held.specs.Find.{foundReply, foundEvent}
+use Rattle.held.specs.Moves.{Left, Leaves, Within, Takes, removed, demoted, handed}
+use Rattle.held.specs.Lies.{FirstReply, FirstEvent, FindsReply, FindsEvent}
+use Rattle.held.specs.Theorems.{find-reply-law, find-event-law, place-law, first-law}
+use Rattle.held.specs.declared.Window.{Window}
+use Rattle.held.specs.declared.Place.{Place}
+use Rattle.held.specs.declared.Found.{Found}
+use Rattle.held.specs.declared.Found.the-variants as Found
+use Rattle.descriptors.specs.Room as Slots
+use Rattle.descriptors.specs.Theorems.{length-holding}
+use Rattle.descriptors.specs.declared.Counts.{Counts}
+use Rattle.model.specs.Model as Model
+use Rattle.model.specs.Model.{errorCode}
+use Rattle.model.specs.Reading.{Rooms, rooms, slotsOf}
+use Rattle.model.specs.Promise.{Done, Exact, answerOf, roomsOf, outputOf, exact-refused}
+use Rattle.model.specs.Says.{Shown, shownTaken, ShownPoll, shownPoll, ShownEvent, shownEvent, bytesOfTaken, descriptorsOfTaken, bytesOfPoll}
+use Rattle.model.specs.Says as Says
+use Rattle.model.specs.declared.Connection.{Connection}
+use Rattle.model.specs.declared.Polled.the-variants as Polled
+use Rattle.model.specs.declared.PollReply.the-variants as PollReply
+use Rattle.model.specs.declared.Event.the-variants as Event
+use Rattle.polling.specs.Exact.{Ready, leftState, stays, moved, packetAt, eventAt, replyAt, without, turnedEvent, handingOut, closing, eventFrom, eventExact, takenFrom, takenExact, checkedFrom, checkedExact, errorAt, repliedFrom, repliedExact, EventStep, TakenStep, CheckedStep, RepliedStep}
+
+-- ---- outcomes
+
+-- A step whose outcome is known, and which shows and leaves what that gives, is exact.
+exact-as : {A B : Type 0} (f : A → B) (e : Answer (Done A)) (r : Rooms) (d : Done A) (b : B) (c : Connection) (r' : Rooms) → gives d ≡ e → b ≡ f (d .value) → c ≡ d .state → r' ≡ d .left
+    → Exact f e r (gives (b, c)) r'
+unfolding answerOf roomsOf
+exact-as f e r d b c r' h x y z = record { answers = (λ k. gives (x k, y k)) ∙ ap (answerOf f) h; leaves = z ∙ ap (λ k. roomsOf k r) h }
+
+-- So with an output.
+output-as : {A : Type 0} (f : A → List ℕ) (e : Answer (Done A)) (out out' : List ℕ) (d : Done A) → gives d ≡ e → out' ≡ put out 0 (f (d .value)) → out' ≡ outputOf f e out
+unfolding outputOf
+output-as f e out out' d h x = x ∙ ap (λ k. outputOf f k out) h
+
+output-none : {A : Type 0} (f : A → List ℕ) (e : Answer (Done A)) (out : List ℕ) (d : Done A) → gives d ≡ e → f (d .value) ≡ [] → out ≡ outputOf f e out
+output-none f e out d h x = output-as f e out out d h (sym (put-none out 0) ∙ ap (put out 0) (sym x))
+
+output-refused : {A : Type 0} (f : A → List ℕ) (e : Answer (Done A)) (out : List ℕ) (n : ℕ) → refuses n ≡ e → out ≡ outputOf f e out
+unfolding outputOf
+output-refused f e out n h = ap (λ k. outputOf f k out) h
+
+-- a refusal that is given, and one that is passed
+given-refusal : {A : Type 0} (b : Bool) (n : ℕ) (a : Answer A) → b ≡ true → refuses n ≡ refuse b n a
+unfolding refuse
+given-refusal b n a h = ap (λ (t : Bool). refuse t n a) (sym h)
+
+past-refusal : {A : Type 0} (b : Bool) (n : ℕ) (a : Answer A) → b ≡ false → a ≡ refuse b n a
+unfolding refuse
+past-refusal b n a h = ap (λ (t : Bool). refuse t n a) (sym h)
+
+-- ---- the oldest event
+
+module _ (c : Connection) (s : List ℕ) (H : Store.Sound (c .read) (c .window) s) (p : Place) (e : Found.At p ≡ foundEvent (c .window) s) where
+  pub event-found : FirstEvent (c .window) s p
+  event-found = subst (FindsEvent (c .window) s) (sym e) (find-event-law (c .window) s)
+
+  pub event-within : Within (c .window) s p
+  event-within = place-law (c .read) (c .window) s H event p [] (event-found .it) (event-found .after) (event-found .lies)
+
+  module _ (out : List ℕ) where
+    pub event-short : length out < p .len → EventStep c s out (Event.Refused Refusal.OutShort) s out
+    unfolding eventExact
+    event-short h =
+        let z : (q f : List ℕ) → refuses 8 ≡ eventExact c (rooms q s f) (length out) = λ q f. given-refusal _ _ _ (lt-ltb (length out) (p .len) h) ∙ ap (eventFrom c (rooms q s f) (length out)) e in
+        record {
+          exact = λ q f. exact-refused shownEvent _ (rooms q s f) 8 (z q f);
+          output = λ q f. output-refused bytesOfTaken _ out 8 (z q f);
+        }
+
+    pub event-taken : p .len ≤ length out → (w : Window) (s' out' : List ℕ) (c' : Connection) → Takes (c .window) s p out w s' out' → c' ≡ leftState c w (c .counts)
+        → EventStep c s out (Event.Packet (record { 0 = p .number }) (p .len) c') s' out'
+    unfolding eventExact handed
+    event-taken h w s' out' c' T g =
+        let d : List ℕ → List ℕ → Done Model.Taken = λ q f. moved (Model.packet (eventAt (rooms q s f) p)) c (rooms q s f) (without c (rooms q s f) p) (slotsOf c (rooms q s f)) in
+        let z : (q f : List ℕ) → gives (d q f) ≡ eventExact c (rooms q s f) (length out) = λ q f. past-refusal _ _ _ (le-ltb (length out) (p .len) h) ∙ ap (eventFrom c (rooms q s f) (length out)) e in
+        let l : p .len ≡ length (packetAt s p) = sym (length-cut (p .at + headerSize) (p .len) s (omega (arith, event-within .fits, event-within .within))) in
+        record {
+          exact = λ q f. exact-as shownEvent _ (rooms q s f) (d q f) (Says.event (p .number) (p .len)) c' (rooms q s' f) (z q f) (ap (Says.event (p .number)) l)
+              (g ∙ ap (λ (v : Window). leftState c v (c .counts)) (T .left .window))
+              (ap (λ (x : List ℕ). rooms q x f) (T .left .store));
+          output = λ q f. output-as bytesOfTaken _ out out' (d q f) (z q f) (T .output);
+        }
+
+pub event-none : (c : Connection) (s out : List ℕ) → Found.Nothing ≡ foundEvent (c .window) s → EventStep c s out (Event.Nothing c) s out
+unfolding eventExact
+event-none c s out e =
+    let z : (q f : List ℕ) → gives (stays Model.none c (rooms q s f)) ≡ eventExact c (rooms q s f) (length out) = λ q f. ap (eventFrom c (rooms q s f) (length out)) e in
+    record {
+      exact = λ q f. exact-as shownEvent _ (rooms q s f) _ Says.noEvent c (rooms q s f) (z q f) refl refl refl;
+      output = λ q f. output-none bytesOfTaken _ out _ (z q f) refl;
+    }
+
+-- ---- the oldest reply of a number
+
+module _ (c : Connection) (n : ℕ) (s f : List ℕ) (R : Ready c s f) (p : Place) (e : Found.At p ≡ foundReply n (c .window) s) where
+  pub reply-found : FirstReply n (c .window) s p
+  reply-found = subst (FindsReply n (c .window) s) (sym e) (find-reply-law n (c .read) (c .window) s (R .held))
+
+  pub reply-within : Within (c .window) s p
+  reply-within = place-law (c .read) (c .window) s (R .held) reply p (reply-found .before) (reply-found .it) (reply-found .after) (reply-found .lies)
+
+  pub reply-byte : p .at + headerSize < length s
+  reply-byte = first-law (c .read) (c .window) s (R .held) reply p (reply-found .before) (reply-found .it) (reply-found .after) (reply-found .lies) .0
+
+  -- Its descriptors are among those held.
+  pub reply-run : p .before + p .fds ≤ c .counts .held
+  unfolding Store.fdsIn
+  reply-run =
+      omega (arith, reply-found .count, reply-found .fds, ap Store.fdsIn (reply-found .split), fdsIn-append (reply-found .before) (reply-found .it ∷ reply-found .after), R .descriptors)
+
+  pub reply-slots : Slots.Sound (Slots.room f (c .counts)) × (p .before + p .fds ≤ c .counts .held)
+  reply-slots = (R .slots, reply-run)
+
+  -- as many bytes and descriptors as its place says
+  pub packet-length : p .len ≡ length (packetAt s p)
+  packet-length = sym (length-cut (p .at + headerSize) (p .len) s (omega (arith, reply-within .fits, reply-within .within)))
+
+  pub run-length : p .fds ≡ length (Slots.heldRun (p .before) (p .fds) (Slots.room f (c .counts)))
+  unfolding Slots.heldRun
+  run-length = sym (length-cut (p .before) (p .fds) _ (omega (arith, reply-run, length-holding (Slots.room f (c .counts)) (R .slots))))
+
+  -- what a removal and a move of slots hand back
+  state-left : (w : Window) (d : Slots.Room) (l : Left) (n' : Counts) (f' s' : List ℕ) (c' : Connection) → Leaves l w s' → Slots.room f' n' ≡ d → c' ≡ leftState c w n' → c' ≡ leftState c (l .window) (d .counts)
+  state-left w d l n' f' s' c' L D g = g ∙ (λ k. leftState c (L .window k) (D k .counts))
+
+  rooms-left : (q : List ℕ) (w : Window) (d : Slots.Room) (l : Left) (n' : Counts) (f' s' : List ℕ) → Leaves l w s' → Slots.room f' n' ≡ d → rooms q s' f' ≡ rooms q (l .store) (d .slots)
+  rooms-left q w d l n' f' s' L D = λ k. rooms q (L .store k) (D k .slots)
+
+  -- ---- `poll_for_reply_or_error`
+
+  module _ (out fds : List ℕ) where
+    taken-refused : either (ltb (length out) (p .len)) (ltb (length fds) (p .fds)) ≡ true → TakenStep c n s f out fds (Polled.Refused Refusal.OutShort) s f out fds
+    unfolding takenExact
+    taken-refused h =
+        let z : (q : List ℕ) → refuses 8 ≡ takenExact c (rooms q s f) n (length out) (length fds) = λ q. given-refusal _ _ _ h ∙ ap (takenFrom c (rooms q s f) (length out) (length fds)) e in
+        record {
+          exact = λ q. exact-refused shownTaken _ (rooms q s f) 8 (z q);
+          output = λ q. output-refused bytesOfTaken _ out 8 (z q);
+          places = λ q. output-refused descriptorsOfTaken _ fds 8 (z q);
+        }
+
+    pub taken-short : length out < p .len → TakenStep c n s f out fds (Polled.Refused Refusal.OutShort) s f out fds
+    unfolding either
+    taken-short h = taken-refused (ap (λ (t : Bool). either t (ltb (length fds) (p .fds))) (lt-ltb (length out) (p .len) h))
+
+    pub taken-narrow : p .len ≤ length out → length fds < p .fds → TakenStep c n s f out fds (Polled.Refused Refusal.OutShort) s f out fds
+    unfolding either
+    taken-narrow h k = taken-refused (λ j. either (le-ltb (length out) (p .len) h j) (lt-ltb (length fds) (p .fds) k j))
+
+    pub taken-given : p .len ≤ length out → p .fds ≤ length fds → (w : Window) (n' : Counts) (s' f' out' fds' : List ℕ) (c' : Connection)
+        → Takes (c .window) s p out w s' out'
+        → Slots.Gives (Slots.handOut (p .before) (p .fds) (Slots.room f (c .counts))) (Slots.heldRun (p .before) (p .fds) (Slots.room f (c .counts))) fds (Slots.room f' n') fds'
+        → c' ≡ leftState c w n' → TakenStep c n s f out fds (Polled.Packet (p .len) (p .fds) c') s' f' out' fds'
+    unfolding takenExact handed either
+    taken-given h k w n' s' f' out' fds' c' T G g =
+        let d : List ℕ → Done Model.Taken = λ q. moved (Model.packet (replyAt c (rooms q s f) p)) c (rooms q s f) (without c (rooms q s f) p) (handingOut c (rooms q s f) p) in
+        let b : either (ltb (length out) (p .len)) (ltb (length fds) (p .fds)) ≡ false = λ j. either (le-ltb (length out) (p .len) h j) (le-ltb (length fds) (p .fds) k j) in
+        let z : (q : List ℕ) → gives (d q) ≡ takenExact c (rooms q s f) n (length out) (length fds) = λ q. past-refusal _ _ _ b ∙ ap (takenFrom c (rooms q s f) (length out) (length fds)) e in
+        record {
+          exact = λ q. exact-as shownTaken _ (rooms q s f) (d q) (Says.packet (record { bytes = p .len; places = p .fds })) c' (rooms q s' f') (z q)
+              (λ j. Says.packet (record { bytes = packet-length j; places = run-length j }))
+              (state-left w _ _ n' f' s' c' (T .left) (G .left) g)
+              (rooms-left q w _ _ n' f' s' (T .left) (G .left));
+          output = λ q. output-as bytesOfTaken _ out out' (d q) (z q) (T .output);
+          places = λ q. output-as descriptorsOfTaken _ fds fds' (d q) (z q) (G .given);
+        }
+
+  -- ---- `poll_check_for_reply_or_error`
+
+  module _ (out : List ℕ) where
+    pub checked-short : length out < p .len → CheckedStep c n s f out (PollReply.Refused Refusal.OutShort) s f out
+    unfolding checkedExact
+    checked-short h =
+        let z : (q : List ℕ) → refuses 8 ≡ checkedExact c (rooms q s f) n (length out) =
+        λ q. given-refusal _ _ _ (lt-ltb (length out) (p .len) h) ∙ ap (checkedFrom c (rooms q s f) n (length out)) e in
+        record { exact = λ q. exact-refused shownPoll _ (rooms q s f) 8 (z q); output = λ q. output-refused bytesOfPoll _ out 8 (z q) }
+
+    pub checked-given : p .len ≤ length out → (w : Window) (n' : Counts) (s' f' out' : List ℕ) (c' : Connection)
+        → Takes (c .window) s p out w s' out'
+        → Slots.room f' n' ≡ Slots.closeHeld (p .before) (p .fds) (Slots.room f (c .counts))
+        → c' ≡ leftState c w n' → CheckedStep c n s f out (PollReply.Reply (p .len) c') s' f' out'
+    unfolding checkedExact handed
+    checked-given h w n' s' f' out' c' T G g =
+        let d : List ℕ → Done Model.PollReply = λ q. moved (Model.reply (replyAt c (rooms q s f) p)) c (rooms q s f) (without c (rooms q s f) p) (closing c (rooms q s f) p) in
+        let z : (q : List ℕ) → gives (d q) ≡ checkedExact c (rooms q s f) n (length out) =
+        λ q. past-refusal _ _ _ (le-ltb (length out) (p .len) h) ∙ ap (checkedFrom c (rooms q s f) n (length out)) e in
+        record {
+          exact = λ q. exact-as shownPoll _ (rooms q s f) (d q) (Says.reply (p .len)) c' (rooms q s' f') (z q) (ap Says.reply packet-length)
+              (state-left w _ _ n' f' s' c' (T .left) G g)
+              (rooms-left q w _ _ n' f' s' (T .left) G);
+          output = λ q. output-as bytesOfPoll _ out out' (d q) (z q) (T .output);
+        }
+
+    -- ---- `poll_for_reply`
+
+    is-error : (b : ℕ) → b ≡ getD s (p .at + headerSize) 0 → b ≡ errorCode → (r : Rooms) → r .store ≡ s → errorAt r p ≡ true
+    is-error b x y r z = ap (λ (l : List ℕ). eqb (getD l (p .at + headerSize) 0) errorCode) z ∙ eq-eqb _ _ (sym x ∙ y)
+
+    no-error : (b : ℕ) → b ≡ getD s (p .at + headerSize) 0 → (b ≡ errorCode → ⊥) → (r : Rooms) → r .store ≡ s → errorAt r p ≡ false
+    no-error b x y r z = ap (λ (l : List ℕ). eqb (getD l (p .at + headerSize) 0) errorCode) z ∙ ne-eqb _ _ (λ k. y (x ∙ k))
+
+    pub replied-error : (b : ℕ) → b ≡ getD s (p .at + headerSize) 0 → b ≡ errorCode → (n' : Counts) (s' f' : List ℕ) (c' : Connection)
+        → s' ≡ demoted (c .window) s p
+        → Slots.room f' n' ≡ Slots.closeHeld (p .before) (p .fds) (Slots.room f (c .counts))
+        → c' ≡ leftState c (c .window) n' → RepliedStep c n s f out (PollReply.NoReply c') s' f' out
+    unfolding repliedExact choose
+    replied-error b x y n' s' f' c' T G g =
+        let d : List ℕ → Done Model.PollReply = λ q. moved Model.noReply c (rooms q s f) (turnedEvent c (rooms q s f) p) (closing c (rooms q s f) p) in
+        let z : (q : List ℕ) → gives (d q) ≡ repliedExact c (rooms q s f) n (length out) =
+        λ q. sym (choose-yes (errorAt (rooms q s f) p) _ _ (is-error b x y (rooms q s f) refl)) ∙ ap (repliedFrom c (rooms q s f) (length out)) e in
+        record {
+          exact = λ q. exact-as shownPoll _ (rooms q s f) (d q) Says.noReply c' (rooms q s' f') (z q) refl
+              (g ∙ (λ k. leftState c (c .window) (G k .counts)))
+              (λ k. rooms q (T k) (G k .slots));
+          output = λ q. output-none bytesOfPoll _ out (d q) (z q) refl;
+        }
+
+    pub replied-short : (b : ℕ) → b ≡ getD s (p .at + headerSize) 0 → (b ≡ errorCode → ⊥) → length out < p .len → RepliedStep c n s f out (PollReply.Refused Refusal.OutShort) s f out
+    unfolding repliedExact choose
+    replied-short b x y h =
+        let z : (q : List ℕ) → refuses 8 ≡ repliedExact c (rooms q s f) n (length out) =
+        λ q. given-refusal _ _ _ (lt-ltb (length out) (p .len) h) ∙ sym (choose-no (errorAt (rooms q s f) p) _ _ (no-error b x y (rooms q s f) refl)) ∙ ap (repliedFrom c (rooms q s f) (length out)) e in
+        record { exact = λ q. exact-refused shownPoll _ (rooms q s f) 8 (z q); output = λ q. output-refused bytesOfPoll _ out 8 (z q) }
+
+    pub replied-given : (b : ℕ) → b ≡ getD s (p .at + headerSize) 0 → (b ≡ errorCode → ⊥) → p .len ≤ length out → (w : Window) (n' : Counts) (s' f' out' : List ℕ) (c' : Connection)
+        → Takes (c .window) s p out w s' out'
+        → Slots.room f' n' ≡ Slots.closeHeld (p .before) (p .fds) (Slots.room f (c .counts))
+        → c' ≡ leftState c w n' → RepliedStep c n s f out (PollReply.Reply (p .len) c') s' f' out'
+    unfolding repliedExact handed choose
+    replied-given b x y h w n' s' f' out' c' T G g =
+        let d : List ℕ → Done Model.PollReply = λ q. moved (Model.reply (replyAt c (rooms q s f) p)) c (rooms q s f) (without c (rooms q s f) p) (closing c (rooms q s f) p) in
+        let z : (q : List ℕ) → gives (d q) ≡ repliedExact c (rooms q s f) n (length out) =
+        λ q. past-refusal _ _ _ (le-ltb (length out) (p .len) h) ∙ sym (choose-no (errorAt (rooms q s f) p) _ _ (no-error b x y (rooms q s f) refl)) ∙ ap (repliedFrom c (rooms q s f) (length out)) e in
+        record {
+          exact = λ q. exact-as shownPoll _ (rooms q s f) (d q) (Says.reply (p .len)) c' (rooms q s' f') (z q) (ap Says.reply packet-length)
+              (state-left w _ _ n' f' s' c' (T .left) G g)
+              (rooms-left q w _ _ n' f' s' (T .left) G);
+          output = λ q. output-as bytesOfPoll _ out out' (d q) (z q) (T .output);
+        }
+
+-- ---- nothing of that number
+
+module _ (c : Connection) (n : ℕ) (s f : List ℕ) (e : Found.Nothing ≡ foundReply n (c .window) s) (out : List ℕ) where
+  pub taken-none : (fds : List ℕ) → TakenStep c n s f out fds (Polled.Nothing c) s f out fds
+  unfolding takenExact
+  taken-none fds =
+      let z : (q : List ℕ) → gives (stays Model.none c (rooms q s f)) ≡ takenExact c (rooms q s f) n (length out) (length fds) = λ q. ap (takenFrom c (rooms q s f) (length out) (length fds)) e in
+      record {
+        exact = λ q. exact-as shownTaken _ (rooms q s f) _ Says.none c (rooms q s f) (z q) refl refl refl;
+        output = λ q. output-none bytesOfTaken _ out _ (z q) refl;
+        places = λ q. output-none descriptorsOfTaken _ fds _ (z q) refl;
+      }
+
+  pub checked-past : n < c .read → CheckedStep c n s f out (PollReply.NoReply c) s f out
+  unfolding checkedExact choose
+  checked-past h =
+      let z : (q : List ℕ) → gives (stays Model.noReply c (rooms q s f)) ≡ checkedExact c (rooms q s f) n (length out) =
+      λ q. ap (λ (t : Bool). gives (stays (choose t Model.noReply Model.tryAgain) c (rooms q s f))) (sym (lt-ltb n (c .read) h)) ∙ ap (checkedFrom c (rooms q s f) n (length out)) e in
+      record { exact = λ q. exact-as shownPoll _ (rooms q s f) _ Says.noReply c (rooms q s f) (z q) refl refl refl; output = λ q. output-none bytesOfPoll _ out _ (z q) refl }
+
+  pub checked-again : c .read ≤ n → CheckedStep c n s f out (PollReply.TryAgain c) s f out
+  unfolding checkedExact choose
+  checked-again h =
+      let z : (q : List ℕ) → gives (stays Model.tryAgain c (rooms q s f)) ≡ checkedExact c (rooms q s f) n (length out) =
+      λ q. ap (λ (t : Bool). gives (stays (choose t Model.noReply Model.tryAgain) c (rooms q s f))) (sym (le-ltb n (c .read) h)) ∙ ap (checkedFrom c (rooms q s f) n (length out)) e in
+      record { exact = λ q. exact-as shownPoll _ (rooms q s f) _ Says.again c (rooms q s f) (z q) refl refl refl; output = λ q. output-none bytesOfPoll _ out _ (z q) refl }
+
+  pub replied-none : RepliedStep c n s f out (PollReply.TryAgain c) s f out
+  unfolding repliedExact
+  replied-none =
+      let z : (q : List ℕ) → gives (stays Model.tryAgain c (rooms q s f)) ≡ repliedExact c (rooms q s f) n (length out) = λ q. ap (repliedFrom c (rooms q s f) (length out)) e in
+      record { exact = λ q. exact-as shownPoll _ (rooms q s f) _ Says.again c (rooms q s f) (z q) refl refl refl; output = λ q. output-none bytesOfPoll _ out _ (z q) refl }
