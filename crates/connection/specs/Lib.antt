@@ -1,3 +1,4 @@
 pub mod Calls
 pub mod Laws
 pub mod Opening
+pub mod Theorems
