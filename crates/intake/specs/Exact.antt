@@ -1,9 +1,8 @@
 -- A packet taken in, exactly. Assumes nothing.
 use mathlib.Core.Path.{_≡_}
-use mathlib.Core.Bool.{Bool, true}
+use mathlib.Core.Bool.{true}
 use mathlib.Core.List.{List}
 use Prim.Native.Nat.{ℕ, _≤_}
-use lib.ListN.{length}
 use Rattle.refusal.specs.Answer.{Answer, gives, pass}
 use Rattle.held.specs.Head.{held, reply, event}
 use Rattle.held.specs.Moves.{Left, left, Room, appended}

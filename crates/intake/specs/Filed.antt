@@ -1,12 +1,11 @@
 -- A packet that is filed: the state as it is read, and that it is sound. Assumes nothing.
-use mathlib.Core.Path.{_≡_, refl, sym, ap, _∙_, subst}
-use mathlib.Core.Bool.{Bool, true, false}
+use mathlib.Core.Path.{_≡_, refl, sym, ap, _∙_}
+use mathlib.Core.Bool.{true}
 use mathlib.Core.List.{List, [], _∷_, _++_, map, map-append}
-use Prim.Native.Nat.{ℕ, _+_, _-_, _≤_, _<_}
+use Prim.Native.Nat.{ℕ, _+_, _-_, _≤_}
 use native.Mathlib.Omega.{arith}
 use lib.ListN.{length, take, drop}
 use lib.Seq.{drop-at, take-take}
-use Rattle.sequence.specs.Numbering.{lastNumber}
 use Rattle.octets.specs.Logic.{choose}
 use Rattle.held.specs.Head as Record
 use Rattle.held.specs.Reading as Store
@@ -17,15 +16,13 @@ use Rattle.descriptors.specs.Room as Slots
 use Rattle.descriptors.specs.Theorems as Fds
 use Rattle.model.specs.Client.{Client, setReplies, setEvents, setWaiting, setClosing, header}
 use Rattle.model.specs.Client as Client
-use Rattle.model.specs.Model.{isHeld, close, filed}
+use Rattle.model.specs.Model.{isHeld, filed}
 use Rattle.model.specs.Reading.{Rooms, rooms, count, withDescriptors, eventOf, slotsOf, reads}
 use Rattle.model.specs.ReadingLaws.{with-append, with-more}
-use Rattle.model.specs.Promise.{Done}
 use Rattle.model.specs.Sound.{Sound}
 use Rattle.model.specs.declared.Connection.{Connection}
 use Rattle.model.specs.declared.Place.{Place}
 use Rattle.model.specs.declared.Place.the-variants as Place
-use Rattle.held.specs.declared.Window.{Window}
 use Rattle.intake.specs.Exact.{movedState, filedAs}
 
 -- what is known of a packet that is filed with k descriptors: its length is allowed, they wait, their count is a byte, and it has room where it is held

@@ -1,23 +1,21 @@
 -- The state once a packet has its number: as it is read, and that it is sound. Assumes nothing.
-use mathlib.Core.Path.{_≡_, refl, sym, ap, _∙_, subst}
+use mathlib.Core.Path.{_≡_, refl, sym, ap, _∙_}
 use mathlib.Core.Bool.{Bool, true, false}
-use mathlib.Core.List.{List, [], _∷_}
+use mathlib.Core.List.{List}
 use Prim.Native.Nat.{ℕ, suc, _+_, _-_, _≤_, _<_, max}
 use native.Mathlib.Omega.{arith}
 use lib.Dec.{leb, ltb, eqb}
-use lib.ListN.{length, drop}
+use lib.ListN.{drop}
 use borrow.Author.Tests.{leb-true, leb-false, ltb-true, ltb-false}
 use Rattle.octets.specs.Logic.{choose}
 use Rattle.octets.specs.Field.{field}
-use Rattle.refusal.specs.Answer.{Answer, gives, gives-past, gives-rest}
+use Rattle.refusal.specs.Answer.{gives, gives-past, gives-rest}
 use Rattle.sequence.specs.Numbering.{lastNumber, full, inRange}
 use Rattle.requests.specs.Room.{outstanding, requestAt, legals}
 use Rattle.requests.specs.Theorems.{outstanding-drop, outstanding-none, outstanding-first, legals-drop, legals-none}
-use Rattle.held.specs.Reading as Store
 use Rattle.held.specs.Theorems as Held
 use Rattle.model.specs.Client.{first}
 use Rattle.model.specs.Model.{keymapNotify, codeOf, nobody, somebody, headOf, askedOf, numbered}
-use Rattle.model.specs.Model as Model
 use Rattle.model.specs.Reading.{Rooms, count, reads}
 use Rattle.model.specs.ReadingLaws.{first-read}
 use Rattle.model.specs.Sound.{Sound}

@@ -1,23 +1,21 @@
 -- How filing and the step come out, each way. Assumes nothing.
-use mathlib.Core.Path.{_≡_, refl, sym, ap, _∙_, subst}
-use mathlib.Core.Bool.{Bool, true, false}
+use mathlib.Core.Path.{_≡_, sym, ap, _∙_, subst}
 use mathlib.Core.List.{List}
-use Prim.Native.Nat.{ℕ, _+_, _≤_, _<_}
+use Prim.Native.Nat.{ℕ, _<_}
 use native.Mathlib.Omega.{arith}
 use lib.ListN.{length}
-use Rattle.refusal.specs.Answer.{Answer, gives, refuses, refuse, pass}
+use Rattle.refusal.specs.Answer.{gives, pass}
 use Rattle.refusal.specs.Numbers.{numberOf}
 use Rattle.refusal.specs.declared.Refusal.{Refusal}
 use Rattle.sequence.specs.declared.SequenceNumber.{SequenceNumber}
-use Rattle.held.specs.Head.{held, reply, event, leastPacket}
-use Rattle.held.specs.Moves.{Left, left, Room, Leaves, appended}
+use Rattle.held.specs.Head.{held, reply, event}
+use Rattle.held.specs.Moves.{left, Leaves, appended}
 use Rattle.held.specs.declared.Window.{Window}
 use Rattle.descriptors.specs.Room as Slots
 use Rattle.descriptors.specs.declared.Counts.{Counts}
-use Rattle.model.specs.Model.{codeOf, isHeld}
+use Rattle.model.specs.Model.{codeOf}
 use Rattle.model.specs.Reading.{rooms}
 use Rattle.model.specs.Promise.{exact-refused, exact-given}
-use Rattle.model.specs.Says.{saysEnqueued}
 use Rattle.model.specs.declared.Connection.{Connection}
 use Rattle.model.specs.declared.Enqueued.the-variants as Enqueued
 use Rattle.model.specs.declared.Place.{Place}

@@ -8,14 +8,13 @@ use lib.Dec.{ltb, eqb}
 use lib.ListN.{length, take, drop, getD}
 use borrow.Author.Tests.{ltb-false, eqb-true}
 use Rattle.octets.specs.Logic.{choose, both}
-use Rattle.refusal.specs.Answer.{Answer, gives, refuses, refuse, pass, refuse-under}
+use Rattle.refusal.specs.Answer.{Answer, gives, refuse, pass, refuse-under}
 use Rattle.requests.specs.Room.{capacity}
 use Rattle.requests.specs.Theorems.{sized-is}
 use Rattle.held.specs.Head.{leastPacket, mostPacket}
-use Rattle.held.specs.Reading as Store
 use Rattle.held.specs.Theorems as Held
 use Rattle.descriptors.specs.Theorems as Fds
-use Rattle.model.specs.Client.{Client, setWaiting, header, used}
+use Rattle.model.specs.Client.{Client, setWaiting, header}
 use Rattle.model.specs.Model.{codeOf, errorCode, replyCode, nobody, somebody, errorPlace, replyUnder, replyPlace, placeOf, wantsDescriptors, claimed, isHeld, filed, Filing, numberOf, numbered, askedOf, takeIn, enqueuePacket}
 use Rattle.model.specs.Model as Model
 use Rattle.model.specs.Reading.{Rooms, slotsOf, reads}

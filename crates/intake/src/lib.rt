@@ -22,8 +22,7 @@ ghost use Prim.Native.Nat.{_≤_, _<_};
 ghost use lib.ListN.{length};
 ghost use Rattle.requests.specs.Room.{capacity};
 ghost use Rattle.sequence.specs.Numbering.{saysFull, lastNumber};
-ghost use Rattle.model.specs.Model.{codeOf, errorUnder, errorPlace, replyUnder, replyPlace, placeOf, claimed, isHeld};
-ghost use Rattle.model.specs.Reading.{rooms};
+ghost use Rattle.model.specs.Model.{errorUnder, errorPlace, replyUnder, replyPlace, placeOf, claimed, isHeld};
 ghost use Rattle.intake.specs.Plan.{saysAsked, saysPlan, Ready, Fitting, numberIn, raisedTo, firstAfter, askedIn, overRoom, planBy, planOf};
 ghost use Rattle.intake.specs.Exact.{numberedState, movedState, MayFile, FileDone, EnqueueStep};
 

@@ -1,4 +1,5 @@
 pub mod Exact
 pub mod Steps
 pub mod Rows
+pub mod Left
 pub mod Theorems

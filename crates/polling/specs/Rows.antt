@@ -2,21 +2,21 @@
 use mathlib.Core.Path.{_≡_, refl, sym, ap, _∙_}
 use mathlib.Core.Bool.{Bool, true, false}
 use mathlib.Core.List.{List, [], _∷_, _++_, map, append-nil}
-use Prim.Native.Nat.{ℕ, _+_, _-_, _≤_, _<_}
+use Prim.Native.Nat.{ℕ, _+_, _≤_}
 use native.Mathlib.Omega.{arith}
 use lib.Dec.{eqb}
-use lib.ListN.{length, take, drop, length-take, take-append-drop}
+use lib.ListN.{length, take, drop, take-append-drop}
 use lib.Seq.{drop-nil, drop-at, drop-drop, length-take-le}
 use borrow.Author.Tests.{eq-eqb, ne-eqb}
 use Rattle.octets.specs.Logic.{choose}
 use Rattle.octets.specs.Put.{put, cut}
-use Rattle.refusal.specs.Answer.{Answer, gives, refuses, refuse}
+use Rattle.refusal.specs.Answer.{Answer, gives, refuse}
 use Rattle.held.specs.General.{choose-yes, choose-no}
 use Rattle.held.specs.Head as Record
 use Rattle.held.specs.Reading.{All, fdsIn}
 use Rattle.held.specs.Lies.{Other}
 use Rattle.model.specs.Client.{Held}
-use Rattle.model.specs.Model.{Found, nothing, at, behind, find}
+use Rattle.model.specs.Model.{nothing, at, behind, find}
 use Rattle.model.specs.Reading.{withDescriptors, eventOf}
 use Rattle.model.specs.ReadingLaws.{with-append, with-more}
 use Rattle.model.specs.Promise.{Done, modelOf}

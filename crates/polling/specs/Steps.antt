@@ -1,7 +1,7 @@
 -- How each poll comes out: what its code needs at a place that was found, and that its outcome is the exact one. Assumes nothing.
 use mathlib.Core.Path.{_≡_, refl, sym, ap, _∙_, subst}
 use mathlib.Core.Bool.{Bool, true, false}
-use mathlib.Core.List.{List, [], _∷_, _++_}
+use mathlib.Core.List.{List, [], _∷_}
 use Prim.Native.Nat.{ℕ, _+_, _≤_, _<_}
 use native.Mathlib.Omega.{arith}
 use lib.Dec.{ltb, eqb}
@@ -16,7 +16,7 @@ use Rattle.held.specs.Head.{headerSize, reply, event}
 use Rattle.held.specs.Reading as Store
 use Rattle.held.specs.Rows.{fdsIn-append}
 use Rattle.held.specs.Find.{foundReply, foundEvent}
-use Rattle.held.specs.Moves.{Left, Leaves, Within, Takes, removed, demoted, handed}
+use Rattle.held.specs.Moves.{Left, Leaves, Within, Takes, demoted, handed}
 use Rattle.held.specs.Lies.{FirstReply, FirstEvent, FindsReply, FindsEvent}
 use Rattle.held.specs.Theorems.{find-reply-law, find-event-law, place-law, first-law}
 use Rattle.held.specs.declared.Window.{Window}
@@ -30,7 +30,7 @@ use Rattle.model.specs.Model as Model
 use Rattle.model.specs.Model.{errorCode}
 use Rattle.model.specs.Reading.{Rooms, rooms, slotsOf}
 use Rattle.model.specs.Promise.{Done, Exact, answerOf, roomsOf, outputOf, exact-refused}
-use Rattle.model.specs.Says.{Shown, shownTaken, ShownPoll, shownPoll, ShownEvent, shownEvent, bytesOfTaken, descriptorsOfTaken, bytesOfPoll}
+use Rattle.model.specs.Says.{shownTaken, shownPoll, shownEvent, bytesOfTaken, descriptorsOfTaken, bytesOfPoll}
 use Rattle.model.specs.Says as Says
 use Rattle.model.specs.declared.Connection.{Connection}
 use Rattle.model.specs.declared.Polled.the-variants as Polled

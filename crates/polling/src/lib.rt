@@ -1,5 +1,5 @@
 // Inside: the steps of a connection that hand out what is held, for a state that was found sound:
-// the polls, oldest packet first, and the discarding of answers.
+// the polls, oldest packet first.
 //
 // A step asks only for what it needs, touches only the rooms it writes, and is exact: its answer,
 // those rooms and the lent outputs at exit are one definition of what it was given. Laws say what

@@ -1,0 +1,227 @@
+-- What the polls leave: as it is read, and that it is sound. Assumes nothing.
+use mathlib.Core.Path.{_≡_, refl, sym, ap, _∙_}
+use mathlib.Core.List.{List, [], _∷_, _++_, map}
+use Prim.Native.Nat.{ℕ, _+_, _-_, _≤_}
+use native.Mathlib.Omega.{arith}
+use lib.Dec.{eqb}
+use lib.ListN.{length, take, drop, getD}
+use Rattle.octets.specs.Put.{cut, length-cut}
+use Rattle.held.specs.Head as Record
+use Rattle.held.specs.Reading as Store
+use Rattle.held.specs.Rows.{fdsIn-append}
+use Rattle.held.specs.Moves.{Left, demoted, handed}
+use Rattle.held.specs.Lies.{FirstReply, FirstEvent}
+use Rattle.held.specs.Theorems as Held
+use Rattle.held.specs.declared.Place.{Place}
+use Rattle.descriptors.specs.Room as Slots
+use Rattle.descriptors.specs.Theorems as Fds
+use Rattle.model.specs.Client.{Client, setReplies, setEvents, setClosing}
+use Rattle.model.specs.Client as Client
+use Rattle.model.specs.Model as Model
+use Rattle.model.specs.Model.{find, errorCode}
+use Rattle.model.specs.Reading.{Rooms, rooms, slotsOf, withDescriptors, eventOf, reads}
+use Rattle.model.specs.Sound.{Sound}
+use Rattle.model.specs.declared.Connection.{Connection}
+use Rattle.polling.specs.Exact.{Ready, leftState, packetAt, eventAt, replyAt, without, turnedEvent, handingOut, closing, errorAt}
+use Rattle.polling.specs.Rows.{put-empty, events-append, heldWith, find-at, with-split, with-without}
+
+module _ (c : Connection) (r : Rooms) (S : Sound c r) where
+  -- the part that a poll needs
+  pub parts : Ready c (r .store) (r .slots)
+  parts = record {
+    held = Held.sound-exactly (c .read) (c .window) (r .store) .0 (S .held);
+    slots = Fds.sound-is (slotsOf c r) .0 (S .slots);
+    descriptors = S .descriptors;
+  }
+
+  -- ---- what is left after a move
+
+  -- as it is read
+  moved-read : (l : Left) (d : Slots.Room) (rs es : List Client.Held) (cl : List ℕ)
+      → withDescriptors (Store.replies (l .window) (l .store)) (Slots.holding d) ≡ rs
+      → map eventOf (Store.events (l .window) (l .store)) ≡ es
+      → Slots.closing d ≡ cl
+      → Slots.waiting d ≡ Slots.waiting (slotsOf c r)
+      → reads (leftState c (l .window) (d .counts)) (rooms (r .requests) (l .store) (d .slots)) ≡ setClosing (setEvents (setReplies (reads c r) rs) es) cl
+  unfolding reads
+  moved-read l d rs es cl a b e f = λ k. record {
+    order = c .order;
+    most-requests = c .capacity;
+    most-bytes = c .room;
+    numbers = record { written = c .written; expected = c .expected; read = c .read };
+    outstanding = reads c r .outstanding;
+    replies = a k;
+    events = b k;
+    waiting = f k;
+    closing = e k;
+  }
+
+  -- and it is sound
+  moved-sound : (l : Left) (d : Slots.Room) → Store.Sound (c .read) (l .window) (l .store) → length (l .store) ≡ length (r .store) → Slots.Sound d
+      → Store.fdsIn (Store.replies (l .window) (l .store)) ≡ d .counts .held
+      → Sound (leftState c (l .window) (d .counts)) (rooms (r .requests) (l .store) (d .slots))
+  moved-sound l d H m D e =
+      let N = S .numbers in
+      record {
+        order = S .order;
+        requests = S .requests;
+        store = m ∙ S .store;
+        numbers = record {
+          store-least = N .store-least;
+          store-most = N .store-most;
+          written-most = N .written-most;
+          expected-most = N .expected-most;
+          read-most = N .read-most;
+          first-least = N .first-least;
+          first-most = N .first-most;
+          count-most = N .count-most;
+        };
+        legal-bytes = S .legal-bytes;
+        slots = Fds.sound-is d .1 D;
+        held = Held.sound-exactly (c .read) (l .window) (l .store) .1 H;
+        descriptors = e;
+      }
+
+  -- ---- the oldest event
+
+  module _ (p : Place) (F : FirstEvent (c .window) (r .store) p) where
+    event-removed : Held.Removed (c .read) Record.event (c .window) (r .store) [] (F .it) (F .after) (without c r p)
+    event-removed = Held.remove-law (c .read) (c .window) (r .store) (parts .held) Record.event p [] (F .it) (F .after) (F .lies)
+
+    event-packet : packetAt (r .store) p ≡ F .it .packet
+    unfolding handed
+    event-packet = sym (put-empty _) ∙ Held.take-law (c .read) (c .window) (r .store) (parts .held) Record.event p [] (F .it) (F .after) (F .lies) [] ∙ put-empty _
+
+    pub event-is : eventAt r p ≡ eventOf (F .it)
+    event-is = λ k. record { number = F .number k; packet = event-packet k; descriptors = [] }
+
+    pub event-left : reads (leftState c (without c r p .window) (c .counts)) (rooms (r .requests) (without c r p .store) (r .slots)) ≡ setEvents (reads c r) (map eventOf (F .after))
+    unfolding reads
+    event-left =
+        moved-read (without c r p) (slotsOf c r) _ _ _
+        (ap (λ l. withDescriptors l (Slots.holding (slotsOf c r))) (event-removed .other Record.reply (λ q. omega arith)))
+        (ap (map eventOf) (event-removed .own)) refl refl
+
+    pub event-sound : Sound (leftState c (without c r p .window) (c .counts)) (rooms (r .requests) (without c r p .store) (r .slots))
+    event-sound = moved-sound (without c r p) (slotsOf c r) (event-removed .sound) (event-removed .long) (parts .slots)
+        (ap Store.fdsIn (event-removed .other Record.reply (λ q. omega arith)) ∙ S .descriptors)
+
+  -- ---- the oldest reply of a number
+
+  module _ (n : ℕ) (p : Place) (F : FirstReply n (c .window) (r .store) p) where
+    abbrev it : Record.Held
+    it = F .it
+
+    abbrev others : List Record.Held
+    others = F .before ++ F .after
+
+    abbrev fds : List ℕ
+    fds = Slots.holding (slotsOf c r)
+
+    -- those that stay held
+    abbrev keep : List ℕ
+    keep = take (p .before) fds ++ drop (p .before + p .fds) fds
+
+    reply-removed : Held.Removed (c .read) Record.reply (c .window) (r .store) (F .before) it (F .after) (without c r p)
+    reply-removed = Held.remove-law (c .read) (c .window) (r .store) (parts .held) Record.reply p (F .before) it (F .after) (F .lies)
+
+    reply-demoted : Held.Demoted (c .read) (c .window) (r .store) (F .before) it (F .after) (demoted (c .window) (r .store) p)
+    reply-demoted = Held.demote-law (c .read) (c .window) (r .store) (parts .held) p (F .before) it (F .after) (F .lies)
+
+    reply-packet : packetAt (r .store) p ≡ it .packet
+    unfolding handed
+    reply-packet = sym (put-empty _) ∙ Held.take-law (c .read) (c .window) (r .store) (parts .held) Record.reply p (F .before) it (F .after) (F .lies) [] ∙ put-empty _
+
+    -- all that the replies have, are counted as held
+    all-fds : Store.fdsIn (F .before) + (it .fds + Store.fdsIn (F .after)) ≡ c .counts .held
+    unfolding Store.fdsIn
+    all-fds = sym (fdsIn-append (F .before) (it ∷ F .after)) ∙ sym (ap Store.fdsIn (F .split)) ∙ S .descriptors
+
+    in-run : p .before + p .fds ≤ c .counts .held
+    in-run = omega (arith, all-fds, F .count, F .fds)
+
+    others-fds : Store.fdsIn others ≡ c .counts .held - p .fds
+    others-fds = omega (arith, all-fds, F .fds, fdsIn-append (F .before) (F .after))
+
+    -- the replies, as they are read: this one, and the others without it
+    reply-is : replyAt c r p ≡ heldWith it (cut (Store.fdsIn (F .before)) (it .fds) fds)
+    unfolding Slots.heldRun
+    reply-is = λ k. record { number = (F .number ∙ sym (F .is)) k; packet = reply-packet k; descriptors = cut (F .count k) (F .fds k) fds }
+
+    pub found-read : find n (withDescriptors (Store.replies (c .window) (r .store)) fds) ≡ Model.at (replyAt c r p) (withDescriptors others keep)
+    found-read =
+        let l : length fds ≡ c .counts .held = Fds.length-holding (slotsOf c r) (parts .slots) in
+        let b : Store.fdsIn (F .before) ≤ length fds = omega (arith, all-fds) in
+        ap (λ x. find n (withDescriptors x fds)) (F .split)
+        ∙ ap (find n) (with-split (F .before) it (F .after) fds)
+        ∙ find-at n (F .before) fds _ _ (F .none) (F .is)
+        ∙ (λ k. Model.at (sym reply-is k) (sym (with-without (F .before) it (F .after) fds b) k))
+        ∙ (λ k. Model.at (replyAt c r p) (withDescriptors others (take (sym (F .count) k) fds ++ drop (sym (F .count) k + sym (F .fds) k) fds)))
+
+    handed-lists : Slots.Lists (handingOut c r p) (Slots.closing (slotsOf c r)) keep (Slots.waiting (slotsOf c r))
+    handed-lists = Fds.handOut-lists (slotsOf c r) (parts .slots) (p .before) (p .fds) in-run
+
+    closed-lists : Slots.Lists (closing c r p) (Slots.closing (slotsOf c r) ++ replyAt c r p .descriptors) keep (Slots.waiting (slotsOf c r))
+    closed-lists = Fds.closeHeld-lists (slotsOf c r) (parts .slots) (p .before) (p .fds) in-run
+
+    -- what is left, as it is read
+    replies-left : (l : Left) (d : Slots.Room) → Store.replies (l .window) (l .store) ≡ others → Slots.holding d ≡ keep
+        → withDescriptors (Store.replies (l .window) (l .store)) (Slots.holding d) ≡ withDescriptors others keep
+    replies-left l d a b = λ k. withDescriptors (a k) (b k)
+
+    pub taken-left : reads (leftState c (without c r p .window) (handingOut c r p .counts)) (rooms (r .requests) (without c r p .store) (handingOut c r p .slots))
+        ≡ setReplies (reads c r) (withDescriptors others keep)
+    unfolding reads
+    taken-left =
+        moved-read (without c r p) (handingOut c r p) _ _ _ (replies-left (without c r p) (handingOut c r p) (reply-removed .own) (handed-lists .holding-is))
+        (ap (map eventOf) (reply-removed .other Record.event (λ q. omega arith))) (handed-lists .closing-is) (handed-lists .waiting-is)
+
+    pub closed-left : reads (leftState c (without c r p .window) (closing c r p .counts)) (rooms (r .requests) (without c r p .store) (closing c r p .slots))
+        ≡ Model.close (replyAt c r p .descriptors) (setReplies (reads c r) (withDescriptors others keep))
+    unfolding reads
+    closed-left =
+        moved-read (without c r p) (closing c r p) _ _ _ (replies-left (without c r p) (closing c r p) (reply-removed .own) (closed-lists .holding-is))
+        (ap (map eventOf) (reply-removed .other Record.event (λ q. omega arith))) (closed-lists .closing-is) (closed-lists .waiting-is)
+
+    pub turned-left : reads (leftState c (c .window) (closing c r p .counts)) (rooms (r .requests) (demoted (c .window) (r .store) p) (closing c r p .slots))
+        ≡ Model.close (replyAt c r p .descriptors) (setEvents (setReplies (reads c r) (withDescriptors others keep)) (reads c r .events ++ (Model.asEvent (replyAt c r p) ∷ [])))
+    unfolding reads
+    turned-left =
+        moved-read (turnedEvent c r p) (closing c r p) _ _ _ (replies-left (turnedEvent c r p) (closing c r p) (reply-demoted .replies) (closed-lists .holding-is))
+        (ap (map eventOf) (reply-demoted .events) ∙ events-append (Store.events (c .window) (r .store)) (Record.asEvent it ∷ [])
+        ∙ (λ k. map eventOf (Store.events (c .window) (r .store)) ++ (Model.asEvent (sym reply-is k) ∷ [])))
+        (closed-lists .closing-is) (closed-lists .waiting-is)
+
+    -- and it is sound
+    handed-held : handingOut c r p .counts .held ≡ c .counts .held - p .fds
+    unfolding Slots.handOut
+    handed-held = refl
+
+    closed-held : closing c r p .counts .held ≡ c .counts .held - p .fds
+    unfolding Slots.closeHeld
+    closed-held = refl
+
+    pub taken-sound : Sound (leftState c (without c r p .window) (handingOut c r p .counts)) (rooms (r .requests) (without c r p .store) (handingOut c r p .slots))
+    taken-sound = moved-sound (without c r p) (handingOut c r p) (reply-removed .sound) (reply-removed .long) (Fds.handOut-sound (slotsOf c r) (parts .slots) (p .before) (p .fds) in-run)
+        (ap Store.fdsIn (reply-removed .own) ∙ others-fds ∙ sym handed-held)
+
+    pub closed-sound : Sound (leftState c (without c r p .window) (closing c r p .counts)) (rooms (r .requests) (without c r p .store) (closing c r p .slots))
+    closed-sound = moved-sound (without c r p) (closing c r p) (reply-removed .sound) (reply-removed .long) (Fds.closeHeld-sound (slotsOf c r) (parts .slots) (p .before) (p .fds) in-run)
+        (ap Store.fdsIn (reply-removed .own) ∙ others-fds ∙ sym closed-held)
+
+    pub turned-sound : Sound (leftState c (c .window) (closing c r p .counts)) (rooms (r .requests) (demoted (c .window) (r .store) p) (closing c r p .slots))
+    turned-sound = moved-sound (turnedEvent c r p) (closing c r p) (reply-demoted .sound) (reply-demoted .long) (Fds.closeHeld-sound (slotsOf c r) (parts .slots) (p .before) (p .fds) in-run)
+        (ap Store.fdsIn (reply-demoted .replies) ∙ others-fds ∙ sym closed-held)
+
+    -- its first byte in the store is its packet's
+    pub same-error : errorAt r p ≡ Model.isError (replyAt c r p)
+    same-error =
+        ap (λ (b : ℕ). eqb b errorCode) (Held.first-law (c .read) (c .window) (r .store) (parts .held) Record.reply p (F .before) it (F .after) (F .lies) .1
+        ∙ ap (λ (l : List ℕ). getD l 0 0) (sym reply-packet))
+
+    pub bytes-is : p .len ≡ length (replyAt c r p .packet)
+    bytes-is = F .len ∙ ap length (sym reply-packet)
+
+    pub places-is : p .fds ≡ length (replyAt c r p .descriptors)
+    unfolding Slots.heldRun
+    places-is = sym (length-cut (p .before) (p .fds) fds (omega (arith, in-run, Fds.length-holding (slotsOf c r) (parts .slots))))
