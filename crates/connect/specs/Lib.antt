@@ -1,0 +1,12 @@
+pub mod Extra
+pub mod Pad
+pub mod Request
+pub mod Handshake
+pub mod Sound
+pub mod AimLaws
+pub mod Setup
+pub mod SetupLaws
+pub mod Feeding
+pub mod FedLaws
+pub mod ReadBack
+pub mod Theorems
