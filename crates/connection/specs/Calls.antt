@@ -6,9 +6,9 @@ use Prim.Native.Nat.{ℕ, _+_, _-_, _≤_, _<_}
 use lib.Dec.{eqb, ltb}
 use lib.ListN.{length}
 use Rattle.octets.specs.Bytes.{legal}
-use Rattle.refusal.specs.Answer.{Answer, gives, refuses, refuse}
+use Rattle.refusal.specs.Answer.{Answer, gives, refuses, refuse, pass}
 use Rattle.model.specs.Client.{Client}
-use Rattle.model.specs.Model.{mostDescriptors, roomy, fresh, sendRequest, enqueueFds, takeClosed, Filing, enqueuePacket, Taken, pollForReplyOrError, pollCheck, pollForReply, prepareCheck, pollForEvent}
+use Rattle.model.specs.Model.{mostDescriptors, roomy, fresh, new, sendRequest, enqueueFds, takeClosed, Filing, enqueuePacket, Taken, pollForReplyOrError, pollCheck, pollForReply, prepareCheck, pollForEvent}
 use Rattle.model.specs.Reading.{Rooms, rooms, reads}
 use Rattle.model.specs.Promise.{Done, Exact, Promise, outputOf, modelOf, guarded}
 use Rattle.model.specs.Says.{Shown, shownTaken, ShownEvent, shownEvent, ShownPoll, shownPoll, bytesOfTaken, descriptorsOfTaken, bytesOfPoll}
@@ -42,13 +42,10 @@ openExact o r =
     (refuse (not (legal o)) 13
     (gives (record { value = tt; state = freshState o (length (r .requests)) (length (r .store)); left = r }))))
 
--- a fresh client, where it opens
+-- the model's `new`, behind that
 unfoldable pub opened : ℕ → Rooms → Answer (Unit × Client)
 opened o r =
-    refuse (not (eqb (length (r .slots)) mostDescriptors)) 9
-    (refuse (not (roomy (length (r .requests)) (length (r .store)))) 9
-    (refuse (not (legal o)) 13
-    (gives (tt, fresh o (length (r .requests)) (length (r .store))))))
+    refuse (not (eqb (length (r .slots)) mostDescriptors)) 9 (pass (new o (length (r .requests)) (length (r .store))) (λ c. gives (tt, c)))
 
 pub record Opens (o : ℕ) (r : Rooms) (a : Answer (Unit × Connection)) : Type 0 where
   pub exact : Exact same (openExact o r) r a r

@@ -50,6 +50,7 @@ sound-exactly c r = (there, back)
           descriptors = S .descriptors;
           slots = Fds.sound-is (slotsOf c r) .0 (S .slots);
         }
+
     back : Sentence c r → soundb c r ≡ true
     back T =
         is-sound c r
