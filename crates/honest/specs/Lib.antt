@@ -1,0 +1,11 @@
+pub mod Run
+pub mod Rules
+pub mod Calls
+pub mod Lists
+pub mod Server
+pub mod Public
+pub mod Theorems
+pub mod Computing
+pub mod Needed
+pub mod Test
+pub mod Witness

@@ -1,0 +1,185 @@
+-- The rules of sending and numbering alone: under them each honest packet gets its true number. Rooms, filing and all other calls are left out. Assumes nothing.
+use mathlib.Core.Bool.{Bool, true, false}
+use mathlib.Core.List.{List, [], _∷_}
+use mathlib.Core.Logic.{_⊎_, inl, inr, ⊎-elim}
+use mathlib.Core.Path.{_≡_, refl, _∙_}
+use Prim.Native.Nat.{ℕ, _+_, _≤_, _<_, max}
+use native.Mathlib.Decide.{decLe}
+use native.Mathlib.Omega.{arith}
+use borrow.Author.Tests.{leb-false, le-ltb}
+use Rattle.octets.specs.Logic.{choose, both}
+use Rattle.octets.specs.Field.{field}
+use Rattle.refusal.specs.Answer.{gives, refuse, gives-past, gives-rest}
+use Rattle.sequence.specs.Numbering.{lastNumber, full, inRange, full-near}
+use Rattle.sequence.specs.Sending as Sending
+use Rattle.sequence.specs.Sending.{sending, mustSync, syncSpan}
+use Rattle.model.specs.Client.{Numbers}
+use Rattle.model.specs.Model.{Filing}
+use Rattle.model.specs.Promise.{gives-same}
+use Rattle.honest.specs.Run.{Event, sent, took, sends, Asked, Heard, Fair, Honest, Right}
+
+-- What accepted sends and accepted packets make of the three numbers, on a connection of byte order o.
+pub data Ruled (o : ℕ) : Numbers → List Event → Type 0 where
+  none : Ruled o (record { written = 0; expected = 0; read = 0 }) []
+  sends-one : {n : Numbers} {l : List Event} (has-reply : Bool) (x : Sending.Numbers) → gives x ≡ sending (n .written) (n .expected) has-reply → Ruled o n l
+      → Ruled o (record { written = x .number; expected = x .expected; read = n .read }) (sent has-reply ∷ l)
+  takes-one : {n : Numbers} {l : List Event} (t : ℕ) (p : List ℕ) (f : Filing) → gives (f .number) ≡ inRange (full (n .read) (field o 2 2 p)) → Ruled o n l
+      → Ruled o (record { written = n .written; expected = max (n .expected) (f .number); read = f .number }) (took t p f ∷ l)
+
+-- ---- the invariant
+
+-- a request with a reply at most 65,535 before t
+pub record Before (l : List Event) (t : ℕ) : Type 0 where
+  pub q : ℕ
+  pub asked : Asked l q
+  pub less : q < t
+  pub near : t ≤ q + 65535
+
+-- `covered` is what carries it: each number further than 65,535 past the last read has a request with a reply closely before it, and it only gets weaker as the last read rises.
+pub record Inv (n : Numbers) (l : List Event) : Type 0 where
+  pub counted : n .written ≡ sends l
+  pub fits : n .written ≤ lastNumber
+  pub read-sent : n .read ≤ n .written
+  pub expected-sent : n .expected ≤ n .written
+  pub near : n .written ≤ n .expected + syncSpan
+  pub anchor : (n .expected ≤ n .read) ⊎ Asked l (n .expected)
+  pub last : (n .read ≡ 0) ⊎ Heard l (n .read)
+  pub heard : (u : ℕ) → Heard l u → u ≤ n .read
+  pub covered : (t : ℕ) → n .read + 65535 < t → t ≤ n .written → Before l t
+  pub right : Right l
+
+-- it holds at the start
+pub inv-start : Inv (record { written = 0; expected = 0; read = 0 }) []
+inv-start =
+    record {
+      counted = refl;
+      fits = omega arith;
+      read-sent = omega arith;
+      expected-sent = omega arith;
+      near = omega arith;
+      anchor = inl (omega arith);
+      last = inl refl;
+      heard = λ u h. absurd h;
+      covered = λ t p q. absurd (omega arith);
+      right = tt;
+    }
+
+asked-more : (e : Event) (l : List Event) (q : ℕ) → Asked l q → Asked (e ∷ l) q
+asked-more (sent true) l q a = inr a
+asked-more (sent false) l q a = a
+asked-more (took t p f) l q a = a
+
+before-more : (e : Event) {l : List Event} {t : ℕ} → Before l t → Before (e ∷ l) t
+before-more e {l} b = record { q = b .q; asked = asked-more e l (b .q) (b .asked); less = b .less; near = b .near }
+
+module _ (o : ℕ) (n : Numbers) (l : List Event) (i : Inv n l) where
+  -- An honest packet is at most 65,535 past the last read: else a request with a reply stands between.
+  near-read : (t : ℕ) (p : List ℕ) → Fair o l t p → t ≤ n .read + 65535
+  near-read t p f = elim (decLe t (n .read + 65535)) [ yes h ↦ h | no far ↦ absurd (never far) ]
+    where
+      never : ¬ (t ≤ n .read + 65535) → ⊥
+      never far =
+          let b : Before l t = i .covered t (omega arith) (omega (arith, f .known, i .counted)) in
+          omega (arith, i .heard (b .q) (f .answered (b .q) (b .asked) (omega (arith, b .less))), b .near)
+
+  past-read : (t : ℕ) (p : List ℕ) → Fair o l t p → n .read ≤ t
+  past-read t p f = ⊎-elim (λ z. omega arith) (λ h. omega (arith, f .rises (n .read) h)) (i .last)
+
+  -- So the least number at or above the last read is the true one,
+  pub full-true : (t : ℕ) (p : List ℕ) → Fair o l t p → full (n .read) (field o 2 2 p) ≡ t
+  full-true t p f = rw (f .wire) (full-near (n .read) t (past-read t p f) (near-read t p f))
+
+  -- and it is never past the last number.
+  pub true-range : (t : ℕ) (p : List ℕ) → Fair o l t p → inRange (full (n .read) (field o 2 2 p)) ≡ gives t
+  unfolding inRange refuse
+  true-range t p f =
+      let e : t ≤ lastNumber = omega (arith, f .known, i .counted, i .fits) in
+      rw (full-true t p f, le-ltb lastNumber t e)
+
+  -- The request that is sent next is at most 65,535 past a request with a reply, or past the last read.
+  covered-next : (t : ℕ) → n .read + 65535 < t → t ≤ n .written + 1 → Before l t
+  covered-next t far p = elim (decLe t (n .written)) [ yes q ↦ i .covered t far q | no new ↦ here new ]
+    where
+      here : ¬ (t ≤ n .written) → Before l t
+      here new =
+          ⊎-elim
+          (λ (le : n .expected ≤ n .read). absurd (omega (arith, i .near)))
+          (λ a. record { q = n .expected; asked = a; less = omega (arith, i .expected-sent); near = omega (arith, i .near) })
+          (i .anchor)
+
+  asks : n .written < lastNumber → Inv (record { written = n .written + 1; expected = n .written + 1; read = n .read }) (sent true ∷ l)
+  asks fits =
+      record {
+        counted = omega (arith, i .counted);
+        fits = omega arith;
+        read-sent = omega (arith, i .read-sent);
+        expected-sent = omega arith;
+        near = omega arith;
+        anchor = inr (inl (omega (arith, i .counted)));
+        last = i .last;
+        heard = i .heard;
+        covered = λ t far p. before-more _ (covered-next t far p);
+        right = i .right;
+      }
+
+  tells : n .written < lastNumber → n .written < n .expected + syncSpan → Inv (record { written = n .written + 1; expected = n .expected; read = n .read }) (sent false ∷ l)
+  tells fits free =
+      record {
+        counted = omega (arith, i .counted);
+        fits = omega arith;
+        read-sent = omega (arith, i .read-sent);
+        expected-sent = omega (arith, i .expected-sent);
+        near = omega arith;
+        anchor = i .anchor;
+        last = i .last;
+        heard = i .heard;
+        covered = λ t far p. before-more _ (covered-next t far p);
+        right = i .right;
+      }
+
+  -- what an accepted send comes to
+  inv-sent : (has-reply : Bool) (x : Sending.Numbers) → gives x ≡ sending (n .written) (n .expected) has-reply
+      → Inv (record { written = x .number; expected = x .expected; read = n .read }) (sent has-reply ∷ l)
+  unfolding sending mustSync choose both
+  inv-sent true x e =
+      let h : n .written < lastNumber = leb-false _ _ (gives-past _ 3 _ e) in
+      let g = gives-same (gives-rest _ 6 _ (gives-rest _ 3 _ e)) in
+      rw g (asks h)
+  inv-sent false x e =
+      let h : n .written < lastNumber = leb-false _ _ (gives-past _ 3 _ e) in
+      let r = gives-rest _ 3 _ e in
+      let free : n .written < n .expected + syncSpan = leb-false _ _ (gives-past _ 6 _ r) in
+      let g = gives-same (gives-rest _ 6 _ r) in
+      rw g (tells h free)
+
+  -- what an accepted honest packet comes to
+  inv-took : (t : ℕ) (p : List ℕ) (f : Filing) → Fair o l t p → f .number ≡ t
+      → Inv (record { written = n .written; expected = max (n .expected) (f .number); read = f .number }) (took t p f ∷ l)
+  inv-took t p f fair e =
+      let up : n .read ≤ t = past-read t p fair in
+      let known : t ≤ n .written = omega (arith, fair .known, i .counted) in
+      record {
+        counted = i .counted;
+        fits = i .fits;
+        read-sent = omega arith;
+        expected-sent = omega (arith, i .expected-sent);
+        near = omega (arith, i .near);
+        anchor = elim (decLe (n .expected) (f .number)) [ yes h ↦ inl (omega arith) | no h ↦ inr (still up h) ];
+        last = inr (inl e);
+        heard = λ u h. ⊎-elim (λ (z : u ≡ t). omega arith) (λ h′. omega (arith, i .heard u h′)) h;
+        covered = λ t′ far h. before-more _ (i .covered t′ (omega arith) h);
+        right = (e, i .right);
+      }
+    where
+      still : n .read ≤ t → ¬ (n .expected ≤ f .number) → Asked l (max (n .expected) (f .number))
+      still up h =
+          let m : max (n .expected) (f .number) ≡ n .expected = omega arith in
+          ⊎-elim (λ (le : n .expected ≤ n .read). absurd (omega arith)) (λ a. rw m a) (i .anchor)
+
+-- THE INVARIANT holds with an honest server, however long the run.
+pub ruled-inv : {o : ℕ} {n : Numbers} {l : List Event} → Ruled o n l → Honest o l → Inv n l
+ruled-inv none h = inv-start
+ruled-inv {o} (sends-one {n = n} {l = l} has-reply x e r) h = inv-sent o n l (ruled-inv r h) has-reply x e
+ruled-inv {o} (takes-one {n = n} {l = l} t p f e r) h =
+    let i = ruled-inv r (h .1) in
+    inv-took o n l i t p f (h .0) (gives-same (e ∙ true-range o n l i t p (h .0)))

@@ -1,0 +1,164 @@
+-- DEMAND 3: what a run is, what is asked of the server, and what is to be shown. Over the model alone; definitions only. Assumes nothing.
+use mathlib.Core.Bool.{Bool, true, false}
+use mathlib.Core.List.{List, [], _∷_, _++_}
+use mathlib.Core.Logic.{_⊎_}
+use mathlib.Core.Path.{_≡_}
+use Prim.Native.Nat.{ℕ, _+_, _%_, _≤_, _<_}
+use lib.Dec.{eqb}
+use lib.ListN.{take}
+use Rattle.octets.specs.Logic.{choose}
+use Rattle.octets.specs.Field.{field}
+use Rattle.refusal.specs.Answer.{Answer, gives, refuses}
+use Rattle.sequence.specs.Numbering.{wireValues}
+use Rattle.model.specs.Client.{Held, Client}
+use Rattle.model.specs.Model.{fresh, hasReply, keymapNotify, codeOf, sendRequest, askedOf, claimed, Filing, enqueuePacket}
+use Rattle.model.specs.Calls.{Call, send, enqueue-fds, enqueue, discard, poll, check, poll-reply, prepare, poll-event, take-closed, Said, step}
+use Rattle.model.specs.Calls as Calls
+use Rattle.model.specs.declared.Place.{Place}
+use Rattle.model.specs.declared.Place.the-variants as Place
+
+-- ---- A run
+
+-- The log tells what was accepted, the latest first: a request, whose number is its place among them, from 1 on; and a packet that carries a number, with its true number, which the engine never sees, and with what the engine said of it, where it was filed and under which number.
+pub data Event : Type 0 where
+  sent : (has-reply : Bool) → Event
+  took : (true-number : ℕ) (packet : List ℕ) (filing : Filing) → Event
+
+-- every packet carries a number but those of code 11
+abbrev pub unnumbered : List ℕ → Bool
+unnumbered p = eqb (codeOf p) keymapNotify
+
+-- what a send and a packet add to the log: a refusal adds nothing, and so does a packet that carries no number
+unfoldable pub noteSent : {A : Type 0} → Bool → Answer A → List Event → List Event
+noteSent has-reply (gives x) log = sent has-reply ∷ log
+noteSent has-reply (refuses n) log = log
+
+unfoldable pub noteTook : {A : Type 0} → ℕ → List ℕ → Answer (Filing × A) → List Event → List Event
+noteTook t p (gives x) log = choose (unnumbered p) log (took t p (x .0) ∷ log)
+noteTook t p (refuses n) log = log
+
+-- what a call adds; t is the true number of the packet that it brings, if it brings one
+unfoldable pub noted : Client → Call → ℕ → List Event → List Event
+noted c (send kind) t log = noteSent (hasReply kind) (sendRequest c kind) log
+noted c (enqueue-fds list) t log = log
+noted c (enqueue p) t log = noteTook t p (enqueuePacket c p) log
+noted c (discard n m) t log = log
+noted c (poll n bytes places) t log = log
+noted c (check n bytes) t log = log
+noted c (poll-reply n bytes) t log = log
+noted c (prepare n) t log = log
+noted c (poll-event bytes) t log = log
+noted c (take-closed places) t log = log
+
+-- "take a fresh engine, its sends and other calls, and a server's packets taken in order, mixed as one likes, each call given the state as the one before left it": any call, with any arguments, at any time. A refused packet leaves no trace, so that the log has the packets in the server's order where a refused one is offered again before a later one.
+pub data Runs : Client → List Event → Type 0 where
+  start : (o k s : ℕ) → Runs (fresh o k s) []
+  call : {c : Client} {log : List Event} (x : Call) (t : ℕ) → Runs c log → Runs (step c x .next) (noted c x t log)
+
+-- ---- The server: all of this speaks of the log, and never of the engine's numbers
+
+-- how many requests were sent
+abbrev pub sends : List Event → ℕ
+sends [] = 0
+sends (sent has-reply ∷ l) = sends l + 1
+sends (took t p f ∷ l) = sends l
+
+-- q is the number of a request with a reply
+abbrev pub Asked : List Event → ℕ → Type 0
+Asked [] q = ⊥
+Asked (sent true ∷ l) q = (q ≡ sends l + 1) ⊎ Asked l q
+Asked (sent false ∷ l) q = Asked l q
+Asked (took t p f ∷ l) q = Asked l q
+
+-- a packet with the true number q came
+abbrev pub Heard : List Event → ℕ → Type 0
+Heard [] q = ⊥
+Heard (sent has-reply ∷ l) q = Heard l q
+Heard (took t p f ∷ l) q = (q ≡ t) ⊎ Heard l q
+
+-- The four premises, on a packet p with the true number t that comes after l on a connection of byte order o. It carries "the low 16 bits of its true number";
+abbrev pub Wire : ℕ → ℕ → List ℕ → Type 0
+Wire o t p = field o 2 2 p ≡ t % wireValues
+
+-- "true numbers never fall"
+abbrev pub Rises : List Event → ℕ → Type 0
+Rises l t = (u : ℕ) → Heard l u → u ≤ t
+
+-- "nor pass the requests sent by then"
+abbrev pub Known : List Event → ℕ → Type 0
+Known l t = t ≤ sends l
+
+-- and "each request with a reply" has had "a numbered packet of its own number before any of a greater".
+abbrev pub Answered : List Event → ℕ → Type 0
+Answered l t = (q : ℕ) → Asked l q → q < t → Heard l q
+
+pub record Fair (o : ℕ) (l : List Event) (t : ℕ) (p : List ℕ) : Type 0 where
+  pub wire : Wire o t p
+  pub rises : Rises l t
+  pub known : Known l t
+  pub answered : Answered l t
+
+-- each packet of a log was as P says when it came
+abbrev pub Each : (List Event → ℕ → List ℕ → Type 0) → List Event → Type 0
+Each P [] = Unit {0}
+Each P (sent has-reply ∷ l) = Each P l
+Each P (took t p f ∷ l) = P l t p × Each P l
+
+-- the server is honest
+abbrev pub Honest : ℕ → List Event → Type 0
+Honest o = Each (Fair o)
+
+-- ---- What is to be shown
+
+-- the engine's number of each packet is the true one
+abbrev pub Right : List Event → Type 0
+Right [] = Unit {0}
+Right (sent has-reply ∷ l) = Right l
+Right (took t p f ∷ l) = (f .number ≡ t) × Right l
+
+-- From c to c' the record h went to the end of its list, or nowhere where it was dropped; nothing else is held or gone.
+abbrev pub Lands : Place → Held → Client → Client → Type 0
+Lands Place.Replies h c c' = (c' .replies ≡ c .replies ++ (h ∷ [])) × (c' .events ≡ c .events)
+Lands Place.Events h c c' = (c' .replies ≡ c .replies) × (c' .events ≡ c .events ++ (h ∷ []))
+Lands Place.Dropped h c c' = (c' .replies ≡ c .replies) × (c' .events ≡ c .events)
+
+-- the record of a packet under the number n, with the descriptors that it takes
+abbrev pub heldAs : Client → List ℕ → ℕ → Held
+heldAs c p n = record { number = n; packet = p; descriptors = take (claimed p (askedOf c n)) (c .waiting) }
+
+-- "filed under its true number, or if dropped was reckoned by it": t is the number that the engine says, the last read, and that of the record, which has the packet whole.
+pub record Filed (c : Client) (p : List ℕ) (t : ℕ) (x : Filing × Client) : Type 0 where
+  pub number : x .0 .number ≡ t
+  pub last-read : x .1 .numbers .read ≡ t
+  pub record-is : Lands (x .0 .place) (heldAs c p t) c (x .1)
+
+-- a packet p with the true number t was taken in
+abbrev pub Took : List Event → ℕ → List ℕ → Type 0
+Took [] t p = ⊥
+Took (sent has-reply ∷ l) t p = Took l t p
+Took (took u q f ∷ l) t p = ((t ≡ u) × (p ≡ q)) ⊎ Took l t p
+
+-- a record bears the true number of its packet, if the packet carries one
+abbrev pub Bears : List Event → Held → Type 0
+Bears l h = unnumbered (h .packet) ≡ false → Took l (h .number) (h .packet)
+
+-- P is true of each record of a list, of each that is held
+abbrev pub All : (Held → Type 0) → List Held → Type 0
+All P [] = Unit {0}
+All P (h ∷ l) = P h × All P l
+
+abbrev pub Holds : (Held → Type 0) → Client → Type 0
+Holds P c = All P (c .replies) × All P (c .events)
+
+-- P is true of what a call hands out, if that is a record
+abbrev pub Hands : (Held → Type 0) → Said → Type 0
+Hands P (Calls.number n) = Unit {0}
+Hands P Calls.done = Unit {0}
+Hands P (Calls.filed place n) = Unit {0}
+Hands P Calls.nothing = Unit {0}
+Hands P (Calls.took h) = P h
+Hands P Calls.again = Unit {0}
+Hands P Calls.absent = Unit {0}
+Hands P (Calls.answer b) = Unit {0}
+Hands P (Calls.closed list) = Unit {0}
+Hands P (Calls.refused n) = Unit {0}

@@ -1,0 +1,100 @@
+-- DEMAND 3: with an honest server every packet is filed under its true number, however long the run and whatever calls it mixes. Assumes nothing.
+use mathlib.Core.Bool.{true, false}
+use mathlib.Core.List.{List}
+use mathlib.Core.Logic.{_⊎_}
+use mathlib.Core.Path.{_≡_, sym, ap, _∙_}
+use Prim.Native.Nat.{ℕ}
+use lib.Dec.{ltb}
+use lib.ListN.{length}
+use Rattle.octets.specs.Logic.{choose}
+use Rattle.refusal.specs.Answer.{Answer, gives, refuses, refuse, pass}
+use Rattle.model.specs.Client.{Client}
+use Rattle.model.specs.Model.{numberOf, askedOf, Filing, takeIn, enqueuePacket}
+use Rattle.model.specs.Calls.{Call, step}
+use Rattle.model.specs.Promise.{Done, Promise, gives-same}
+use Rattle.model.specs.Reading.{Rooms, reads}
+use Rattle.model.specs.Sound.{soundb}
+use Rattle.model.specs.declared.Connection.{Connection}
+use Rattle.honest.specs.Run.{Event, unnumbered, Runs, Fair, Honest, Right, Filed, Bears, Holds, Hands}
+use Rattle.honest.specs.Rules.{ruled-inv, true-range}
+use Rattle.honest.specs.Calls.{Taking, taking, lands, counted, runs-ruled, one-of}
+use Rattle.honest.specs.Server.{Packet, Serves, serves-runs, HonestServer, server-honest}
+use Rattle.honest.specs.Public.{Public, public-runs, came, given-so, refused-so}
+use Rattle.honest.specs.Lists.{runs-filed, filed-took, all-map, hands}
+
+-- ---- Over the model
+
+-- TRUE NUMBERS: the number under which the engine filed, or reckoned, each packet of the run is the true one.
+pub true-numbers : {c : Client} {log : List Event} → Runs c log → Honest (c .order) log → Right log
+true-numbers r h = ruled-inv (runs-ruled r) h .right
+
+-- A run with an honest server, and the packet p with the true number t that comes next.
+module _ {c : Client} {log : List Event} (r : Runs c log) (h : Honest (c .order) log) (t : ℕ) (p : List ℕ) (carries : unnumbered p ≡ false) (fair : Fair (c .order) log t p) where
+  -- Its number is t, and numbers do not end before it.
+  pub next-number : numberOf c p ≡ gives t
+  unfolding numberOf choose
+  next-number = rw carries (true-range (c .order) (c .numbers) log (ruled-inv (runs-ruled r) h) t p fair)
+
+  -- So 1 and 2 apart, intake is the taking in under the true number,
+  pub next-packet : enqueuePacket c p ≡ refuse (ltb (length p) 32) 1 (refuse (ltb 65536 (length p)) 2 (takeIn c p t (askedOf c t)))
+  unfolding enqueuePacket pass
+  next-packet = rw next-number
+
+  -- NEVER ENDED: it is refused by 1, 2, 4 and 5 alone, and never by 3.
+  pub never-ended : (n : ℕ) → enqueuePacket c p ≡ refuses n → n ≡ 1 ⊎ n ≡ 2 ⊎ n ≡ 4 ⊎ n ≡ 5
+  unfolding takeIn
+  never-ended n e = one-of _ _ _ _ _ n (sym next-packet ∙ e)
+
+  -- FILED: where it is taken in, it is filed under its true number, or if dropped was reckoned by it.
+  pub next-filed : (x : Filing × Client) → gives x ≡ enqueuePacket c p → Filed c p t x
+  next-filed x e = at-true (taking c p x e)
+    where
+      at-true : Taking c p x → Filed c p t x
+      at-true k =
+          let n : k .n ≡ t = gives-same (k .number-is ∙ next-number) in
+          let m : x .0 .number ≡ t = ap (λ f. f .number) (k .filing-is) ∙ n in
+          record {
+            number = m;
+            last-read = ap (λ y. y .read) (counted c p x k carries .numbers-is) ∙ m;
+            record-is = rw n at (lands c p x k);
+          }
+
+-- HELD: at any time each record that is held bears the true number of its packet.
+pub held-true : {c : Client} {log : List Event} → Runs c log → Honest (c .order) log → Holds (Bears log) c
+held-true {c} {log} r h =
+    let k = runs-filed r in
+    let f = filed-took log (true-numbers r h) in
+    (all-map f (c .replies) (k .0), all-map f (c .events) (k .1))
+
+-- HANDED OUT: and so does each that a call hands out.
+pub handed-true : {c : Client} {log : List Event} → Runs c log → Honest (c .order) log → (x : Call) → Hands (Bears log) (step c x .said)
+handed-true {c} {log} r h x = hands (Bears log) c x (held-true r h)
+
+-- ---- Word for word
+
+-- With an honest server, whose packets come in order and a refused one again before a later one, every numbered packet that is taken in gets its true number.
+pub server-true : {all rest : List Packet} {c : Client} {log : List Event} → Serves all rest c log → HonestServer (c .order) all log → Right log
+server-true s h = true-numbers (serves-runs s) (server-honest _ s h)
+
+-- ---- For the public calls, over state and rooms
+
+pub public-true : {c : Connection} {r : Rooms} {log : List Event} → Public c r log → Honest (c .order) log → Right log
+unfolding reads
+public-true k h = true-numbers (public-runs k) h
+
+-- what is held, as it is read
+pub public-held : {c : Connection} {r : Rooms} {log : List Event} → Public c r log → Honest (c .order) log → Holds (Bears log) (reads c r)
+unfolding reads
+public-held k h = held-true (public-runs k) h
+
+-- A run of public calls with an honest server, and the call that brings its next packet.
+module _ {c : Connection} {r : Rooms} {log : List Event} (k : Public c r log) (h : Honest (c .order) log) (t : ℕ) (p : List ℕ) (carries : unnumbered p ≡ false) (fair : Fair (c .order) log t p)
+    (e : Answer (Done Filing)) (a : Answer (Filing × Connection)) (r' : Rooms) (promise : Promise (λ f. f) e (λ m. enqueuePacket m p) c r a r') where
+  pub public-filed : (f : Filing) (s : Connection) → a ≡ gives (f, s) → Filed (reads c r) p t (f, reads s r')
+  unfolding reads
+  public-filed f s q = next-filed (public-runs k) h t p carries fair (f, reads s r') (sym (given-so (came _ e (λ m. enqueuePacket m p) c r a r' promise) f s q))
+
+  -- a state that is not sound is refused by 9
+  pub public-never-ended : soundb c r ≡ true → (n : ℕ) → a ≡ refuses n → n ≡ 1 ⊎ n ≡ 2 ⊎ n ≡ 4 ⊎ n ≡ 5
+  unfolding reads
+  public-never-ended s n q = never-ended (public-runs k) h t p carries fair n (refused-so _ e (λ m. enqueuePacket m p) c r a r' s promise n q)

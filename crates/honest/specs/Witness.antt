@@ -1,0 +1,220 @@
+-- There are runs with an honest server: one with every kind of call and packet, and runs of any length. Assumes nothing.
+use mathlib.Core.Bool.{true, false}
+use mathlib.Core.List.{List, [], _∷_, _++_}
+use mathlib.Core.Logic.{inl, inr, ⊎-elim}
+use mathlib.Core.Path.{_≡_, refl, sym, ap, _∙_}
+use Prim.Native.Nat.{ℕ, zero, suc, _+_, _-_, _%_, _≤_, _<_, max}
+use native.Mathlib.Omega.{arith}
+use lib.ListN.{length, length-append}
+use lib.Seq.{drop-at}
+use native.Mathlib.Numerals.{add-one}
+use borrow.Author.Tests.{lt-leb, le-ltb, eq-eqb}
+use Rattle.octets.specs.Logic.{choose, both}
+use Rattle.octets.specs.Bytes.{bytesOf, lowBytes, turned}
+use Rattle.octets.specs.Field.{field}
+use Rattle.refusal.specs.Answer.{gives, refuse, pass}
+use Rattle.sequence.specs.Numbering.{lastNumber, wireValues}
+use Rattle.requests.specs.declared.Request.{Request}
+use Rattle.model.specs.Client.{Client, costs}
+use Rattle.model.specs.Model as Model
+use Rattle.model.specs.Model.{fresh, joining, sendRequest, Filing, somebody, numberOf, enqueuePacket, packet, pollForReplyOrError}
+use Rattle.model.specs.Calls.{Call, send, enqueue-fds, enqueue, discard, poll, check, poll-reply, prepare, poll-event, take-closed, Said, number, done, filed, absent, answer, closed, refused, step, run}
+use Rattle.model.specs.Calls as Calls
+use Rattle.model.specs.declared.ReplyFdKind.the-variants.{NoReply, ReplyWithoutFds, ReplyWithFds}
+use Rattle.model.specs.declared.DiscardMode.the-variants.{DiscardReply}
+use Rattle.model.specs.declared.Place.the-variants.{Replies, Events, Dropped}
+use Rattle.honest.specs.Run.{Event, sent, took, noted, Runs, start, call, sends, Asked, Heard, Fair, Honest}
+use Rattle.honest.specs.Computing.{computing, packetOf, send-to, packet-to, poll-to}
+use Rattle.honest.specs.Server.{Packet, Serves, begins, offers, calls, left, carrying, HonestServer}
+use Rattle.honest.specs.Theorems.{next-number}
+use Rattle.honest.specs.Test.{askedOf, heardOf, every, among, fairb, honestb, honest-by}
+
+-- ---- A run with every kind of call and packet
+
+-- a call, and the true number of the packet that it brings
+pub record Move : Type 0 where
+  pub call : Call
+  pub true-number : ℕ
+
+abbrev made : List Move → List Call
+made [] = []
+made (m ∷ ms) = m .call ∷ made ms
+
+abbrev logged : Client → List Event → List Move → List Event
+logged c l [] = l
+logged c l (m ∷ ms) = logged (step c (m .call) .next) (noted c (m .call) (m .true-number) l) ms
+
+moves-run : (ms : List Move) (c : Client) (l : List Event) → Runs c l → Runs (run c (made ms) .end) (logged c l ms)
+unfolding run
+moves-run [] c l r = r
+moves-run (m ∷ ms) c l r = moves-run ms (step c (m .call) .next) (noted c (m .call) (m .true-number) l) (call (m .call) (m .true-number) r)
+
+abbrev does : Call → Move
+does x = record { call = x; true-number = 0 }
+
+abbrev brings : ℕ → List ℕ → Move
+brings t p = record { call = enqueue p; true-number = t }
+
+abbrev heldAt : ℕ → List ℕ → List ℕ → Said
+heldAt n p fds = Calls.took (record { number = n; packet = p; descriptors = fds })
+
+-- Four requests; an event and a KeymapNotify fill the store; a reply is refused, an event is polled, and the reply is offered again; then an error, a reply with a descriptor, one that is discarded, and an event that is refused once.
+abbrev moves : List Move
+moves = does (send ReplyWithoutFds) ∷ does (send NoReply) ∷ does (send ReplyWithFds) ∷ does (send ReplyWithoutFds) ∷ does (enqueue-fds (7 ∷ [])) ∷ does (discard 4 DiscardReply) ∷ brings 0 (packetOf 2 0 0) ∷ does (enqueue (packetOf 11 255 65535)) ∷ brings 1 (packetOf 1 0 1) ∷ does (poll-event 32) ∷ brings 1 (packetOf 1 0 1) ∷ does (poll-event 32) ∷ brings 2 (packetOf 0 3 2) ∷ does (poll 1 32 0) ∷ does (poll-reply 2 0) ∷ brings 3 (packetOf 1 1 3) ∷ brings 4 (packetOf 1 0 4) ∷ brings 4 (packetOf 2 0 4) ∷ does (poll-event 32) ∷ brings 4 (packetOf 2 0 4) ∷ does (check 3 32) ∷ does (take-closed 1) ∷ does (prepare 4) ∷ []
+
+abbrev says : List Said
+says = number 1 ∷ number 2 ∷ number 3 ∷ number 4 ∷ done ∷ done ∷ filed Events 0 ∷ filed Events 0 ∷ refused 5 ∷ heldAt 0 (packetOf 2 0 0) [] ∷ filed Replies 1 ∷ heldAt 0 (packetOf 11 255 65535) [] ∷ filed Replies 2 ∷ heldAt 1 (packetOf 1 0 1) [] ∷ absent ∷ filed Replies 3 ∷ filed Dropped 4 ∷ refused 5 ∷ heldAt 2 (packetOf 0 3 2) [] ∷ filed Events 4 ∷ heldAt 3 (packetOf 1 1 3) (7 ∷ []) ∷ closed (7 ∷ []) ∷ answer false ∷ []
+
+pub witness-says : run (fresh 108 4 100) (made moves) .said ≡ says
+unfolding computing
+witness-says = refl
+
+pub witness-run : Runs (run (fresh 108 4 100) (made moves) .end) (logged (fresh 108 4 100) [] moves)
+witness-run = moves-run moves (fresh 108 4 100) [] (start 108 4 100)
+
+pub witness-honest : Honest 108 (logged (fresh 108 4 100) [] moves)
+unfolding computing askedOf heardOf every among fairb honestb
+witness-honest = honest-by 108 (logged (fresh 108 4 100) [] moves) refl
+
+-- ---- A server with two packets: the second is refused once, for want of room, and offered again
+
+abbrev first : Packet
+first = record { true-number = 0; bytes = packetOf 2 0 0 }
+
+abbrev second : Packet
+second = record { true-number = 1; bytes = packetOf 1 0 1 }
+
+abbrev servedLog : List Event
+servedLog = took 1 (packetOf 1 0 1) (record { place = Replies; number = 1 }) ∷ took 0 (packetOf 2 0 0) (record { place = Events; number = 0 }) ∷ sent true ∷ []
+
+abbrev served : List Call
+served = send ReplyWithoutFds ∷ enqueue (first .bytes) ∷ enqueue (second .bytes) ∷ poll-event 32 ∷ enqueue (second .bytes) ∷ []
+
+pub served-says : run (fresh 108 4 48) served .said ≡ number 1 ∷ filed Events 0 ∷ refused 5 ∷ heldAt 0 (packetOf 2 0 0) [] ∷ filed Replies 1 ∷ []
+unfolding computing
+served-says = refl
+
+pub served-run : Serves (first ∷ second ∷ []) [] (run (fresh 108 4 48) served .end) servedLog
+unfolding computing left
+served-run = offers {p = second} (calls (poll-event 32) tt (offers {p = second} (offers {p = first} (calls (send ReplyWithoutFds) tt (begins 108 4 48)))))
+
+pub served-honest : HonestServer 108 (first ∷ second ∷ []) servedLog
+unfolding computing carrying
+served-honest =
+    record {
+      wire = (refl, (refl, tt));
+      rising = ((omega arith, tt), (tt, tt));
+      known = (omega arith, (omega arith, tt));
+      answered = λ q a. inr (omega arith, ⊎-elim (λ (e : q ≡ 1). inl (sym e)) (λ z. absurd z) a);
+    }
+
+-- ---- Runs of any length: n times a request, its reply, and a poll that takes it
+
+abbrev last : Request
+last = joining ReplyWithoutFds
+
+-- the state between rounds: the request that was answered last is still outstanding
+abbrev between : ℕ → List Request → Client
+between n rest = record { order = 108; most-requests = 2; most-bytes = 48; numbers = record { written = n; expected = n; read = n }; outstanding = rest; replies = []; events = []; waiting = []; closing = [] }
+
+-- the same once the next request went out, and once its reply came
+abbrev sentOne : ℕ → List Request → Client
+sentOne n rest = record { order = 108; most-requests = 2; most-bytes = 48; numbers = record { written = n + 1; expected = n + 1; read = n }; outstanding = rest ++ (last ∷ []); replies = []; events = []; waiting = []; closing = [] }
+
+-- the reply to request t
+abbrev replyTo : ℕ → List ℕ
+replyTo t = packetOf 1 0 (t % wireValues)
+
+abbrev tookOne : ℕ → Client
+tookOne n = record { order = 108; most-requests = 2; most-bytes = 48; numbers = record { written = n; expected = n; read = n }; outstanding = last ∷ []; replies = record { number = n; packet = replyTo n; descriptors = [] } ∷ []; events = []; waiting = []; closing = [] }
+
+abbrev inReplies : ℕ → Filing
+inReplies n = record { place = Replies; number = n }
+
+pub rounds : ℕ → List Event
+rounds zero = []
+rounds (suc n) = took (suc n) (replyTo (suc n)) (inReplies (suc n)) ∷ sent true ∷ rounds n
+
+module _ (n : ℕ) (rest : List Request) (short : length rest ≤ 1) (fewer : length rest ≤ n) (fits : n < lastNumber) where
+  send-one : sendRequest (between n rest) ReplyWithoutFds ≡ gives (n + 1, sentOne n rest)
+  unfolding computing
+  send-one = rw (lt-leb lastNumber n fits, lt-leb 2 (length rest) (omega arith))
+
+  -- the request is the one behind the rest
+  way : n + 1 - (n + 1 + 1 - length (rest ++ (last ∷ []))) ≡ length rest
+  way = simp length-append (omega arith)
+
+  asked-one : Model.askedOf (sentOne n rest) (n + 1) ≡ somebody last
+  unfolding Model.askedOf Model.headOf choose
+  asked-one =
+      let h : n + 1 + 1 - length (rest ++ (last ∷ [])) ≤ n + 1 = simp length-append (omega arith) in
+      rw (le-ltb (n + 1) (n + 1 + 1 - length (rest ++ (last ∷ []))) h, way, drop-at rest (last ∷ []) (length rest) refl)
+
+  take-one : numberOf (sentOne n rest) (replyTo (n + 1)) ≡ gives (n + 1) → enqueuePacket (sentOne n rest) (replyTo (n + 1)) ≡ gives (inReplies (n + 1), tookOne (n + 1))
+  unfolding enqueuePacket pass refuse bytesOf turned lowBytes choose Model.takeIn Model.placeOf Model.claimed both costs Model.numbered
+  take-one e =
+      let m : max (n + 1) (n + 1) ≡ n + 1 = omega arith in
+      rw (e, asked-one, way, drop-at rest (last ∷ []) (length rest) refl, m)
+
+poll-one : (n : ℕ) → pollForReplyOrError (tookOne n) n 32 0 ≡ gives (packet (record { number = n; packet = replyTo n; descriptors = [] }), between n (last ∷ []))
+unfolding computing
+poll-one n = rw (eq-eqb n n refl)
+
+-- the server is honest in it
+reply-wire : (t : ℕ) → field 108 2 2 (replyTo t) ≡ t % wireValues
+unfolding computing
+reply-wire t = omega arith
+
+rounds-sends : (n : ℕ) → sends (rounds n) ≡ n
+unfolding rounds
+rounds-sends zero = refl
+rounds-sends (suc n) = add-one _ ∙ ap suc (rounds-sends n)
+
+rounds-heard : (n u : ℕ) → Heard (rounds n) u → u ≤ n
+unfolding rounds
+rounds-heard zero u h = absurd h
+rounds-heard (suc n) u (inl h) = omega arith
+rounds-heard (suc n) u (inr h) = omega (arith, rounds-heard n u h)
+
+rounds-asked : (n q : ℕ) → Asked (rounds n) q → Heard (rounds n) q
+unfolding rounds
+rounds-asked zero q a = a
+rounds-asked (suc n) q (inl a) = inl (omega (arith, rounds-sends n))
+rounds-asked (suc n) q (inr a) = inr (rounds-asked n q a)
+
+rounds-fair : (n : ℕ) → Fair 108 (sent true ∷ rounds n) (suc n) (replyTo (suc n))
+rounds-fair n =
+    record {
+      wire = reply-wire (suc n);
+      rises = λ u h. omega (arith, rounds-heard n u h);
+      known = omega (arith, rounds-sends n);
+      answered = λ q a less. ⊎-elim (λ z. absurd (omega (arith, rounds-sends n))) (λ b. rounds-asked n q b) a;
+    }
+
+pub rounds-honest : (n : ℕ) → Honest 108 (rounds n)
+unfolding rounds
+rounds-honest zero = tt
+rounds-honest (suc n) = (rounds-fair n, rounds-honest n)
+
+-- a run through n rounds
+pub record Through (n : ℕ) : Type 0 where
+  pub rest : List Request
+  pub short : length rest ≤ 1
+  pub fewer : length rest ≤ n
+  pub run : Runs (between n rest) (rounds n)
+
+round : (n : ℕ) → n < lastNumber → Through n → Through (suc n)
+unfolding rounds
+round n h k =
+    let fair : Fair 108 (sent true ∷ rounds n) (n + 1) (replyTo (n + 1)) = rw add-one (rounds-fair n) in
+    let asks = send-to ReplyWithoutFds (n + 1) (sentOne n (k .rest)) (send-one n (k .rest) (k .short) (k .fewer) h) (k .run) in
+    let e = next-number asks (rounds-honest n) (n + 1) (replyTo (n + 1)) refl fair in
+    let takes = packet-to (n + 1) (replyTo (n + 1)) (inReplies (n + 1)) (tookOne (n + 1)) refl (take-one n (k .rest) (k .short) (k .fewer) h e) asks in
+    let polls = poll-to (n + 1) 32 0 _ (between (n + 1) (last ∷ [])) (poll-one (n + 1)) takes in
+    record { rest = last ∷ []; short = omega arith; fewer = omega arith; run = rw add-one at polls }
+
+-- ANY LENGTH: up to the last number there are rounds, far past where wire numbers begin again.
+pub any-length : (n : ℕ) → n ≤ lastNumber → Through n
+unfolding rounds
+any-length zero h = record { rest = []; short = omega arith; fewer = omega arith; run = start 108 2 48 }
+any-length (suc n) h = round n h (any-length n (omega arith))
