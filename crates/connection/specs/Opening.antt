@@ -20,7 +20,7 @@ use Rattle.descriptors.specs.Theorems as Fds
 use Rattle.model.specs.Client.{Client}
 use Rattle.model.specs.Model.{mostDescriptors, mostRequests, leastBytes, mostBytes, roomy, fresh, new}
 use Rattle.model.specs.Reading.{Rooms, rooms, reads, withDescriptors, eventOf, slotsOf}
-use Rattle.model.specs.Promise.{Done, Exact, modelOf, exact-refused, exact-given, gives-same, model-refuse}
+use Rattle.model.specs.Promise.{Done, Exact, answerOf, modelOf, exact-refused, exact-given, gives-same, model-refuse}
 use Rattle.model.specs.Sound.{Sound, soundb}
 use Rattle.model.specs.declared.Connection.{Connection}
 use Rattle.sending.specs.Send.{same}
@@ -103,6 +103,18 @@ open-sound o r d e =
     let e₁ = gives-rest _ _ _ e in let e₂ = gives-rest _ _ _ e₁ in
     subst (λ (x : Done Unit). Sound (x .state) (x .left)) (gives-same (sym (gives-rest _ _ _ e₂)))
     (fresh-sound o r (eqb-true _ _ (not-false _ (gives-past _ _ _ e))) (not-false _ (gives-past _ _ _ e₁)) (not-false _ (gives-past _ _ _ e₂)))
+
+-- A state that it hands back is read as the model's fresh one.
+pub opens-fresh : (o : ℕ) (r : Rooms) (c : Connection) → Opens o r (gives (tt, c)) → reads c r ≡ fresh o (length (r .requests)) (length (r .store))
+unfolding answerOf openExact
+opens-fresh o r c h = by (openExact o r) refl (h .exact .answers)
+  where
+    by : (x : Answer (Done Unit)) → x ≡ openExact o r → gives (tt, c) ≡ answerOf same x → reads c r ≡ fresh o (length (r .requests)) (length (r .store))
+    by (gives d) i q =
+        let e₁ = gives-rest _ _ _ i in let e₂ = gives-rest _ _ _ e₁ in
+        let s : d .state ≡ freshState o (length (r .requests)) (length (r .store)) = ap (λ (x : Done Unit). x .state) (gives-same (gives-rest _ _ _ e₂)) in
+        ap (λ (x : Connection). reads x r) (ap (λ (v : Unit × Connection). v .1) (gives-same q) ∙ s) ∙ fresh-read o r (eqb-true _ _ (not-false _ (gives-past _ _ _ i))) (not-false _ (gives-past _ _ _ e₁))
+    by (refuses n) i q = absurd (let z : _≡_ {A = ℕ} 0 1 = cc in omega arith)
 
 -- how it comes out
 module _ (o : ℕ) (r : Rooms) where

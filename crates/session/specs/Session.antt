@@ -1,0 +1,27 @@
+-- DEMAND 3: what a session is. One constructor for each public call, by its promise, with any arguments, refused or not, on the whole state and rooms as the call before left them. Assumes nothing.
+use mathlib.Core.Bool.{Bool}
+use mathlib.Core.List.{List, []}
+use Prim.Native.Nat.{ℕ}
+use lib.ListN.{length}
+use Rattle.refusal.specs.Answer.{Answer, gives}
+use Rattle.model.specs.Model.{hasReply, Filing}
+use Rattle.model.specs.Reading.{Rooms}
+use Rattle.model.specs.Says.{Shown, ShownEvent, ShownPoll}
+use Rattle.model.specs.declared.Connection.{Connection}
+use Rattle.model.specs.declared.ReplyFdKind.{ReplyFdKind}
+use Rattle.connection.specs.Calls.{Opens, Sends, EnqueuesFds, Enqueues, Polls, Checks, PollsReply, PollsEvent, Closes, Prepares}
+use Rattle.honest.specs.Run.{Event, noteSent, noteTook}
+use Rattle.honest.specs.Public.{stateOf}
+
+-- The log has what was accepted. The true number t of a packet is the server's: no call sees it.
+pub data Session : Connection → Rooms → List Event → Type 1 where
+  new : (o : ℕ) (r : Rooms) (c : Connection) → Opens o r (gives (tt, c)) → Session c r []
+  send-request : {c : Connection} {r : Rooms} {l : List Event} (kind : ReplyFdKind) (a : Answer (ℕ × Connection)) (r' : Rooms) → Sends c r kind a r' → Session c r l → Session (stateOf a c) r' (noteSent (hasReply kind) a l)
+  enqueue-fds : {c : Connection} {r : Rooms} {l : List Event} (list : List ℕ) (a : Answer (Unit × Connection)) (r' : Rooms) → EnqueuesFds c r list a r' → Session c r l → Session (stateOf a c) r' l
+  enqueue-packet : {c : Connection} {r : Rooms} {l : List Event} (t : ℕ) (p : List ℕ) (a : Answer (Filing × Connection)) (r' : Rooms) → Enqueues c r p a r' → Session c r l → Session (stateOf a c) r' (noteTook t p a l)
+  poll-for-reply-or-error : {c : Connection} {r : Rooms} {l : List Event} (n : ℕ) (out fds : List ℕ) (a : Answer (Shown × Connection)) (r' : Rooms) (out' fds' : List ℕ) → Polls c r n out fds a r' out' fds' → Session c r l → Session (stateOf a c) r' l
+  poll-check-for-reply-or-error : {c : Connection} {r : Rooms} {l : List Event} (n : ℕ) (out : List ℕ) (a : Answer (ShownPoll × Connection)) (r' : Rooms) (out' : List ℕ) → Checks c r n out a r' out' → Session c r l → Session (stateOf a c) r' l
+  poll-for-reply : {c : Connection} {r : Rooms} {l : List Event} (n : ℕ) (out : List ℕ) (a : Answer (ShownPoll × Connection)) (r' : Rooms) (out' : List ℕ) → PollsReply c r n out a r' out' → Session c r l → Session (stateOf a c) r' l
+  poll-for-event : {c : Connection} {r : Rooms} {l : List Event} (out : List ℕ) (a : Answer (ShownEvent × Connection)) (r' : Rooms) (out' : List ℕ) → PollsEvent c r out a r' out' → Session c r l → Session (stateOf a c) r' l
+  take-closed-fds : {c : Connection} {r : Rooms} {l : List Event} (out : List ℕ) (a : Answer (ℕ × Connection)) (r' : Rooms) (out' : List ℕ) → Closes c r out a r' out' → Session c r l → Session (stateOf a c) r' l
+  prepare-check : {c : Connection} {r : Rooms} {l : List Event} (n : ℕ) (a : Answer Bool) → Prepares c r n a → Session c r l → Session c r l
