@@ -20,7 +20,7 @@ use Rattle.descriptors.specs.Theorems as Fds
 use Rattle.model.specs.Client.{Client}
 use Rattle.model.specs.Model.{mostDescriptors, mostRequests, leastBytes, mostBytes, roomy, fresh, new}
 use Rattle.model.specs.Reading.{Rooms, rooms, reads, withDescriptors, eventOf, slotsOf}
-use Rattle.model.specs.Promise.{Done, Exact, answerOf, modelOf, exact-refused, exact-given, gives-same, model-refuse}
+use Rattle.model.specs.Promise.{Done, Exact, answerOf, roomsOf, modelOf, exact-refused, exact-given, gives-same, model-refuse}
 use Rattle.model.specs.Sound.{Sound, soundb}
 use Rattle.model.specs.declared.Connection.{Connection}
 use Rattle.sending.specs.Send.{same}
@@ -104,17 +104,25 @@ open-sound o r d e =
     subst (λ (x : Done Unit). Sound (x .state) (x .left)) (gives-same (sym (gives-rest _ _ _ e₂)))
     (fresh-sound o r (eqb-true _ _ (not-false _ (gives-past _ _ _ e))) (not-false _ (gives-past _ _ _ e₁)) (not-false _ (gives-past _ _ _ e₂)))
 
--- A state that it hands back is read as the model's fresh one.
-pub opens-fresh : (o : ℕ) (r : Rooms) (c : Connection) → Opens o r (gives (tt, c)) → reads c r ≡ fresh o (length (r .requests)) (length (r .store))
-unfolding answerOf openExact
-opens-fresh o r c h = by (openExact o r) refl (h .exact .answers)
-  where
-    by : (x : Answer (Done Unit)) → x ≡ openExact o r → gives (tt, c) ≡ answerOf same x → reads c r ≡ fresh o (length (r .requests)) (length (r .store))
-    by (gives d) i q =
-        let e₁ = gives-rest _ _ _ i in let e₂ = gives-rest _ _ _ e₁ in
-        let s : d .state ≡ freshState o (length (r .requests)) (length (r .store)) = ap (λ (x : Done Unit). x .state) (gives-same (gives-rest _ _ _ e₂)) in
-        ap (λ (x : Connection). reads x r) (ap (λ (v : Unit × Connection). v .1) (gives-same q) ∙ s) ∙ fresh-read o r (eqb-true _ _ (not-false _ (gives-past _ _ _ i))) (not-false _ (gives-past _ _ _ e₁))
-    by (refuses n) i q = absurd (let z : _≡_ {A = ℕ} 0 1 = cc in omega arith)
+module _ (o : ℕ) (r : Rooms) (c : Connection) (h : Opens o r (gives (tt, c))) where
+  opens-exact : gives (record { value = tt; state = c; left = r }) ≡ openExact o r
+  unfolding answerOf roomsOf
+  opens-exact = by (openExact o r) (h .exact .answers) (h .exact .leaves)
+    where
+      by : (x : Answer (Done Unit)) → gives (tt, c) ≡ answerOf same x → r ≡ roomsOf x r → gives (record { value = tt; state = c; left = r }) ≡ x
+      by (gives d) q l = λ k. gives (record { value = tt; state = gives-same q k .1; left = l k })
+      by (refuses n) q l = absurd (let z : _≡_ {A = ℕ} 0 1 = cc in omega arith)
+
+  -- A state that it hands back is sound,
+  pub opens-sound : Sound c r
+  opens-sound = open-sound o r _ opens-exact
+
+  -- and is read as the model's fresh one.
+  pub opens-fresh : reads c r ≡ fresh o (length (r .requests)) (length (r .store))
+  unfolding openExact
+  opens-fresh =
+      let e₁ = gives-rest _ _ _ opens-exact in let e₂ = gives-rest _ _ _ e₁ in
+      ap (λ (x : Done Unit). reads (x .state) r) (gives-same (gives-rest _ _ _ e₂)) ∙ fresh-read o r (eqb-true _ _ (not-false _ (gives-past _ _ _ opens-exact))) (not-false _ (gives-past _ _ _ e₁))
 
 -- how it comes out
 module _ (o : ℕ) (r : Rooms) where

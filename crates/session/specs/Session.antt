@@ -1,8 +1,8 @@
 -- DEMAND 3: what a session is. One constructor for each public call, by its promise, with any arguments, refused or not, on the whole state and rooms as the call before left them. Assumes nothing.
 use mathlib.Core.Bool.{Bool}
 use mathlib.Core.List.{List, []}
-use Prim.Native.Nat.{ℕ}
-use lib.ListN.{length}
+use Prim.Native.Nat.{ℕ, _<_}
+use lib.ListN.{getD}
 use Rattle.refusal.specs.Answer.{Answer, gives}
 use Rattle.model.specs.Model.{hasReply, Filing}
 use Rattle.model.specs.Reading.{Rooms}
@@ -13,12 +13,12 @@ use Rattle.connection.specs.Calls.{Opens, Sends, EnqueuesFds, Enqueues, Polls, 
 use Rattle.honest.specs.Run.{Event, noteSent, noteTook}
 use Rattle.honest.specs.Public.{stateOf}
 
--- The log has what was accepted. The true number t of a packet is the server's: no call sees it.
+-- The log has what was accepted. The true number t of a packet is the server's: no call sees it. A packet is of bytes; that byte 1 is one is all that is asked.
 pub data Session : Connection → Rooms → List Event → Type 1 where
   new : (o : ℕ) (r : Rooms) (c : Connection) → Opens o r (gives (tt, c)) → Session c r []
   send-request : {c : Connection} {r : Rooms} {l : List Event} (kind : ReplyFdKind) (a : Answer (ℕ × Connection)) (r' : Rooms) → Sends c r kind a r' → Session c r l → Session (stateOf a c) r' (noteSent (hasReply kind) a l)
   enqueue-fds : {c : Connection} {r : Rooms} {l : List Event} (list : List ℕ) (a : Answer (Unit × Connection)) (r' : Rooms) → EnqueuesFds c r list a r' → Session c r l → Session (stateOf a c) r' l
-  enqueue-packet : {c : Connection} {r : Rooms} {l : List Event} (t : ℕ) (p : List ℕ) (a : Answer (Filing × Connection)) (r' : Rooms) → Enqueues c r p a r' → Session c r l → Session (stateOf a c) r' (noteTook t p a l)
+  enqueue-packet : {c : Connection} {r : Rooms} {l : List Event} (t : ℕ) (p : List ℕ) → getD p 1 0 < 256 → (a : Answer (Filing × Connection)) (r' : Rooms) → Enqueues c r p a r' → Session c r l → Session (stateOf a c) r' (noteTook t p a l)
   poll-for-reply-or-error : {c : Connection} {r : Rooms} {l : List Event} (n : ℕ) (out fds : List ℕ) (a : Answer (Shown × Connection)) (r' : Rooms) (out' fds' : List ℕ) → Polls c r n out fds a r' out' fds' → Session c r l → Session (stateOf a c) r' l
   poll-check-for-reply-or-error : {c : Connection} {r : Rooms} {l : List Event} (n : ℕ) (out : List ℕ) (a : Answer (ShownPoll × Connection)) (r' : Rooms) (out' : List ℕ) → Checks c r n out a r' out' → Session c r l → Session (stateOf a c) r' l
   poll-for-reply : {c : Connection} {r : Rooms} {l : List Event} (n : ℕ) (out : List ℕ) (a : Answer (ShownPoll × Connection)) (r' : Rooms) (out' : List ℕ) → PollsReply c r n out a r' out' → Session c r l → Session (stateOf a c) r' l

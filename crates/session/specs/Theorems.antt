@@ -1,34 +1,60 @@
 -- DEMAND 3 for the public calls. Assumes nothing.
-use mathlib.Core.Bool.{true, false}
+use mathlib.Core.Bool.{false}
 use mathlib.Core.List.{List}
 use mathlib.Core.Logic.{_⊎_}
-use mathlib.Core.Path.{_≡_, sym, ap, _∙_}
+use mathlib.Core.Path.{_≡_, sym, subst}
 use Prim.Native.Nat.{ℕ}
 use lib.ListN.{length}
-use Rattle.refusal.specs.Answer.{Answer, gives, refuses, gives-rest}
-use Rattle.model.specs.Model.{Filing, enqueueFds, takeClosed, pollForReplyOrError, pollCheck, pollForReply, pollForEvent}
+use Rattle.refusal.specs.Answer.{Answer, gives, refuses}
+use Rattle.model.specs.Client.{Client}
+use Rattle.model.specs.Model.{Filing}
 use Rattle.model.specs.Calls as Calls
-use Rattle.model.specs.Promise.{gives-same}
+use Rattle.model.specs.Promise.{Done, Promise}
 use Rattle.model.specs.Reading.{Rooms, reads}
 use Rattle.model.specs.Says.{shownTaken, shownEvent, shownPoll}
-use Rattle.model.specs.Sound.{soundb}
+use Rattle.model.specs.Sound.{Sound, is-sound}
 use Rattle.model.specs.declared.Connection.{Connection}
 use Rattle.sending.specs.Send.{same}
-use Rattle.sending.specs.Fds as Fds
+use Rattle.sending.specs.Theorems as Sending
 use Rattle.intake.specs.Exact.{enqueueExact}
-use Rattle.polling.specs.Exact.{eventExact, takenExact, checkedExact, repliedExact}
+use Rattle.intake.specs.Theorems as Intake
+use Rattle.polling.specs.Theorems as Polling
 use Rattle.connection.specs.Calls.{Enqueues}
-use Rattle.connection.specs.Opening.{opens-fresh}
+use Rattle.connection.specs.Opening.{opens-fresh, opens-sound}
+use Rattle.connection.specs.Theorems.{refusal-leaves, state-sound}
 use Rattle.honest.specs.Run.{Event, unnumbered, Fair, Honest, Right, Filed, Bears, Holds}
-use Rattle.honest.specs.Public.{Public, opens, sends, takes, others}
+use Rattle.honest.specs.Public.{stateOf, Public, opens, sends, takes, others}
 use Rattle.honest.specs.Theorems as Any
 use Rattle.session.specs.Session.{Session, new, send-request, enqueue-fds, enqueue-packet, poll-for-reply-or-error, poll-check-for-reply-or-error, poll-for-reply, poll-for-event, take-closed-fds, prepare-check}
+
+-- ---- Soundness
+
+module _ {A B : Type 0} (f : A → B) (e : Answer (Done A)) (m : Client → Answer (A × Client)) (c : Connection) (r : Rooms) (law : Sound c r → (d : Done A) → gives d ≡ e → Sound (d .state) (d .left)) (S : Sound c r) where
+  keeps : (a : Answer (B × Connection)) (r' : Rooms) → Promise f e m c r a r' → Sound (stateOf a c) r'
+  unfolding stateOf
+  keeps (gives x) r' h = state-sound f e m c r law (x .0) (x .1) r' h
+  keeps (refuses n) r' h = subst (λ (y : Rooms). Sound c y) (sym (refusal-leaves f e m c r n r' h)) S
+
+-- SOUND: state and rooms are sound at any time, so that no call of a session is refused by 9.
+pub session-sound : {c : Connection} {r : Rooms} {l : List Event} → Session c r l → Sound c r
+session-sound (new o r c h) = opens-sound o r c h
+session-sound (send-request {c = c} {r = r} kind a r' h k) = keeps same _ _ c r (λ S. Sending.send-sound c r S kind) (session-sound k) a r' h
+session-sound (enqueue-fds {c = c} {r = r} list a r' h k) = keeps same _ _ c r (λ S. Sending.enqueue-sound c r S list) (session-sound k) a r' h
+session-sound (enqueue-packet {c = c} {r = r} t p b a r' h k) = keeps (λ f. f) _ _ c r (λ S. Intake.enqueue-sound c r S p b) (session-sound k) a r' h
+session-sound (poll-for-reply-or-error {c = c} {r = r} n out fds a r' out' fds' h k) = keeps shownTaken _ _ c r (λ S. Polling.taken-leaves c r S n (length out) (length fds)) (session-sound k) a r' (h .packet .promise)
+session-sound (poll-check-for-reply-or-error {c = c} {r = r} n out a r' out' h k) = keeps shownPoll _ _ c r (λ S. Polling.checked-leaves c r S n (length out)) (session-sound k) a r' (h .promise)
+session-sound (poll-for-reply {c = c} {r = r} n out a r' out' h k) = keeps shownPoll _ _ c r (λ S. Polling.replied-leaves c r S n (length out)) (session-sound k) a r' (h .promise)
+session-sound (poll-for-event {c = c} {r = r} out a r' out' h k) = keeps shownEvent _ _ c r (λ S. Polling.event-leaves c r S (length out)) (session-sound k) a r' (h .promise)
+session-sound (take-closed-fds {c = c} {r = r} out a r' out' h k) = keeps length _ _ c r (λ S. Sending.close-sound c r S (length out)) (session-sound k) a r' (h .promise)
+session-sound (prepare-check n a h k) = session-sound k
+
+-- ---- True numbers
 
 pub session-public : {c : Connection} {r : Rooms} {l : List Event} → Session c r l → Public c r l
 session-public (new o r c h) = opens o _ _ (opens-fresh o r c h)
 session-public (send-request kind a r' h k) = sends kind _ a r' h (session-public k)
 session-public (enqueue-fds list a r' h k) = others (Calls.enqueue-fds list) tt same _ a r' h (session-public k)
-session-public (enqueue-packet t p a r' h k) = takes t p _ a r' h (session-public k)
+session-public (enqueue-packet t p b a r' h k) = takes t p _ a r' h (session-public k)
 session-public (poll-for-reply-or-error n out fds a r' out' fds' h k) = others (Calls.poll n (length out) (length fds)) tt shownTaken _ a r' (h .packet .promise) (session-public k)
 session-public (poll-check-for-reply-or-error n out a r' out' h k) = others (Calls.check n (length out)) tt shownPoll _ a r' (h .promise) (session-public k)
 session-public (poll-for-reply n out a r' out' h k) = others (Calls.poll-reply n (length out)) tt shownPoll _ a r' (h .promise) (session-public k)
@@ -51,6 +77,6 @@ module _ {c : Connection} {r : Rooms} {l : List Event} (k : Session c r l) (h : 
   pub session-filed : (f : Filing) (s : Connection) → a ≡ gives (f, s) → Filed (reads c r) p t (f, reads s r')
   session-filed = Any.public-filed (session-public k) h t p carries fair (enqueueExact c r p) a r' enqueues
 
-  -- NEVER ENDED: it is refused by 1, 2, 4 and 5 alone; by 9 only where the rooms are not as the call before left them.
-  pub session-never-ended : soundb c r ≡ true → (n : ℕ) → a ≡ refuses n → n ≡ 1 ⊎ n ≡ 2 ⊎ n ≡ 4 ⊎ n ≡ 5
-  session-never-ended = Any.public-never-ended (session-public k) h t p carries fair (enqueueExact c r p) a r' enqueues
+  -- NEVER ENDED: it is refused by 1, 2, 4 and 5 alone.
+  pub session-never-ended : (n : ℕ) → a ≡ refuses n → n ≡ 1 ⊎ n ≡ 2 ⊎ n ≡ 4 ⊎ n ≡ 5
+  session-never-ended = Any.public-never-ended (session-public k) h t p carries fair (enqueueExact c r p) a r' enqueues (is-sound c r (session-sound k))
