@@ -8,16 +8,18 @@ use lib.ListN.{length}
 use Rattle.octets.specs.Bytes.{legal}
 use Rattle.refusal.specs.Answer.{Answer, gives, refuses, refuse, pass}
 use Rattle.model.specs.Client.{Client}
-use Rattle.model.specs.Model.{mostDescriptors, roomy, fresh, new, sendRequest, enqueueFds, takeClosed, Filing, enqueuePacket, Taken, pollForReplyOrError, pollCheck, pollForReply, prepareCheck, pollForEvent}
+use Rattle.model.specs.Model.{mostDescriptors, roomy, fresh, new, sendRequest, enqueueFds, takeClosed, Filing, enqueuePacket, discardReply, Taken, pollForReplyOrError, pollCheck, pollForReply, prepareCheck, pollForEvent}
 use Rattle.model.specs.Reading.{Rooms, rooms, reads}
 use Rattle.model.specs.Promise.{Done, Exact, Promise, outputOf, modelOf, guarded}
 use Rattle.model.specs.Says.{Shown, shownTaken, ShownEvent, shownEvent, ShownPoll, shownPoll, bytesOfTaken, descriptorsOfTaken, bytesOfPoll}
 use Rattle.model.specs.declared.Connection.{Connection}
 use Rattle.model.specs.declared.ReplyFdKind.{ReplyFdKind}
+use Rattle.model.specs.declared.DiscardMode.{DiscardMode}
 use Rattle.sending.specs.Send.{same, sendExact}
 use Rattle.sending.specs.Fds as Fds
 use Rattle.sending.specs.Fds.{closeExact}
 use Rattle.intake.specs.Exact.{enqueueExact, shown}
+use Rattle.polling.specs.Discard.{discardExact}
 use Rattle.polling.specs.Exact.{eventExact, takenExact, checkedExact, repliedExact}
 
 -- a state with nothing sent, read or held
@@ -61,6 +63,9 @@ EnqueuesFds c r list = Promise same (Fds.enqueueExact c r list) (λ m. enqueueFd
 
 abbrev pub Enqueues : Connection → Rooms → List ℕ → Answer (Filing × Connection) → Rooms → Type 0
 Enqueues c r p = Promise shown (enqueueExact c r p) (λ m. enqueuePacket m p) c r
+
+abbrev pub Discards : Connection → Rooms → ℕ → DiscardMode → Answer (Unit × Connection) → Rooms → Type 0
+Discards c r n mode = Promise same (gives (discardExact c r n mode)) (λ m. discardReply m n mode) c r
 
 -- A call that hands something out: its promise, and what g takes of the value at the start of the lent output.
 pub record Hands {A B : Type 0} (f : A → B) (g : A → List ℕ) (e : Answer (Done A)) (m : Client → Answer (A × Client)) (c : Connection) (r : Rooms) (out : List ℕ)

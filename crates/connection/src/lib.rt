@@ -10,6 +10,7 @@ use descriptors::Counts;
 use held::Window;
 use model::Closed;
 use model::Connection;
+use model::DiscardMode;
 use model::Enqueued;
 use model::Event;
 use model::Next;
@@ -25,7 +26,7 @@ ghost use lib.ListN.{length};
 ghost use Rattle.model.specs.Model.{roomy};
 ghost use Rattle.model.specs.Reading.{rooms};
 ghost use Rattle.model.specs.Says.{saysNext, saysSent, saysEnqueued, saysPolled, saysPollReply, saysEvent, saysClosed, saysPrepared};
-ghost use Rattle.connection.specs.Calls.{Opens, Sends, EnqueuesFds, Enqueues, Polls, Checks, PollsReply, PollsEvent, Closes, Prepares, freshState as Calls·freshState};
+ghost use Rattle.connection.specs.Calls.{Opens, Sends, EnqueuesFds, Enqueues, Discards, Polls, Checks, PollsReply, PollsEvent, Closes, Prepares, freshState as Calls·freshState};
 
 // A fresh connection in these rooms: its request room and its packet store have the lengths that
 // they are lent with from then on. Refused by 9 for a room out of range or other than 256 slots for
@@ -96,6 +97,26 @@ pub fn enqueue_packet(
         return Enqueued::Refused(Refusal::BadRoom);
     }
     intake::enqueue_packet(c, requests, store, slots, packet)
+}
+
+// The answers to a request are not wanted: neither those to come nor those held, whose descriptors
+// are put with those to close. Under DiscardReply held errors become events. Refused by 9 alone.
+pub fn discard_reply(
+    c: Connection,
+    requests: &mut [u8],
+    store: &mut [u8],
+    slots: &mut [u32],
+    number: u64,
+    mode: DiscardMode,
+) -> Next
+    ensures { λ r. ⌜ Discards c (rooms (now (requests .entry)) (now (store .entry)) (now (slots .entry))) number mode (saysNext r) (rooms (now (requests .exit)) (now (store .exit)) (now (slots .exit))) ⌝ }
+{
+    if !model::is_sound(c, requests, store, slots) {
+        return Next::Refused(Refusal::BadRoom);
+    }
+    let found = held::count(store, c.window, number);
+    let next = polling::discard_reply(c, requests, store, slots, number, mode, found.own, found.above);
+    Next::State(next)
 }
 
 // The oldest reply or error of a request, with its descriptors, which are the caller's from then on.

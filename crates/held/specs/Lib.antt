@@ -11,3 +11,4 @@ pub mod Shows
 pub mod Lies
 pub mod Keeps
 pub mod Theorems
+pub mod Tally

@@ -6,11 +6,13 @@
 // given back counts at once, so a packet finds room exactly where used and its cost fit the store.
 // Nothing here knows a connection: the window goes in by value and comes back, and the last number
 // read is handed in where it matters. (01, Rooms, and Numbering and filing.)
+mod counting;
 mod find;
 mod head;
 mod moves;
 mod soundness;
 
+pub use counting::count;
 pub use find::find_event;
 pub use find::find_reply;
 pub use head::EVENT;
@@ -49,4 +51,10 @@ pub struct Place {
 pub enum Found {
     At(Place),
     Nothing,
+}
+
+// How many replies have a number, and how many a higher one.
+pub struct Tally {
+    pub own: usize,
+    pub above: usize,
 }

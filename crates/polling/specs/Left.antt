@@ -155,7 +155,7 @@ module _ (c : Connection) (r : Rooms) (S : Sound c r) where
         ap (λ x. find n (withDescriptors x fds)) (F .split)
         ∙ ap (find n) (with-split (F .before) it (F .after) fds)
         ∙ find-at n (F .before) fds _ _ (F .none) (F .is)
-        ∙ (λ k. Model.at (sym reply-is k) (sym (with-without (F .before) it (F .after) fds b) k))
+        ∙ (λ k. Model.at (sym reply-is k) (sym (with-without (F .before) (F .after) fds (it .fds) b) k))
         ∙ (λ k. Model.at (replyAt c r p) (withDescriptors others (take (sym (F .count) k) fds ++ drop (sym (F .count) k + sym (F .fds) k) fds)))
 
     handed-lists : Slots.Lists (handingOut c r p) (Slots.closing (slotsOf c r)) keep (Slots.waiting (slotsOf c r))

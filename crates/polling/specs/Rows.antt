@@ -84,14 +84,14 @@ module _ (before : List Record.Held) (it : Record.Held) (after : List Record.Hel
       with-append before (it ∷ after) fds
       ∙ ap (λ (x : List ℕ). withDescriptors before fds ++ (heldWith it (take (it .fds) (drop (fdsIn before) fds)) ∷ withDescriptors after x)) (drop-drop (it .fds) (fdsIn before) fds)
 
-  -- and the same row without that record and its descriptors
-  pub with-without : fdsIn before ≤ length fds → withDescriptors (before ++ after) (take (fdsIn before) fds ++ drop (fdsIn before + it .fds) fds)
-      ≡ withDescriptors before fds ++ withDescriptors after (drop (fdsIn before + it .fds) fds)
-  with-without h =
-      let b : ℕ = fdsIn before in
-      let x : List ℕ = take b fds in
-      let y : List ℕ = drop (b + it .fds) fds in
-      let l : length x ≡ b = length-take-le b fds h in
-      let u : withDescriptors before (x ++ y) ≡ withDescriptors before x = with-more before x y (omega arith) in
-      let v : withDescriptors before fds ≡ withDescriptors before x = ap (withDescriptors before) (sym (take-append-drop b fds)) ∙ with-more before x (drop b fds) (omega arith) in
-      with-append before after (x ++ y) ∙ (λ k. (u ∙ sym v) k ++ withDescriptors after (drop-at x y b l k))
+-- a row without records that stood in its midst, and without their k descriptors
+pub with-without : (before after : List Record.Held) (fds : List ℕ) (k : ℕ) → fdsIn before ≤ length fds → withDescriptors (before ++ after) (take (fdsIn before) fds ++ drop (fdsIn before + k) fds)
+    ≡ withDescriptors before fds ++ withDescriptors after (drop (fdsIn before + k) fds)
+with-without before after fds k h =
+    let b : ℕ = fdsIn before in
+    let x : List ℕ = take b fds in
+    let y : List ℕ = drop (b + k) fds in
+    let l : length x ≡ b = length-take-le b fds h in
+    let u : withDescriptors before (x ++ y) ≡ withDescriptors before x = with-more before x y (omega arith) in
+    let v : withDescriptors before fds ≡ withDescriptors before x = ap (withDescriptors before) (sym (take-append-drop b fds)) ∙ with-more before x (drop b fds) (omega arith) in
+    with-append before after (x ++ y) ∙ (λ j. (u ∙ sym v) j ++ withDescriptors after (drop-at x y b l j))

@@ -1,11 +1,14 @@
 // Inside: the steps of a connection that hand out what is held, for a state that was found sound:
-// the polls, oldest packet first.
+// the polls, oldest packet first, and the discarding of answers.
 //
 // A step asks only for what it needs, touches only the rooms it writes, and is exact: its answer,
 // those rooms and the lent outputs at exit are one definition of what it was given. Laws say what
 // it is in the model's terms, and that the state it leaves is sound. (01, Numbering and filing; the
 // order of refusals is 01's for taking: nothing found, then 8.)
+mod discard;
+
 use descriptors::Counts;
+pub use discard::discard_reply;
 use held::Found;
 use held::Window;
 use model::Connection;
@@ -22,7 +25,7 @@ ghost use Rattle.held.specs.Reading as Store;
 ghost use Rattle.polling.specs.Exact.{Ready, leftState, EventStep, TakenStep, CheckedStep, RepliedStep};
 
 // The first byte of an error.
-const ERROR_CODE: u8 = 0;
+pub(crate) const ERROR_CODE: u8 = 0;
 
 // The oldest event, with its number. Refused by 8 for an output that is too small.
 pub fn poll_for_event(c: Connection, store: &mut [u8], out: &mut [u8]) -> Event
@@ -45,7 +48,7 @@ pub fn poll_for_event(c: Connection, store: &mut [u8], out: &mut [u8]) -> Event
 }
 
 // The state with another window and other counts.
-fn left(c: Connection, window: Window, counts: Counts) -> Connection
+pub(crate) fn left(c: Connection, window: Window, counts: Counts) -> Connection
     ensures { λ r. ⌜ r ≡ leftState c window counts ⌝ }
 {
     let mut next = c;

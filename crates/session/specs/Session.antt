@@ -8,8 +8,9 @@ use Rattle.model.specs.Model.{hasReply, Filing}
 use Rattle.model.specs.Reading.{Rooms}
 use Rattle.model.specs.Says.{Shown, ShownEvent, ShownPoll}
 use Rattle.model.specs.declared.Connection.{Connection}
+use Rattle.model.specs.declared.DiscardMode.{DiscardMode}
 use Rattle.model.specs.declared.ReplyFdKind.{ReplyFdKind}
-use Rattle.connection.specs.Calls.{Opens, Sends, EnqueuesFds, Enqueues, Polls, Checks, PollsReply, PollsEvent, Closes, Prepares}
+use Rattle.connection.specs.Calls.{Opens, Sends, EnqueuesFds, Enqueues, Discards, Polls, Checks, PollsReply, PollsEvent, Closes, Prepares}
 use Rattle.honest.specs.Run.{Event, noteSent, noteTook}
 use Rattle.honest.specs.Public.{stateOf}
 
@@ -19,6 +20,7 @@ pub data Session : Connection → Rooms → List Event → Type 1 where
   send-request : {c : Connection} {r : Rooms} {l : List Event} (kind : ReplyFdKind) (a : Answer (ℕ × Connection)) (r' : Rooms) → Sends c r kind a r' → Session c r l → Session (stateOf a c) r' (noteSent (hasReply kind) a l)
   enqueue-fds : {c : Connection} {r : Rooms} {l : List Event} (list : List ℕ) (a : Answer (Unit × Connection)) (r' : Rooms) → EnqueuesFds c r list a r' → Session c r l → Session (stateOf a c) r' l
   enqueue-packet : {c : Connection} {r : Rooms} {l : List Event} (t : ℕ) (p : List ℕ) → getD p 1 0 < 256 → (a : Answer (Filing × Connection)) (r' : Rooms) → Enqueues c r p a r' → Session c r l → Session (stateOf a c) r' (noteTook t p a l)
+  discard-reply : {c : Connection} {r : Rooms} {l : List Event} (n : ℕ) (mode : DiscardMode) (a : Answer (Unit × Connection)) (r' : Rooms) → Discards c r n mode a r' → Session c r l → Session (stateOf a c) r' l
   poll-for-reply-or-error : {c : Connection} {r : Rooms} {l : List Event} (n : ℕ) (out fds : List ℕ) (a : Answer (Shown × Connection)) (r' : Rooms) (out' fds' : List ℕ) → Polls c r n out fds a r' out' fds' → Session c r l → Session (stateOf a c) r' l
   poll-check-for-reply-or-error : {c : Connection} {r : Rooms} {l : List Event} (n : ℕ) (out : List ℕ) (a : Answer (ShownPoll × Connection)) (r' : Rooms) (out' : List ℕ) → Checks c r n out a r' out' → Session c r l → Session (stateOf a c) r' l
   poll-for-reply : {c : Connection} {r : Rooms} {l : List Event} (n : ℕ) (out : List ℕ) (a : Answer (ShownPoll × Connection)) (r' : Rooms) (out' : List ℕ) → PollsReply c r n out a r' out' → Session c r l → Session (stateOf a c) r' l

@@ -9,7 +9,7 @@ use Rattle.refusal.specs.Answer.{Answer, gives, refuses}
 use Rattle.model.specs.Client.{Client}
 use Rattle.model.specs.Model.{Filing}
 use Rattle.model.specs.Calls as Calls
-use Rattle.model.specs.Promise.{Done, Promise}
+use Rattle.model.specs.Promise.{Done, Promise, gives-same}
 use Rattle.model.specs.Reading.{Rooms, reads}
 use Rattle.model.specs.Says.{shownTaken, shownEvent, shownPoll}
 use Rattle.model.specs.Sound.{Sound, is-sound}
@@ -18,6 +18,7 @@ use Rattle.sending.specs.Send.{same}
 use Rattle.sending.specs.Theorems as Sending
 use Rattle.intake.specs.Exact.{enqueueExact}
 use Rattle.intake.specs.Theorems as Intake
+use Rattle.polling.specs.DiscardTheorems.{discard-leaves}
 use Rattle.polling.specs.Theorems as Polling
 use Rattle.connection.specs.Calls.{Enqueues}
 use Rattle.connection.specs.Opening.{opens-fresh, opens-sound}
@@ -25,7 +26,7 @@ use Rattle.connection.specs.Theorems.{refusal-leaves, state-sound}
 use Rattle.honest.specs.Run.{Event, unnumbered, Fair, Honest, Right, Filed, Bears, Holds}
 use Rattle.honest.specs.Public.{stateOf, Public, opens, sends, takes, others}
 use Rattle.honest.specs.Theorems as Any
-use Rattle.session.specs.Session.{Session, new, send-request, enqueue-fds, enqueue-packet, poll-for-reply-or-error, poll-check-for-reply-or-error, poll-for-reply, poll-for-event, take-closed-fds, prepare-check}
+use Rattle.session.specs.Session.{Session, new, send-request, enqueue-fds, enqueue-packet, discard-reply, poll-for-reply-or-error, poll-check-for-reply-or-error, poll-for-reply, poll-for-event, take-closed-fds, prepare-check}
 
 -- ---- Soundness
 
@@ -41,6 +42,7 @@ session-sound (new o r c h) = opens-sound o r c h
 session-sound (send-request {c = c} {r = r} kind a r' h k) = keeps same _ _ c r (λ S. Sending.send-sound c r S kind) (session-sound k) a r' h
 session-sound (enqueue-fds {c = c} {r = r} list a r' h k) = keeps same _ _ c r (λ S. Sending.enqueue-sound c r S list) (session-sound k) a r' h
 session-sound (enqueue-packet {c = c} {r = r} t p b a r' h k) = keeps (λ f. f) _ _ c r (λ S. Intake.enqueue-sound c r S p b) (session-sound k) a r' h
+session-sound (discard-reply {c = c} {r = r} n mode a r' h k) = keeps same _ _ c r (λ S d e. subst (λ (y : Done Unit). Sound (y .state) (y .left)) (gives-same (sym e)) (discard-leaves c r S n mode)) (session-sound k) a r' h
 session-sound (poll-for-reply-or-error {c = c} {r = r} n out fds a r' out' fds' h k) = keeps shownTaken _ _ c r (λ S. Polling.taken-leaves c r S n (length out) (length fds)) (session-sound k) a r' (h .packet .promise)
 session-sound (poll-check-for-reply-or-error {c = c} {r = r} n out a r' out' h k) = keeps shownPoll _ _ c r (λ S. Polling.checked-leaves c r S n (length out)) (session-sound k) a r' (h .promise)
 session-sound (poll-for-reply {c = c} {r = r} n out a r' out' h k) = keeps shownPoll _ _ c r (λ S. Polling.replied-leaves c r S n (length out)) (session-sound k) a r' (h .promise)
@@ -55,6 +57,7 @@ session-public (new o r c h) = opens o _ _ (opens-fresh o r c h)
 session-public (send-request kind a r' h k) = sends kind _ a r' h (session-public k)
 session-public (enqueue-fds list a r' h k) = others (Calls.enqueue-fds list) tt same _ a r' h (session-public k)
 session-public (enqueue-packet t p b a r' h k) = takes t p _ a r' h (session-public k)
+session-public (discard-reply n mode a r' h k) = others (Calls.discard n mode) tt same _ a r' h (session-public k)
 session-public (poll-for-reply-or-error n out fds a r' out' fds' h k) = others (Calls.poll n (length out) (length fds)) tt shownTaken _ a r' (h .packet .promise) (session-public k)
 session-public (poll-check-for-reply-or-error n out a r' out' h k) = others (Calls.check n (length out)) tt shownPoll _ a r' (h .promise) (session-public k)
 session-public (poll-for-reply n out a r' out' h k) = others (Calls.poll-reply n (length out)) tt shownPoll _ a r' (h .promise) (session-public k)

@@ -1,0 +1,58 @@
+-- `polling::discard::clear` meets its contract. Assumes nothing.
+use Rattle.polling.specs.DiscardSteps.{clear-error, clear-reply, clear-any}
+use borrow.Author.Needs.{needs}
+use Rattle.polling.proofs.discard.clear.Statement.{statement}
+use Rattle.polling.proofs.discard.clear.Tie as tie
+
+enum-told : tie.Need-enum-told
+enum-told c = search needs
+
+first-byte-requires : tie.Need-first-byte-requires
+first-byte-requires c κs = search needs
+
+demote-requires : tie.Need-demote-requires
+demote-requires c κs = search needs
+
+same-length : tie.Need-same-length
+same-length c = search needs
+
+returns : tie.Need-returns
+returns c = clear-error _ _ _ _ (c .before .before .before .before .before .before .before .enum-told .given .1) _ _ (c .before .before .before .before .before .first-byte .ensures) (c .before .before .before .before .if1 .taken) (c .before .before .demote .ensures)
+
+remove-requires : tie.Need-remove-requires
+remove-requires c κs = search needs
+
+enum-told-2 : tie.Need-enum-told-2
+enum-told-2 c = search needs
+
+remove-requires-2 : tie.Need-remove-requires-2
+remove-requires-2 c κs = search needs
+
+same-length-2 : tie.Need-same-length-2
+same-length-2 c = search needs
+
+returns-2 : tie.Need-returns-2
+returns-2 c = clear-reply _ _ _ _ (c .before .before .before .before .before .before .before .enum-told .given .1) _ _ _ (c .before .before .before .before .before .first-byte .ensures) (c .before .before .before .before .if1 .left) (c .before .before .remove .ensures)
+
+same-length-3 : tie.Need-same-length-3
+same-length-3 c = search needs
+
+returns-3 : tie.Need-returns-3
+returns-3 c = clear-any _ _ _ _ (c .before .before .before .before .enum-told2 .given .1) _ _ (c .before .before .remove2 .ensures)
+
+pub clear-spec : {M : Type 1} → statement M
+clear-spec =
+    tie.close
+    (tie.spec
+    enum-told
+    first-byte-requires
+    demote-requires
+    same-length
+    returns
+    remove-requires
+    enum-told-2
+    remove-requires-2
+    same-length-2
+    returns-2
+    same-length-3
+    returns-3)

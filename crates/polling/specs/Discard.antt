@@ -1,0 +1,120 @@
+-- `discard_reply`, exactly: the mode set, the packets of the number gone, and their descriptors closed. Assumes nothing.
+use mathlib.Core.Path.{_≡_}
+use mathlib.Core.List.{List}
+use Prim.Native.Nat.{ℕ, zero, suc, _+_, _%_, _≤_}
+use lib.Dec.{leb, eqb}
+use lib.ListN.{length, take, drop, getD}
+use Rattle.octets.specs.Logic.{choose, both}
+use Rattle.requests.specs.Room.{putMode}
+use Rattle.held.specs.Head as Record
+use Rattle.held.specs.Head.{headerSize}
+use Rattle.held.specs.Reading as Store
+use Rattle.held.specs.Find.{foundReply}
+use Rattle.held.specs.Moves.{Left, left, removed, demoted}
+use Rattle.held.specs.declared.Window.{Window}
+use Rattle.held.specs.declared.Place.{Place}
+use Rattle.held.specs.declared.Found.{Found}
+use Rattle.held.specs.declared.Found.the-variants as Found
+use Rattle.held.specs.Tally.{own, lower, higher}
+use Rattle.descriptors.specs.Room as Slots
+use Rattle.model.specs.Model.{errorCode, modeOf}
+use Rattle.model.specs.Reading.{Rooms, rooms, slotsOf}
+use Rattle.model.specs.Promise.{Done}
+use Rattle.model.specs.declared.Connection.{Connection}
+use Rattle.model.specs.declared.DiscardMode.{DiscardMode}
+use Rattle.model.specs.declared.DiscardMode.the-variants as DiscardMode
+use Rattle.polling.specs.Exact.{leftState}
+
+-- "sets the mode of an outstanding request"
+unfoldable pub modeSet : Connection → List ℕ → ℕ → DiscardMode → List ℕ
+modeSet c q n m = choose (both (leb (c .first) n) (leb n (c .written))) (putMode q n (modeOf m)) q
+
+-- ---- the descriptors
+
+-- of r replies of the number with k behind them, the one whose descriptors are closed first: the first, or that at k mod r
+abbrev pub turnOf : DiscardMode → ℕ → ℕ → ℕ
+turnOf DiscardMode.DiscardReply r k = 0
+turnOf DiscardMode.DiscardReplyAndError r k = k % r
+
+abbrev pub turnAt : DiscardMode → ℕ → List Record.Held → ℕ
+turnAt m n rs = turnOf m (length (own n rs)) (length (higher n rs))
+
+-- how many descriptors lower replies have; those of the number before that one; and from it on
+abbrev pub fdsBelow : ℕ → List Record.Held → ℕ
+fdsBelow n rs = Store.fdsIn (lower n rs)
+
+abbrev pub fdsBefore : DiscardMode → ℕ → List Record.Held → ℕ
+fdsBefore m n rs = Store.fdsIn (take (turnAt m n rs) (own n rs))
+
+abbrev pub fdsFrom : DiscardMode → ℕ → List Record.Held → ℕ
+fdsFrom m n rs = Store.fdsIn (drop (turnAt m n rs) (own n rs))
+
+-- two runs, side by side from place at on: the second is closed, then the first
+unfoldable pub closedRound : ℕ → ℕ → ℕ → Slots.Room → Slots.Room
+closedRound at u v d = Slots.closeHeld at u (Slots.closeHeld (at + u) v d)
+
+abbrev pub discardSlots : DiscardMode → ℕ → List Record.Held → Slots.Room → Slots.Room
+discardSlots m n rs d = closedRound (fdsBelow n rs) (fdsBefore m n rs) (fdsFrom m n rs) d
+
+-- ---- the packets
+
+-- one goes; "under DiscardReply the errors among them become events"
+abbrev pub clearedAt : DiscardMode → Left → Place → Left
+clearedAt DiscardMode.DiscardReply l p =
+    choose (eqb (getD (l .store) (p .at + headerSize) 0) errorCode) (left (l .window) (demoted (l .window) (l .store) p)) (removed (l .window) (l .store) p)
+clearedAt DiscardMode.DiscardReplyAndError l p = removed (l .window) (l .store) p
+
+abbrev pub clearedFrom : DiscardMode → Left → Found → Left
+clearedFrom m l Found.Nothing = l
+clearedFrom m l (Found.At p) = clearedAt m l p
+
+-- the oldest of the number goes, j times
+unfoldable pub cleared : ℕ → DiscardMode → ℕ → Left → Left
+cleared zero m n l = l
+cleared (suc j) m n l = cleared j m n (clearedFrom m l (foundReply n (l .window) (l .store)))
+
+-- ---- the whole
+
+abbrev pub repliesOf : Connection → Rooms → List Record.Held
+repliesOf c r = Store.replies (c .window) (r .store)
+
+abbrev pub discardLeft : Connection → Rooms → ℕ → DiscardMode → Left
+discardLeft c r n m = cleared (length (own n (repliesOf c r))) m n (left (c .window) (r .store))
+
+unfoldable pub discardExact : Connection → Rooms → ℕ → DiscardMode → Done Unit
+discardExact c r n m =
+    let l = discardLeft c r n m in
+    let d = discardSlots m n (repliesOf c r) (slotsOf c r) in
+    record { value = tt; state = leftState c (l .window) (d .counts); left = rooms (modeSet c (r .requests) n m) (l .store) (d .slots) }
+
+-- ---- the steps
+
+-- how many replies there are of the number, and of higher ones
+pub record Counted (c : Connection) (s : List ℕ) (n r k : ℕ) : Type 0 where
+  pub count-own : r ≡ length (own n (Store.replies (c .window) s))
+  pub count-above : k ≡ length (higher n (Store.replies (c .window) s))
+
+-- a window that can be swept: it is sound for some last number, and the number's replies have not too many descriptors
+pub record Sweepable (n : ℕ) (w : Window) (s : List ℕ) : Type 0 where
+  pub last : ℕ
+  pub sound : Store.Sound last w s
+  pub few : Store.fdsIn (own n (Store.replies w s)) ≤ Slots.mostDescriptors
+
+-- how many descriptors a record that was found has
+abbrev pub fdsFound : Found → ℕ
+fdsFound Found.Nothing = 0
+fdsFound (Found.At p) = p .fds
+
+-- what one turn and what count turns leave, and how many descriptors their packets had
+pub record SweepsOne (n : ℕ) (m : DiscardMode) (w : Window) (s : List ℕ) (w' : Window) (fds : ℕ) (s' : List ℕ) : Type 0 where
+  pub leaves : left w' s' ≡ clearedFrom m (left w s) (foundReply n w s)
+  pub counts : fds ≡ fdsFound (foundReply n w s)
+
+pub record Sweeps (n : ℕ) (m : DiscardMode) (count : ℕ) (w : Window) (s : List ℕ) (w' : Window) (fds : ℕ) (s' : List ℕ) : Type 0 where
+  pub leaves : left w' s' ≡ cleared count m n (left w s)
+  pub counts : fds ≡ Store.fdsIn (take count (own n (Store.replies w s)))
+
+-- The step is exact.
+pub record DiscardStep (c : Connection) (n : ℕ) (m : DiscardMode) (q s f : List ℕ) (a : Connection) (q' s' f' : List ℕ) : Type 0 where
+  pub state : a ≡ discardExact c (rooms q s f) n m .state
+  pub leaves : rooms q' s' f' ≡ discardExact c (rooms q s f) n m .left
