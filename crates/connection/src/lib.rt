@@ -115,7 +115,16 @@ pub fn discard_reply(
         return Next::Refused(Refusal::BadRoom);
     }
     let found = held::count(store, c.window, number);
-    let next = polling::discard_reply(c, requests, store, slots, number, mode, found.own, found.above);
+    let next = polling::discard_reply(
+        c,
+        requests,
+        store,
+        slots,
+        number,
+        mode,
+        found.own,
+        found.above,
+    );
     Next::State(next)
 }
 

@@ -36,26 +36,14 @@ fn count_one(store: &[u8], at: usize, number: u64) -> Tally
     ensures { λ r. ⌜ r ≡ tallyOne number (kindOf (drop at (now (store .entry)))) (numOf (drop at (now (store .entry)))) ⌝ }
 {
     if head::kind_at(store, at) != head::REPLY {
-        return Tally {
-            own: 0,
-            above: 0,
-        };
+        return Tally { own: 0, above: 0 };
     }
     let found = head::number_at(store, at);
     if found < number {
-        return Tally {
-            own: 0,
-            above: 0,
-        };
+        return Tally { own: 0, above: 0 };
     }
     if number < found {
-        return Tally {
-            own: 0,
-            above: 1,
-        };
+        return Tally { own: 0, above: 1 };
     }
-    Tally {
-        own: 1,
-        above: 0,
-    }
+    Tally { own: 1, above: 0 }
 }
