@@ -6,7 +6,7 @@ run:
 	rt check packets
 	target/bin/packets < tests/streams/server.bin
 
-# Prove everything from nothing, try every edit that must fail, run every program and every stream. The last line is
+# Prove everything from nothing, try every edit and every rule that must fail, run every program and every stream. The last line is
 # 'N passed, 0 failed'.
 test:
 	tests/run

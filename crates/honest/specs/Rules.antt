@@ -2,11 +2,11 @@
 use mathlib.Core.Bool.{Bool, true, false}
 use mathlib.Core.List.{List, [], _∷_}
 use mathlib.Core.Logic.{_⊎_, inl, inr, ⊎-elim}
-use mathlib.Core.Path.{_≡_, refl, _∙_}
+use mathlib.Core.Path.{_≡_, refl, ap, _∙_}
 use Prim.Native.Nat.{ℕ, _+_, _≤_, _<_, max}
 use native.Mathlib.Decide.{decLe}
 use native.Mathlib.Omega.{arith}
-use borrow.Author.Tests.{leb-false, le-ltb}
+use borrow.Author.Tests.{leb-false, lt-leb, le-ltb}
 use Rattle.octets.specs.Logic.{choose, both}
 use Rattle.octets.specs.Field.{field}
 use Rattle.refusal.specs.Answer.{gives, refuse, gives-past, gives-rest}
@@ -25,6 +25,15 @@ pub data Ruled (o : ℕ) : Numbers → List Event → Type 0 where
       → Ruled o (record { written = x .number; expected = x .expected; read = n .read }) (sent has-reply ∷ l)
   takes-one : {n : Numbers} {l : List Event} (t : ℕ) (p : List ℕ) (f : Filing) → gives (f .number) ≡ inRange (full (n .read) (field o 2 2 p)) → Ruled o n l
       → Ruled o (record { written = n .written; expected = max (n .expected) (f .number); read = f .number }) (took t p f ∷ l)
+
+-- NEVER STUCK: once a request with a reply was sent, no sync is asked for.
+pub sync-frees : (w e : ℕ) (x : Sending.Numbers) → gives x ≡ sending w e true → mustSync (x .number) (x .expected) ≡ false
+unfolding sending mustSync choose both
+sync-frees w e x q =
+    let g = gives-same (gives-rest _ 6 _ (gives-rest _ 3 _ q)) in
+    let n : x .number ≡ w + 1 = ap (λ y. y .number) g in
+    let m = ap (λ y. y .expected) g in
+    lt-leb (x .expected + syncSpan) (x .number) (omega (arith, n, m))
 
 -- ---- the invariant
 
