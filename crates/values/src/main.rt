@@ -6,7 +6,6 @@
 mod ids;
 mod misc;
 mod numbers;
-mod say;
 
 fn main() {
     numbers::sending();

@@ -1,5 +1,4 @@
 // 01, Values to meet: the sends of a fresh connection, without its rooms.
-use crate::say;
 use sequence::Sent;
 use sequence::SequenceNumber;
 

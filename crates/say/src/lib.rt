@@ -1,27 +1,27 @@
-// One word or number of a line at a time.
+// Inside: what the programs write to standard output, one word or number of a line at a time.
 use libc::STDOUT_FILENO;
 use refusal::Refusal;
 
-pub(crate) fn word(text: &[u8]) {
+pub fn word(text: &[u8]) {
     io::write_all(STDOUT_FILENO, text);
 }
 
-pub(crate) fn number(n: u64) {
+pub fn number(n: u64) {
     io::write_all(STDOUT_FILENO, b" ");
     io::print_decimal(STDOUT_FILENO, n);
 }
 
-pub(crate) fn refused(r: Refusal) {
+pub fn refused(r: Refusal) {
     word(b" refused");
     number(r.number() as u64);
 }
 
-pub(crate) fn end() {
+pub fn end() {
     word(b"\n");
 }
 
 // The bytes in hex, in one word.
-pub(crate) fn bytes(s: &[u8]) {
+pub fn bytes(s: &[u8]) {
     word(b" ");
     let mut i = 0;
     while i < s.len() {
@@ -35,7 +35,7 @@ fn byte(x: u8) {
 }
 
 // Each number.
-pub(crate) fn all(s: &[u32]) {
+pub fn all(s: &[u32]) {
     let mut i = 0;
     while i < s.len() {
         narrow(s[i]);

@@ -1,9 +1,9 @@
--- `values::say::bytes` meets its contract. Assumes nothing.
+-- `say::bytes` meets its contract. Assumes nothing.
 use borrow.Author.Needs.{needs}
 use Prim.Native.Nat.{_≤_, _-_}
 use lib.ListN.{length}
-use Rattle.values.proofs.say.bytes.Statement.{statement}
-use Rattle.values.proofs.say.bytes.Tie as tie
+use Rattle.say.proofs.bytes.Statement.{statement}
+use Rattle.say.proofs.bytes.Tie as tie
 
 abbrev Inv-loop : tie.InvT-loop
 Inv-loop s i₀ i = i ≤ length s
