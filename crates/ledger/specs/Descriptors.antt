@@ -2,9 +2,17 @@
 use mathlib.Core.List.{List, [], _∷_, _++_}
 use mathlib.Core.Path.{_≡_}
 use Prim.Native.Nat.{ℕ, _+_}
+use lib.ListN.{take}
+use Rattle.refusal.specs.Answer.{Answer, gives, refuses}
 use Rattle.descriptors.specs.Room.{count}
 use Rattle.model.specs.Client.{Client, descriptorsOf}
 use Rattle.model.specs.Calls.{Call, send, enqueue-fds, enqueue, discard, poll, check, poll-reply, prepare, poll-event, take-closed, Said, number, done, filed, nothing, took, again, absent, answer, closed, refused, Step}
+use Rattle.model.specs.Reading.{Rooms}
+use Rattle.model.specs.Says.{Shown, none, packet}
+use Rattle.model.specs.declared.Connection.{Connection}
+use Rattle.honest.specs.Run.{Event}
+use Rattle.session.specs.Session.{Session, new, send-request, enqueue-packet, discard-reply, poll-for-reply-or-error, poll-check-for-reply-or-error, poll-for-reply, poll-for-event, take-closed-fds, prepare-check}
+use Rattle.session.specs.Session as Public
 
 -- ---- Of a state
 
@@ -93,3 +101,51 @@ unfoldable pub handedIn : List Call → List Said → List ℕ
 handedIn [] said = []
 handedIn (x ∷ xs) [] = []
 handedIn (x ∷ xs) (s ∷ said) = handedOut x s ++ handedIn xs said
+
+-- ---- Of a session of the public calls: what the caller brought, and what it found in its outputs
+
+-- a list, unless the call was refused
+unfoldable pub brought : {B : Type 0} → List ℕ → Answer (B × Connection) → List ℕ
+brought list (gives x) = list
+brought list (refuses n) = []
+
+-- how many descriptors an answer says are at the start of the output
+abbrev pub placesOf : Shown → ℕ
+placesOf none = 0
+placesOf (packet z) = z .places
+
+unfoldable pub foundWith : Answer (Shown × Connection) → List ℕ → List ℕ
+foundWith (gives x) fds = take (placesOf (x .0)) fds
+foundWith (refuses n) fds = []
+
+unfoldable pub foundClosed : Answer (ℕ × Connection) → List ℕ → List ℕ
+foundClosed (gives x) out = take (x .0) out
+foundClosed (refuses n) out = []
+
+-- all that the session accepted
+unfoldable pub sessionAccepted : {c : Connection} {r : Rooms} {l : List Event} → Session c r l → List ℕ
+sessionAccepted (new o r c h) = []
+sessionAccepted (send-request kind a r' h k) = sessionAccepted k
+sessionAccepted (Public.enqueue-fds list a r' h k) = brought list a ++ sessionAccepted k
+sessionAccepted (enqueue-packet t p b a r' h k) = sessionAccepted k
+sessionAccepted (discard-reply n mode a r' h k) = sessionAccepted k
+sessionAccepted (poll-for-reply-or-error n out fds a r' out' fds' h k) = sessionAccepted k
+sessionAccepted (poll-check-for-reply-or-error n out a r' out' h k) = sessionAccepted k
+sessionAccepted (poll-for-reply n out a r' out' h k) = sessionAccepted k
+sessionAccepted (poll-for-event out a r' out' h k) = sessionAccepted k
+sessionAccepted (take-closed-fds out a r' out' h k) = sessionAccepted k
+sessionAccepted (prepare-check n a h k) = sessionAccepted k
+
+-- all that it handed out
+unfoldable pub sessionHanded : {c : Connection} {r : Rooms} {l : List Event} → Session c r l → List ℕ
+sessionHanded (new o r c h) = []
+sessionHanded (send-request kind a r' h k) = sessionHanded k
+sessionHanded (Public.enqueue-fds list a r' h k) = sessionHanded k
+sessionHanded (enqueue-packet t p b a r' h k) = sessionHanded k
+sessionHanded (discard-reply n mode a r' h k) = sessionHanded k
+sessionHanded (poll-for-reply-or-error n out fds a r' out' fds' h k) = foundWith a fds' ++ sessionHanded k
+sessionHanded (poll-check-for-reply-or-error n out a r' out' h k) = sessionHanded k
+sessionHanded (poll-for-reply n out a r' out' h k) = sessionHanded k
+sessionHanded (poll-for-event out a r' out' h k) = sessionHanded k
+sessionHanded (take-closed-fds out a r' out' h k) = foundClosed a out' ++ sessionHanded k
+sessionHanded (prepare-check n a h k) = sessionHanded k
