@@ -14,7 +14,7 @@ use Rattle.descriptors.specs.Counting.{count-append, count-split}
 use Rattle.model.specs.Client.{Held, Client, setReplies, setWaiting, setClosing, descriptorsOf}
 use Rattle.model.specs.Model as Model
 use Rattle.model.specs.Model.{fresh, sendRequest, enqueueFds, takeClosed, errorCode, replyCode, codeOf, numbered, Asked, askedOf, errorPlace, replyPlace, replyUnder, placeOf, claimed, wantsDescriptors, Filing, takeIn, enqueuePacket, withMode, ofNumber, notOf, above, turned, discarding, discardReply, Found, at, behind, find, Taken, PollReply, takenBy, pollForReplyOrError, checkedBy, pollCheck, repliedBy, pollForReply, eventBy, pollForEvent}
-use Rattle.model.specs.Calls.{Call, send, enqueue-fds, enqueue, discard, poll, check, poll-reply, prepare, poll-event, take-closed, Said, done, nothing, took, closed, refused, step, outcome, run}
+use Rattle.model.specs.Calls.{Call, send, enqueue-fds, enqueue, discard, poll, check, poll-reply, prepare, poll-event, take-closed, Said, done, closed, refused, step, outcome, run}
 use Rattle.model.specs.declared.ReplyFdKind.{ReplyFdKind}
 use Rattle.model.specs.declared.DiscardMode.{DiscardMode}
 use Rattle.model.specs.declared.DiscardMode.the-variants as DiscardMode
@@ -22,6 +22,7 @@ use Rattle.model.specs.declared.Place.{Place}
 use Rattle.model.specs.declared.Place.the-variants as Place
 use Rattle.requests.specs.declared.Mode.{Mode}
 use Rattle.requests.specs.declared.Mode.the-variants as Mode
+use Rattle.ledger.specs.Saying.{saysTaken}
 use Rattle.ledger.specs.Descriptors.{within, unlessRefused, accepted, tookWith, closedBy, handedOut, Balances, acceptedIn, handedIn}
 
 -- how often one is inside, list by list
@@ -249,10 +250,6 @@ balances-packet f c p =
     (λ d. ap (λ (k : ℕ). k + count d []) (within-filed c p n (claimed p (askedOf c n)) (placeOf (codeOf p) (askedOf c n)) d (event-claims-none p (askedOf c n))))))))
 
 -- ---- every call, and a row of them
-
-abbrev saysTaken : Taken → Said
-saysTaken Model.none = nothing
-saysTaken (Model.packet h) = took h
 
 pub balances : (c : Client) (x : Call) → Balances c x (step c x)
 unfolding step pollForReplyOrError pollCheck pollForReply pollForEvent unlessRefused tookWith closedBy

@@ -1,3 +1,6 @@
+pub mod Saying
 pub mod Descriptors
 pub mod Balance
 pub mod Sessions
+pub mod Room
+pub mod RoomLaws
