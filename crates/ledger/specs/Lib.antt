@@ -4,3 +4,5 @@ pub mod Balance
 pub mod Sessions
 pub mod Room
 pub mod RoomLaws
+pub mod Leaving
+pub mod Moving

@@ -9,7 +9,7 @@ use lib.Dec.{leb, ltb, eqb}
 use lib.ListN.{length}
 use borrow.Author.Tests.{leb-true, leb-false, le-leb, lt-leb, ltb-true, ltb-false, lt-ltb, le-ltb, not-false}
 use Rattle.octets.specs.Logic.{choose, both, both-left, both-right, both-yes, apart, either}
-use Rattle.refusal.specs.Answer.{Answer, gives, refuses, refuse, pass}
+use Rattle.refusal.specs.Answer.{Answer, gives, refuses, refuse, pass, gives-past, gives-rest}
 use Rattle.octets.specs.Field.{field}
 use Rattle.sequence.specs.Numbering.{lastNumber, full, inRange}
 use Rattle.sequence.specs.Sending.{Numbers, syncSpan, mustSync, sending}
@@ -18,7 +18,7 @@ use Rattle.model.specs.Client.{Held, Client, setNumbers, setOutstanding, header
 use Rattle.model.specs.Model as Model
 use Rattle.model.specs.Model.{mostDescriptors, hasReply, joining, sendRequest, keymapNotify, enqueueFds, takeClosed, codeOf, numberOf, askedOf, placeOf, claimed, isHeld, Filing, takeIn, enqueuePacket, discardReply, Found, at, find, Taken, PollReply, isError, takenBy, pollForReplyOrError, checkedBy, pollCheck, repliedBy, pollForReply, eventBy, pollForEvent}
 use Rattle.model.specs.Calls.{Call, send, enqueue-fds, enqueue, discard, poll, check, poll-reply, prepare, poll-event, take-closed, refused, step}
-use Rattle.model.specs.Promise.{Done, answerOf, modelOf, guarded, guarded-on, guarded-off, Promise}
+use Rattle.model.specs.Promise.{Done, answerOf, roomsOf, modelOf, guarded, guarded-on, Promise, gives-same}
 use Rattle.model.specs.Reading.{Rooms, reads}
 use Rattle.model.specs.ReadingLaws.{length-out, used-read, inside-read}
 use Rattle.model.specs.Sound.{Sound, soundb, sound-is, is-sound}
@@ -241,6 +241,28 @@ module _ {A B : Type 0} (f : A → B) (e : Answer (Done A)) (m : Client → Answ
 
       back : Sound c r × (m (reads c r) ≡ refuses k) → a ≡ refuses k
       back s = promise-refuses k .1 (guarded-on c r (m (reads c r)) (is-sound c r (s .0)) ∙ s .1)
+
+-- What a promise that gives something says: the state was sound, and the model gives the same and comes to the state as it is read.
+pub record Gave {A B : Type 0} (f : A → B) (m : Client → Answer (A × Client)) (c : Connection) (r : Rooms) (y : B) (c' : Connection) (r' : Rooms) : Type 0 where
+  pub was-sound : Sound c r
+  pub value : A
+  pub shown : y ≡ f value
+  pub model : m (reads c r) ≡ gives (value, reads c' r')
+
+pub promise-gave : {A B : Type 0} (f : A → B) (e : Answer (Done A)) (m : Client → Answer (A × Client)) (c : Connection) (r : Rooms) (y : B) (c' : Connection) (r' : Rooms) → Promise f e m c r (gives (y, c')) r' → Gave f m c r y c' r'
+unfolding answerOf roomsOf modelOf guarded
+promise-gave {A = A} {B = B} f e m c r y c' r' p = go (guarded c r e) (p .exact .answers) (p .exact .leaves) (p .model)
+  where
+    go : (x : Answer (Done A)) → gives (y, c') ≡ answerOf f x → r' ≡ roomsOf x r → modelOf x ≡ guarded c r (m (reads c r)) → Gave f m c r y c' r'
+    go (gives d) s l q =
+        let w : _≡_ {A = B × Connection} (y, c') (f (d .value), d .state) = gives-same s in
+        record {
+          was-sound = sound-is c r (not-false _ (gives-past _ 9 _ q));
+          value = d .value;
+          shown = ap (λ v. v .0) w;
+          model = sym (gives-rest _ 9 _ q) ∙ (λ i. gives (d .value, reads (sym (ap (λ (v : B × Connection). v .1) w) i) (sym l i)));
+        }
+    go (refuses n) s l q = absurd (let z : _≡_ {A = ℕ} 0 1 = cc in omega arith)
 
 pub public-no-room : (x : Call) {B : Type 0} (f : Given x → B) (e : Answer (Done (Given x))) (c : Connection) (r : Rooms) (a : Answer (B × Connection)) (r' : Rooms) → Promise f e (modelled x) c r a r'
     → (a ≡ refuses 5) ↔ (Sound c r × NoRoom (kept c) (reads c r) x)
