@@ -6,3 +6,5 @@ pub mod Room
 pub mod RoomLaws
 pub mod Leaving
 pub mod Moving
+pub mod Sends
+pub mod SendsLaws

@@ -55,12 +55,12 @@ here-refused b n x e = rw e refl
 
 -- ---- sending
 
-no-sync-false : (hr : Bool) (w e : ℕ) → both (not hr) (mustSync w e) ≡ false → hr ≡ false → w < e + syncSpan
+pub no-sync-false : (hr : Bool) (w e : ℕ) → both (not hr) (mustSync w e) ≡ false → hr ≡ false → w < e + syncSpan
 unfolding both mustSync
 no-sync-false true w e h q = apart refl q
 no-sync-false false w e h q = leb-false _ _ h
 
-false-no-sync : (hr : Bool) (w e : ℕ) → (hr ≡ false → w < e + syncSpan) → both (not hr) (mustSync w e) ≡ false
+pub false-no-sync : (hr : Bool) (w e : ℕ) → (hr ≡ false → w < e + syncSpan) → both (not hr) (mustSync w e) ≡ false
 unfolding both mustSync
 false-no-sync true w e h = refl
 false-no-sync false w e h = lt-leb (e + syncSpan) w (h refl)
