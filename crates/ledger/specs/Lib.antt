@@ -8,3 +8,4 @@ pub mod Leaving
 pub mod Moving
 pub mod Sends
 pub mod SendsLaws
+pub mod Outcomes

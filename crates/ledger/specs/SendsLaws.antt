@@ -15,10 +15,20 @@ use Rattle.sequence.specs.Sending.{syncSpan, mustSync}
 use Rattle.model.specs.Client.{Client}
 use Rattle.model.specs.Model.{fresh, hasReply, joining, sendRequest}
 use Rattle.model.specs.Calls.{Call, send, Said, number, refused, Step, step, Ran, run}
+use Rattle.model.specs.Promise.{guarded-on}
+use Rattle.model.specs.Reading.{Rooms, reads}
+use Rattle.model.specs.Sound.{Sound, is-sound}
+use Rattle.model.specs.declared.Connection.{Connection}
 use Rattle.model.specs.declared.ReplyFdKind.{ReplyFdKind}
 use Rattle.model.specs.declared.ReplyFdKind.the-variants as ReplyFdKind
-use Rattle.ledger.specs.RoomLaws.{send-row, sentOn, false-no-sync, refused-past, here-refused}
-use Rattle.ledger.specs.Sends.{mostSends, withoutReply, numbersFrom, sends, allNoRoom}
+use Rattle.sending.specs.Send.{same}
+use Rattle.connection.specs.Calls.{Opens, Sends}
+use Rattle.connection.specs.Opening.{opens-fresh, opens-sound}
+use Rattle.connection.specs.Theorems.{refusal-leaves}
+use Rattle.honest.specs.Public.{stateOf}
+use Rattle.ledger.specs.Leaving.{send-leaves}
+use Rattle.ledger.specs.RoomLaws.{send-row, false-no-sync, promise-refuses, promise-gave}
+use Rattle.ledger.specs.Sends.{mostSends, withoutReply, numbersFrom, sends, allNoRoom, saidOf, SendsRow, none, one}
 
 -- a row after a row
 pub run-append : (c : Client) (xs ys : List Call) → run c (xs ++ ys) .said ≡ run c xs .said ++ run (run c xs .end) ys .said
@@ -51,7 +61,7 @@ module _ (o s w e : ℕ) (out : List Request) (kind : ReplyFdKind) (ends : w < l
   -- is refused by 6,
   pub send-synced : hasReply kind ≡ false → e + syncSpan ≤ w → step (after o s w e out) (send kind) ≡ record { said = refused 6; next = after o s w e out }
   unfolding step refuse both mustSync
-  send-synced none sync = rw (send-row (after o s w e out) kind, lt-leb lastNumber w ends, none, le-leb (e + syncSpan) w sync) refl
+  send-synced without sync = rw (send-row (after o s w e out) kind, lt-leb lastNumber w ends, without, le-leb (e + syncSpan) w sync) refl
 
   -- or by 5
   pub send-full : (hasReply kind ≡ false → w < e + syncSpan) → mostSends ≤ length out → step (after o s w e out) (send kind) ≡ record { said = refused 5; next = after o s w e out }
@@ -120,14 +130,14 @@ module _ (o s : ℕ) (kind : ReplyFdKind) (reply : hasReply kind ≡ true) (kind
   pub four : run (after o s syncSpan 0 out) (send ReplyFdKind.NoReply ∷ send kind ∷ send ReplyFdKind.NoReply ∷ sends kinds) .said ≡ refused 6 ∷ number 65535 ∷ number 65536 ∷ allNoRoom kinds
   unfolding choose
   four =
-      let one : List Request = out ++ (joining kind ∷ []) in
-      let l : length one ≡ length out + 1 = one-more out (joining kind) in
-      let two : List Request = one ++ (joining ReplyFdKind.NoReply ∷ []) in
-      let m : length two ≡ length one + 1 = one-more one (joining ReplyFdKind.NoReply) in
+      let next : List Request = out ++ (joining kind ∷ []) in
+      let l : length next ≡ length out + 1 = one-more out (joining kind) in
+      let last : List Request = next ++ (joining ReplyFdKind.NoReply ∷ []) in
+      let m : length last ≡ length next + 1 = one-more next (joining ReplyFdKind.NoReply) in
       run-on _ _ _ _ _ (send-synced o s syncSpan 0 out ReplyFdKind.NoReply (omega arith) refl (omega arith))
       (run-on _ _ _ _ _ with-reply
-      (run-on _ _ _ _ _ (send-passes o s 65535 65535 one ReplyFdKind.NoReply (omega arith) (λ q. omega arith) (omega arith))
-      (full-sends o s 65536 65535 two kinds (omega arith) (omega arith) (omega arith))))
+      (run-on _ _ _ _ _ (send-passes o s 65535 65535 next ReplyFdKind.NoReply (omega arith) (λ q. omega arith) (omega arith))
+      (full-sends o s 65536 65535 last kinds (omega arith) (omega arith) (omega arith))))
 
 pub fresh-values : (o s : ℕ) (kind : ReplyFdKind) → hasReply kind ≡ true → (kinds : List ReplyFdKind)
     → run (fresh o mostSends s) (withoutReply 65534 ++ (send ReplyFdKind.NoReply ∷ send kind ∷ send ReplyFdKind.NoReply ∷ sends kinds)) .said
@@ -137,3 +147,30 @@ fresh-values o s kind reply kinds =
     run-append (fresh o mostSends s) (withoutReply 65534) _
     ∙ (λ k. p .runs k .said ++ run (p .runs k .end) (send ReplyFdKind.NoReply ∷ send kind ∷ send ReplyFdKind.NoReply ∷ sends kinds) .said)
     ∙ ap (λ (l : List Said). numbersFrom 1 65534 ++ l) (four o s kind reply kinds (p .outstanding) (p .many))
+
+-- ---- the public call
+
+-- it says what the model says, and leaves a sound state that is read as the model's
+record SaysSame (c : Connection) (r : Rooms) (kind : ReplyFdKind) (a : Answer (ℕ × Connection)) (r' : Rooms) : Type 0 where
+  step-is : step (reads c r) (send kind) ≡ record { said = saidOf a; next = reads (stateOf a c) r' }
+  sound : Sound (stateOf a c) r'
+
+says-same : (c : Connection) (r : Rooms) → Sound c r → (kind : ReplyFdKind) (a : Answer (ℕ × Connection)) (r' : Rooms) → Sends c r kind a r' → SaysSame c r kind a r'
+unfolding step saidOf stateOf
+says-same c r S kind (gives x) r' h =
+    let g = promise-gave same _ (λ m. sendRequest m kind) c r (x .0) (x .1) r' h in
+    record { step-is = rw (g .model) (λ k. record { said = number (sym (g .shown) k); next = reads (x .1) r' }); sound = send-leaves c r (x .1) r' kind (x .0) h }
+says-same c r S kind (refuses n) r' h =
+    let e : r' ≡ r = refusal-leaves same _ _ c r n r' h in
+    let q : sendRequest (reads c r) kind ≡ refuses n = sym (guarded-on c r (sendRequest (reads c r) kind) (is-sound c r S)) ∙ promise-refuses same _ (λ m. sendRequest m kind) c r (refuses n) r' h n .0 refl in
+    record { step-is = rw (q, e) refl; sound = rw e S }
+
+pub row-said : {c : Connection} {r : Rooms} {xs : List Call} {said : List Said} → Sound c r → SendsRow c r xs said → said ≡ run (reads c r) xs .said
+unfolding run
+row-said S none = refl
+row-said {c} {r} S (one {xs = xs} kind a r' h k) =
+    let z = says-same c r S kind a r' h in
+    ap (λ (l : List Said). saidOf a ∷ l) (row-said (z .sound) k) ∙ sym (λ i. z .step-is i .said ∷ run (z .step-is i .next) xs .said)
+
+pub opened-said : (o : ℕ) (r : Rooms) (c : Connection) → Opens o r (gives (tt, c)) → length (r .requests) ≡ mostSends → {xs : List Call} {said : List Said} → SendsRow c r xs said → said ≡ run (fresh o mostSends (length (r .store))) xs .said
+opened-said o r c h k {xs} row = row-said (opens-sound o r c h) row ∙ ap (λ (y : Client). run y xs .said) (opens-fresh o r c h ∙ ap (λ (n : ℕ). fresh o n (length (r .store))) k)
