@@ -102,7 +102,7 @@ handedIn [] said = []
 handedIn (x ∷ xs) [] = []
 handedIn (x ∷ xs) (s ∷ said) = handedOut x s ++ handedIn xs said
 
--- ---- Of a session of the public calls: what the caller brought, and what it found in its outputs
+-- ---- Of the public calls: what the caller brought, and what it found in its outputs
 
 -- a list, unless the call was refused
 unfoldable pub brought : {B : Type 0} → List ℕ → Answer (B × Connection) → List ℕ
@@ -121,6 +121,19 @@ foundWith (refuses n) fds = []
 unfoldable pub foundClosed : Answer (ℕ × Connection) → List ℕ → List ℕ
 foundClosed (gives x) out = take (x .0) out
 foundClosed (refuses n) out = []
+
+-- a call that neither brings descriptors nor hands any out
+abbrev pub Neither : Call → Type 0
+Neither (send kind) = Unit {0}
+Neither (enqueue-fds list) = ⊥
+Neither (enqueue p) = Unit {0}
+Neither (discard n m) = Unit {0}
+Neither (poll n bytes places) = ⊥
+Neither (check n bytes) = Unit {0}
+Neither (poll-reply n bytes) = Unit {0}
+Neither (prepare n) = Unit {0}
+Neither (poll-event bytes) = Unit {0}
+Neither (take-closed places) = ⊥
 
 -- all that the session accepted
 unfoldable pub sessionAccepted : {c : Connection} {r : Rooms} {l : List Event} → Session c r l → List ℕ

@@ -1,11 +1,12 @@
-pub mod Saying
 pub mod Descriptors
+pub mod Room
+pub mod Sends
+pub mod Saying
+pub mod Promised
 pub mod Balance
 pub mod Sessions
-pub mod Room
 pub mod RoomLaws
 pub mod Leaving
 pub mod Moving
-pub mod Sends
 pub mod SendsLaws
 pub mod Outcomes

@@ -22,7 +22,7 @@ use Rattle.model.specs.declared.DiscardMode.{DiscardMode}
 use Rattle.model.specs.declared.DiscardMode.the-variants as DiscardMode
 use Rattle.connection.specs.Calls.{Discards, PollsReply}
 use Rattle.ledger.specs.Leaving.{discard-left, reply-leaves}
-use Rattle.ledger.specs.RoomLaws.{promise-refuses, Gave, promise-gave}
+use Rattle.ledger.specs.Promised.{promise-refuses, promise-gave}
 
 -- ---- costs
 

@@ -27,7 +27,8 @@ use Rattle.connection.specs.Opening.{opens-fresh, opens-sound}
 use Rattle.connection.specs.Theorems.{refusal-leaves}
 use Rattle.honest.specs.Public.{stateOf}
 use Rattle.ledger.specs.Leaving.{send-leaves}
-use Rattle.ledger.specs.RoomLaws.{send-row, false-no-sync, promise-refuses, promise-gave}
+use Rattle.ledger.specs.Promised.{promise-refuses, promise-gave}
+use Rattle.ledger.specs.RoomLaws.{send-row, false-no-sync}
 use Rattle.ledger.specs.Sends.{mostSends, withoutReply, numbersFrom, sends, allNoRoom, saidOf, SendsRow, none, one}
 
 -- a row after a row

@@ -17,17 +17,18 @@ use Rattle.model.specs.Calls.{Call, send, enqueue-fds, enqueue, discard, poll, 
 use Rattle.model.specs.Promise.{Done, answerOf, roomsOf, outputOf, modelOf, guarded, Promise, gives-same}
 use Rattle.model.specs.Reading.{Rooms, slotsOf, reads}
 use Rattle.model.specs.ReadingLaws.{descriptors-read}
-use Rattle.model.specs.Says.{shownTaken, shownEvent, shownPoll, descriptorsOfTaken}
+use Rattle.model.specs.Says.{Shown, shownTaken, shownEvent, shownPoll, descriptorsOfTaken}
 use Rattle.model.specs.Sound.{Sound}
 use Rattle.model.specs.declared.Connection.{Connection}
 use Rattle.sending.specs.Send.{same}
+use Rattle.connection.specs.Calls.{EnqueuesFds, Polls, Closes}
 use Rattle.connection.specs.Opening.{opens-fresh}
 use Rattle.honest.specs.Run.{Event}
 use Rattle.honest.specs.Public.{stateOf, Given, modelled, Came, gave, kept, came}
 use Rattle.session.specs.Session.{Session, new, send-request, enqueue-packet, discard-reply, poll-for-reply-or-error, poll-check-for-reply-or-error, poll-for-reply, poll-for-event, take-closed-fds, prepare-check}
 use Rattle.session.specs.Session as Public
 use Rattle.session.specs.Theorems.{session-sound}
-use Rattle.ledger.specs.Descriptors.{within, accepted, unlessRefused, handedOut, tookWith, closedBy, brought, placesOf, foundWith, foundClosed, sessionAccepted, sessionHanded}
+use Rattle.ledger.specs.Descriptors.{within, accepted, unlessRefused, handedOut, tookWith, closedBy, Neither, brought, foundWith, foundClosed, sessionAccepted, sessionHanded}
 use Rattle.ledger.specs.Balance.{count-within, balances}
 
 -- ---- a call that gives something, in the model
@@ -77,20 +78,37 @@ balance-to (take-closed places) k v k' q d = rw q at (balances k (take-closed pl
 -- ---- a public call
 
 -- one that neither brings nor hands out
+neither-to : (x : Call) → Neither x → (k : Client) (v : Given x) (k' : Client) → modelled x k ≡ gives (v, k') → (d : ℕ) → count d (within k') + count d [] ≡ count d (within k) + count d []
+neither-to (send kind) o k v k' q d = balance-to (send kind) k v k' q d
+neither-to (enqueue-fds list) o k v k' q d = absurd o
+neither-to (enqueue p) o k v k' q d = balance-to (enqueue p) k v k' q d
+neither-to (discard n m) o k v k' q d = balance-to (discard n m) k v k' q d
+neither-to (poll n bytes places) o k v k' q d = absurd o
+neither-to (check n bytes) o k v k' q d = balance-to (check n bytes) k v k' q d
+neither-to (poll-reply n bytes) o k v k' q d = balance-to (poll-reply n bytes) k v k' q d
+neither-to (prepare n) o k v k' q d = balance-to (prepare n) k v k' q d
+neither-to (poll-event bytes) o k v k' q d = balance-to (poll-event bytes) k v k' q d
+neither-to (take-closed places) o k v k' q d = absurd o
+
 module _ (c : Connection) (r : Rooms) (d : ℕ) where
-  still-within : {A B : Type 0} (f : A → B) (o : Answer (A × Client)) (a : Answer (B × Connection)) (r' : Rooms)
-      → ((v : A) (k' : Client) → o ≡ gives (v, k') → count d (within k') + count d [] ≡ count d (within (reads c r)) + count d [])
-      → Came f o r a r' → count d (within (reads (stateOf a c) r')) ≡ count d (within (reads c r))
+  neither-came : (x : Call) → Neither x → {B : Type 0} (f : Given x → B) (a : Answer (B × Connection)) (r' : Rooms) → Came f (modelled x (reads c r)) r a r' → count d (within (reads (stateOf a c) r')) ≡ count d (within (reads c r))
   unfolding stateOf
-  still-within f o a r' k (gave v s r'' q) = omega (arith, k v (reads s r'') q)
-  still-within f o a r' k (kept n) = refl
+  neither-came x o f a r' (gave v s r'' q) = omega (arith, neither-to x o (reads c r) v (reads s r'') q d)
+  neither-came x o f a r' (kept n) = refl
+
+  pub still-within : (x : Call) → Neither x → {B : Type 0} (f : Given x → B) (e : Answer (Done (Given x))) (a : Answer (B × Connection)) (r' : Rooms) → Promise f e (modelled x) c r a r'
+      → count d (within (reads (stateOf a c) r')) ≡ count d (within (reads c r))
+  still-within x o f e a r' h = neither-came x o f a r' (came f e (modelled x) c r a r' h)
 
   -- one that brings a list
-  more-within : (list : List ℕ) (a : Answer (Unit × Connection)) (r' : Rooms) → Came same (enqueueFds (reads c r) list) r a r'
+  more-came : (list : List ℕ) (a : Answer (Unit × Connection)) (r' : Rooms) → Came same (enqueueFds (reads c r) list) r a r'
       → count d (within (reads (stateOf a c) r')) ≡ count d (within (reads c r)) + count d (brought list a)
   unfolding stateOf brought count
-  more-within list a r' (gave v s r'' q) = omega (arith, balance-to (enqueue-fds list) (reads c r) v (reads s r'') q d)
-  more-within list a r' (kept n) = omega arith
+  more-came list a r' (gave v s r'' q) = omega (arith, balance-to (enqueue-fds list) (reads c r) v (reads s r'') q d)
+  more-came list a r' (kept n) = omega arith
+
+  pub more-within : (list : List ℕ) (a : Answer (Unit × Connection)) (r' : Rooms) → EnqueuesFds c r list a r' → count d (within (reads (stateOf a c) r')) ≡ count d (within (reads c r)) + count d (brought list a)
+  more-within list a r' h = more-came list a r' (came same _ (modelled (enqueue-fds list)) c r a r' h)
 
   -- one that hands g of its value out, where the caller finds it
   module _ {A B : Type 0} (f : A → B) (g : A → List ℕ) (e : Answer (Done A)) (m : Client → Answer (A × Client)) (found : Answer (B × Connection) → List ℕ → List ℕ) (out : List ℕ) where
@@ -119,6 +137,20 @@ closed-found : (out v : List ℕ) (s : Connection) → foundClosed (gives (lengt
 unfolding foundClosed
 closed-found out v s = start-found out v
 
+module _ (c : Connection) (r : Rooms) (d : ℕ) where
+  pub polled-within : (n : ℕ) (out fds : List ℕ) (a : Answer (Shown × Connection)) (r' : Rooms) (out' fds' : List ℕ) → Polls c r n out fds a r' out' fds'
+      → count d (within (reads (stateOf a c) r')) + count d (foundWith a fds') ≡ count d (within (reads c r))
+  unfolding foundWith
+  polled-within n out fds a r' out' fds' h =
+      less-within c r d shownTaken descriptorsOfTaken _ (modelled (poll n (length out) (length fds))) foundWith fds a r' fds' (h .packet .promise) (h .descriptors) (taken-found fds) (λ i. refl)
+      (λ v k' q. balance-to (poll n (length out) (length fds)) _ v k' q d)
+
+  pub closed-within : (out : List ℕ) (a : Answer (ℕ × Connection)) (r' : Rooms) (out' : List ℕ) → Closes c r out a r' out' → count d (within (reads (stateOf a c) r')) + count d (foundClosed a out') ≡ count d (within (reads c r))
+  unfolding foundClosed
+  closed-within out a r' out' h =
+      less-within c r d length same _ (modelled (take-closed (length out))) foundClosed out a r' out' (h .promise) (h .output) (closed-found out) (λ i. refl)
+      (λ v k' q. balance-to (take-closed (length out)) _ v k' q d)
+
 -- ---- the session
 
 none-within : (d o k s : ℕ) → count d (within (fresh o k s)) ≡ 0
@@ -126,30 +158,17 @@ unfolding within descriptorsOf count
 none-within d o k s = refl
 
 pub session-balances : {c : Connection} {r : Rooms} {l : List Event} (k : Session c r l) (d : ℕ) → count d (sessionAccepted k) ≡ count d (within (reads c r)) + count d (sessionHanded k)
-unfolding sessionAccepted sessionHanded foundWith foundClosed count
+unfolding sessionAccepted sessionHanded count
 session-balances (new o r c h) d = omega (arith, ap (λ (y : Client). count d (within y)) (opens-fresh o r c h), none-within d o (length (r .requests)) (length (r .store)))
-session-balances (send-request {c = c} {r = r} kind a r' h k) d =
-    omega (arith, session-balances k d, still-within c r d same _ a r' (λ v k' q. balance-to (send kind) _ v k' q d) (came _ _ (modelled (send kind)) c r a r' h))
-session-balances (Public.enqueue-fds {c = c} {r = r} list a r' h k) d =
-    omega (arith, session-balances k d, more-within c r d list a r' (came _ _ (modelled (enqueue-fds list)) c r a r' h), count-append d (brought list a) (sessionAccepted k))
-session-balances (enqueue-packet {c = c} {r = r} t p b a r' h k) d =
-    omega (arith, session-balances k d, still-within c r d _ _ a r' (λ v k' q. balance-to (enqueue p) _ v k' q d) (came _ _ (modelled (enqueue p)) c r a r' h))
-session-balances (discard-reply {c = c} {r = r} n mode a r' h k) d =
-    omega (arith, session-balances k d, still-within c r d same _ a r' (λ v k' q. balance-to (discard n mode) _ v k' q d) (came _ _ (modelled (discard n mode)) c r a r' h))
-session-balances (poll-for-reply-or-error {c = c} {r = r} n out fds a r' out' fds' h k) d =
-    omega (arith, session-balances k d, count-append d (foundWith a fds') (sessionHanded k),
-    less-within c r d shownTaken descriptorsOfTaken _ (modelled (poll n (length out) (length fds))) foundWith fds a r' fds' (h .packet .promise) (h .descriptors) (taken-found fds) (λ i. refl)
-    (λ v k' q. balance-to (poll n (length out) (length fds)) _ v k' q d))
-session-balances (poll-check-for-reply-or-error {c = c} {r = r} n out a r' out' h k) d =
-    omega (arith, session-balances k d, still-within c r d shownPoll _ a r' (λ v k' q. balance-to (check n (length out)) _ v k' q d) (came _ _ (modelled (check n (length out))) c r a r' (h .promise)))
-session-balances (poll-for-reply {c = c} {r = r} n out a r' out' h k) d =
-    omega (arith, session-balances k d, still-within c r d shownPoll _ a r' (λ v k' q. balance-to (poll-reply n (length out)) _ v k' q d) (came _ _ (modelled (poll-reply n (length out))) c r a r' (h .promise)))
-session-balances (poll-for-event {c = c} {r = r} out a r' out' h k) d =
-    omega (arith, session-balances k d, still-within c r d shownEvent _ a r' (λ v k' q. balance-to (poll-event (length out)) _ v k' q d) (came _ _ (modelled (poll-event (length out))) c r a r' (h .promise)))
-session-balances (take-closed-fds {c = c} {r = r} out a r' out' h k) d =
-    omega (arith, session-balances k d, count-append d (foundClosed a out') (sessionHanded k),
-    less-within c r d length same _ (modelled (take-closed (length out))) foundClosed out a r' out' (h .promise) (h .output) (closed-found out) (λ i. refl)
-    (λ v k' q. balance-to (take-closed (length out)) _ v k' q d))
+session-balances (send-request {c = c} {r = r} kind a r' h k) d = omega (arith, session-balances k d, still-within c r d (send kind) tt same _ a r' h)
+session-balances (Public.enqueue-fds {c = c} {r = r} list a r' h k) d = omega (arith, session-balances k d, more-within c r d list a r' h, count-append d (brought list a) (sessionAccepted k))
+session-balances (enqueue-packet {c = c} {r = r} t p b a r' h k) d = omega (arith, session-balances k d, still-within c r d (enqueue p) tt _ _ a r' h)
+session-balances (discard-reply {c = c} {r = r} n mode a r' h k) d = omega (arith, session-balances k d, still-within c r d (discard n mode) tt same _ a r' h)
+session-balances (poll-for-reply-or-error {c = c} {r = r} n out fds a r' out' fds' h k) d = omega (arith, session-balances k d, polled-within c r d n out fds a r' out' fds' h, count-append d (foundWith a fds') (sessionHanded k))
+session-balances (poll-check-for-reply-or-error {c = c} {r = r} n out a r' out' h k) d = omega (arith, session-balances k d, still-within c r d (check n (length out)) tt shownPoll _ a r' (h .promise))
+session-balances (poll-for-reply {c = c} {r = r} n out a r' out' h k) d = omega (arith, session-balances k d, still-within c r d (poll-reply n (length out)) tt shownPoll _ a r' (h .promise))
+session-balances (poll-for-event {c = c} {r = r} out a r' out' h k) d = omega (arith, session-balances k d, still-within c r d (poll-event (length out)) tt shownEvent _ a r' (h .promise))
+session-balances (take-closed-fds {c = c} {r = r} out a r' out' h k) d = omega (arith, session-balances k d, closed-within c r d out a r' out' h, count-append d (foundClosed a out') (sessionHanded k))
 session-balances (prepare-check n a h k) d = session-balances k d
 
 -- in the slots of a sound state there stands what is inside
