@@ -10,3 +10,4 @@ pub mod Leaving
 pub mod Moving
 pub mod SendsLaws
 pub mod Outcomes
+pub mod Theorems

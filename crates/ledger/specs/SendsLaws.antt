@@ -175,3 +175,7 @@ row-said {c} {r} S (one {xs = xs} kind a r' h k) =
 
 pub opened-said : (o : ℕ) (r : Rooms) (c : Connection) → Opens o r (gives (tt, c)) → length (r .requests) ≡ mostSends → {xs : List Call} {said : List Said} → SendsRow c r xs said → said ≡ run (fresh o mostSends (length (r .store))) xs .said
 opened-said o r c h k {xs} row = row-said (opens-sound o r c h) row ∙ ap (λ (y : Client). run y xs .said) (opens-fresh o r c h ∙ ap (λ (n : ℕ). fresh o n (length (r .store))) k)
+
+pub new-values : (o : ℕ) (r : Rooms) (c : Connection) → Opens o r (gives (tt, c)) → length (r .requests) ≡ mostSends → (kind : ReplyFdKind) → hasReply kind ≡ true → (kinds : List ReplyFdKind)
+    → (said : List Said) → SendsRow c r (withoutReply 65534 ++ (send ReplyFdKind.NoReply ∷ send kind ∷ send ReplyFdKind.NoReply ∷ sends kinds)) said → said ≡ numbersFrom 1 65534 ++ (refused 6 ∷ number 65535 ∷ number 65536 ∷ allNoRoom kinds)
+new-values o r c h k kind reply kinds said row = opened-said o r c h k row ∙ fresh-values o (length (r .store)) kind reply kinds
