@@ -1,10 +1,10 @@
 -- Each call of the model balances: descriptors move between the three lists, come in by `enqueue_fds` and leave by two calls. Assumes nothing.
 use mathlib.Core.Bool.{Bool, true, false}
-use mathlib.Core.List.{List, [], _∷_, _++_, append-nil}
-use mathlib.Core.Path.{_≡_, refl, sym, ap, _∙_}
+use mathlib.Core.List.{List, [], _∷_, _++_}
+use mathlib.Core.Path.{_≡_, refl, ap, _∙_}
 use Prim.Native.Nat.{ℕ, _+_, _%_}
 use native.Mathlib.Omega.{arith}
-use lib.Dec.{ltb, eqb}
+use lib.Dec.{eqb}
 use lib.ListN.{length, take, drop, getD, take-append-drop}
 use borrow.Author.Tests.{eqb-true}
 use Rattle.octets.specs.Logic.{choose, both}
@@ -134,21 +134,21 @@ balances-fds : (f : Unit → Said) (c : Client) (list : List ℕ) → unlessRefu
 unfolding enqueueFds accepted handedOut count
 balances-fds f c list e =
     balances-refuse f c (enqueue-fds list) _ 5 _
-    (λ d. rw e (omega (arith, count-within d c, count-within d (setWaiting c (c .waiting ++ list)), count-append d (c .waiting) list)))
+    (λ d. omega (arith, ap (count d) e, count-within d c, count-within d (setWaiting c (c .waiting ++ list)), count-append d (c .waiting) list))
 
 balances-closed : (f : List ℕ → Said) (c : Client) (places : ℕ) → ((l : List ℕ) → closedBy (f l) ≡ l) → Balances c (take-closed places) (outcome f c (takeClosed c places))
 unfolding takeClosed accepted handedOut count
 balances-closed f c places e =
     balances-refuse f c (take-closed places) _ 8 _
-    (λ d. rw (e (c .closing)) (omega (arith, count-within d c, count-within d (setClosing c []))))
+    (λ d. omega (arith, ap (count d) (e (c .closing)), count-within d c, count-within d (setClosing c [])))
 
 module _ (f : Taken → Said) (none-so : tookWith (f Model.none) ≡ []) (packet-so : (h : Held) → tookWith (f (Model.packet h)) ≡ h .descriptors) where
   balances-taken : (c : Client) (n bytes places : ℕ) (y : Found) → ((d : ℕ) → CountFound d (count d (descriptorsOf (c .replies))) y) → Balances c (poll n bytes places) (outcome f c (takenBy c bytes places y))
   unfolding accepted handedOut count
-  balances-taken c n bytes places Model.nothing k = λ d. rw none-so refl
+  balances-taken c n bytes places Model.nothing k = λ d. omega (arith, ap (count d) none-so)
   balances-taken c n bytes places (at h l) k =
       balances-refuse f c (poll n bytes places) _ 8 _
-      (λ d. rw (packet-so h) (omega (arith, k d, count-within d c, count-within d (setReplies c l))))
+      (λ d. omega (arith, ap (count d) (packet-so h), k d, count-within d c, count-within d (setReplies c l)))
 
 -- ---- calls that close
 

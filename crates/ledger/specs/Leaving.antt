@@ -1,6 +1,6 @@
 -- The state and rooms that a public call hands back are sound. Assumes nothing.
 use mathlib.Core.List.{List}
-use mathlib.Core.Path.{_≡_, sym, subst}
+use mathlib.Core.Path.{sym, subst}
 use Prim.Native.Nat.{ℕ, _<_}
 use lib.ListN.{length, getD}
 use Rattle.refusal.specs.Answer.{gives}

@@ -2,7 +2,7 @@
 use mathlib.Core.Bool.{Bool, true, false}
 use mathlib.Core.List.{List, [], _∷_, _++_}
 use mathlib.Core.Path.{_≡_, refl, sym, ap, _∙_, subst}
-use Prim.Native.Nat.{ℕ, _+_, _-_, _≤_, _<_}
+use Prim.Native.Nat.{ℕ, _+_, _-_, _≤_}
 use native.Mathlib.Omega.{arith}
 use lib.Dec.{ltb, eqb}
 use lib.ListN.{length}
@@ -10,13 +10,12 @@ use Rattle.octets.specs.Logic.{choose}
 use Rattle.refusal.specs.Answer.{Answer, gives, refuses, refuse}
 use Rattle.model.specs.Client.{Held, Client, setReplies, setEvents, header, costs, used}
 use Rattle.model.specs.Model as Model
-use Rattle.model.specs.Model.{withMode, ofNumber, notOf, isError, asEvent, errorsOf, discarding, discardReply, Found, at, behind, find, PollReply, noReply, repliedBy, pollForReply}
-use Rattle.model.specs.Calls.{Call, discard, poll-reply, done, absent, refused, step}
+use Rattle.model.specs.Model.{withMode, ofNumber, notOf, isError, asEvent, errorsOf, discarding, discardReply, Found, at, behind, find, noReply, repliedBy, pollForReply}
+use Rattle.model.specs.Calls.{discard, poll-reply, done, absent, step}
 use Rattle.model.specs.Promise.{guarded, gives-same}
 use Rattle.model.specs.Reading.{Rooms, reads}
 use Rattle.model.specs.ReadingLaws.{used-read}
 use Rattle.model.specs.Says.{ShownPoll}
-use Rattle.model.specs.Sound.{Sound}
 use Rattle.model.specs.declared.Connection.{Connection}
 use Rattle.model.specs.declared.DiscardMode.{DiscardMode}
 use Rattle.model.specs.declared.DiscardMode.the-variants as DiscardMode

@@ -7,11 +7,9 @@ use lib.ListN.{length}
 use Rattle.refusal.specs.Answer.{gives}
 use Rattle.sequence.specs.Numbering.{lastNumber}
 use Rattle.sequence.specs.Sending.{syncSpan}
-use Rattle.descriptors.specs.Room as Slots
 use Rattle.model.specs.Client.{Client, header, costs, descriptorsOf}
 use Rattle.model.specs.Model.{hasReply, codeOf, numberOf, askedOf, claimed, placeOf, isHeld, mostDescriptors}
 use Rattle.model.specs.Calls.{Call, send, enqueue-fds, enqueue, discard, poll, check, poll-reply, prepare, poll-event, take-closed}
-use Rattle.model.specs.Reading.{count}
 use Rattle.model.specs.declared.Connection.{Connection}
 use Rattle.model.specs.declared.ReplyFdKind.{ReplyFdKind}
 

@@ -3,25 +3,24 @@ use mathlib.Core.Bool.{Bool, true, false, not}
 use mathlib.Core.List.{List, [], _∷_, _++_}
 use mathlib.Core.Logic.{_↔_}
 use mathlib.Core.Path.{_≡_, refl, sym, ap, _∙_, subst}
-use Prim.Native.Nat.{ℕ, _+_, _-_, _≤_, _<_}
+use Prim.Native.Nat.{ℕ, _+_, _<_}
 use native.Mathlib.Omega.{arith}
 use lib.Dec.{leb, ltb, eqb}
 use lib.ListN.{length}
-use borrow.Author.Tests.{leb-true, leb-false, le-leb, lt-leb, ltb-true, ltb-false, lt-ltb, le-ltb, not-false}
-use Rattle.octets.specs.Logic.{choose, both, both-left, both-right, both-yes, apart, either}
-use Rattle.refusal.specs.Answer.{Answer, gives, refuses, refuse, pass, gives-past, gives-rest}
+use borrow.Author.Tests.{leb-true, leb-false, le-leb, lt-leb, ltb-true, ltb-false, lt-ltb, le-ltb}
+use Rattle.octets.specs.Logic.{choose, both, both-left, both-right, both-yes, apart}
+use Rattle.refusal.specs.Answer.{Answer, gives, refuses, refuse, pass}
 use Rattle.octets.specs.Field.{field}
 use Rattle.sequence.specs.Numbering.{lastNumber, full, inRange}
-use Rattle.sequence.specs.Sending.{Numbers, syncSpan, mustSync, sending}
-use Rattle.descriptors.specs.Room as Slots
+use Rattle.sequence.specs.Sending.{syncSpan, mustSync, sending}
 use Rattle.model.specs.Client.{Held, Client, setNumbers, setOutstanding, header, used, inside}
 use Rattle.model.specs.Model as Model
-use Rattle.model.specs.Model.{mostDescriptors, hasReply, joining, sendRequest, keymapNotify, enqueueFds, takeClosed, codeOf, numberOf, askedOf, placeOf, claimed, isHeld, Filing, takeIn, enqueuePacket, discardReply, Found, at, find, Taken, PollReply, isError, takenBy, pollForReplyOrError, checkedBy, pollCheck, repliedBy, pollForReply, eventBy, pollForEvent}
+use Rattle.model.specs.Model.{mostDescriptors, hasReply, joining, sendRequest, keymapNotify, enqueueFds, takeClosed, codeOf, numberOf, askedOf, claimed, takeIn, enqueuePacket, discardReply, Found, at, find, PollReply, takenBy, pollForReplyOrError, checkedBy, pollCheck, repliedBy, pollForReply, eventBy, pollForEvent}
 use Rattle.model.specs.Calls.{Call, send, enqueue-fds, enqueue, discard, poll, check, poll-reply, prepare, poll-event, take-closed, refused, step}
-use Rattle.model.specs.Promise.{Done, answerOf, roomsOf, modelOf, guarded, guarded-on, Promise, gives-same}
+use Rattle.model.specs.Promise.{Done, Promise}
 use Rattle.model.specs.Reading.{Rooms, reads}
 use Rattle.model.specs.ReadingLaws.{length-out, used-read, inside-read}
-use Rattle.model.specs.Sound.{Sound, soundb, sound-is, is-sound}
+use Rattle.model.specs.Sound.{Sound}
 use Rattle.model.specs.declared.Connection.{Connection}
 use Rattle.model.specs.declared.ReplyFdKind.{ReplyFdKind}
 use Rattle.honest.specs.Public.{Given, modelled}
@@ -111,6 +110,7 @@ module _ (c : Client) (p : List ℕ) where
       let n = pass-refused (numberOf c p) _ 5 (number-ends c p) (b .1) in
       let d = refused-on _ 4 5 _ (λ i. omega arith) (n .2) in
       let f = refused-here _ 5 _ (d .1) in
+      let over : c .most-bytes < used c + (header + length p) = ltb-true _ _ (both-right _ _ f) in
       record {
         not-short = ltb-false _ _ (a .0);
         not-long = ltb-false _ _ (b .0);
@@ -118,7 +118,7 @@ module _ (c : Client) (p : List ℕ) where
         numbered = n .1;
         enough-wait = ltb-false _ _ (d .0);
         to-be-held = both-left _ _ f;
-        full = ltb-true _ _ (both-right _ _ f);
+        full = omega (arith, over);
       }
 
   short-packet : PacketShort (filled c) c p → enqueuePacket c p ≡ refuses 5
@@ -132,7 +132,7 @@ module _ (c : Client) (p : List ℕ) where
       taking : takeIn c p (s .number) (askedOf c (s .number)) ≡ refuses 5
       taking =
           refused-past _ 4 5 _ (le-ltb (length (c .waiting)) (claimed p (askedOf c (s .number))) (s .enough-wait))
-          (here-refused _ 5 _ (both-yes _ _ (s .to-be-held) (lt-ltb (c .most-bytes) (used c + (header + length p)) (s .full))))
+          (here-refused _ 5 _ (both-yes _ _ (s .to-be-held) (lt-ltb (c .most-bytes) (used c + (header + length p)) (omega (arith, s .full)))))
 
 -- ---- the others
 

@@ -1,12 +1,12 @@
 -- What a call says, and what the model's function for it comes to. Assumes nothing.
 use mathlib.Core.Logic.{_↔_}
-use mathlib.Core.Path.{_≡_, refl, ap}
+use mathlib.Core.Path.{_≡_, ap}
 use Prim.Native.Nat.{ℕ}
 use native.Mathlib.Omega.{arith}
 use Rattle.refusal.specs.Answer.{Answer, gives, refuses}
 use Rattle.model.specs.Client.{Client}
 use Rattle.model.specs.Model.{Filing, Taken, none, packet, PollReply, tryAgain, noReply, reply, sendRequest, enqueueFds, takeClosed, enqueuePacket, discardReply, pollForReplyOrError, pollCheck, pollForReply, pollForEvent}
-use Rattle.model.specs.Calls.{Call, send, enqueue-fds, enqueue, discard, poll, check, poll-reply, prepare, poll-event, take-closed, Said, number, done, filed, nothing, took, again, absent, answer, closed, refused, step, outcome}
+use Rattle.model.specs.Calls.{Call, send, enqueue-fds, enqueue, discard, poll, check, poll-reply, prepare, poll-event, take-closed, Said, number, done, filed, nothing, took, again, absent, closed, refused, step, outcome}
 use Rattle.honest.specs.Public.{modelled}
 
 abbrev pub saysFiling : Filing → Said

@@ -1,6 +1,6 @@
 -- Sessions balance: each public call does, as it is read, what the model does, and leaves in the outputs what the model hands out. Assumes nothing.
-use mathlib.Core.List.{List, [], _∷_, _++_}
-use mathlib.Core.Path.{_≡_, refl, sym, ap, _∙_, subst}
+use mathlib.Core.List.{List, []}
+use mathlib.Core.Path.{_≡_, refl, sym, ap, _∙_}
 use Prim.Native.Nat.{ℕ, _+_}
 use native.Mathlib.Omega.{arith}
 use lib.ListN.{length, take, drop}
@@ -11,7 +11,7 @@ use Rattle.descriptors.specs.Room.{count}
 use Rattle.descriptors.specs.Room as Slots
 use Rattle.descriptors.specs.Counting.{count-append, count-inside}
 use Rattle.model.specs.Client.{Client, descriptorsOf}
-use Rattle.model.specs.Model.{fresh, Taken, sendRequest, enqueueFds, takeClosed, enqueuePacket, pollForReplyOrError}
+use Rattle.model.specs.Model.{fresh, Taken, enqueueFds, pollForReplyOrError}
 use Rattle.model.specs.Model as Model
 use Rattle.model.specs.Calls.{Call, send, enqueue-fds, enqueue, discard, poll, check, poll-reply, prepare, poll-event, take-closed, step}
 use Rattle.model.specs.Promise.{Done, answerOf, roomsOf, outputOf, modelOf, guarded, Promise, gives-same}
@@ -27,7 +27,6 @@ use Rattle.honest.specs.Run.{Event}
 use Rattle.honest.specs.Public.{stateOf, Given, modelled, Came, gave, kept, came}
 use Rattle.session.specs.Session.{Session, new, send-request, enqueue-packet, discard-reply, poll-for-reply-or-error, poll-check-for-reply-or-error, poll-for-reply, poll-for-event, take-closed-fds, prepare-check}
 use Rattle.session.specs.Session as Public
-use Rattle.session.specs.Theorems.{session-sound}
 use Rattle.ledger.specs.Descriptors.{within, accepted, unlessRefused, handedOut, tookWith, closedBy, Neither, brought, foundWith, foundClosed, sessionAccepted, sessionHanded}
 use Rattle.ledger.specs.Balance.{count-within, balances}
 

@@ -2,7 +2,7 @@
 use mathlib.Core.Bool.{true}
 use mathlib.Core.List.{List, _∷_, _++_}
 use mathlib.Core.Logic.{_↔_}
-use mathlib.Core.Path.{_≡_, sym, ap}
+use mathlib.Core.Path.{_≡_, sym}
 use Prim.Native.Nat.{ℕ, _+_, _-_, _≤_, _<_}
 use lib.ListN.{length, getD}
 use Rattle.refusal.specs.Answer.{Answer, gives, refuses}
@@ -11,7 +11,7 @@ use Rattle.descriptors.specs.Room.{count}
 use Rattle.descriptors.specs.Room as Slots
 use Rattle.model.specs.Client.{Held, Client, used, costs}
 use Rattle.model.specs.Model.{fresh, hasReply, Filing, isError, at, find}
-use Rattle.model.specs.Calls.{Call, send, enqueue-fds, enqueue, discard, poll-reply, Said, number, done, absent, refused, step, run}
+use Rattle.model.specs.Calls.{Call, send, discard, poll-reply, Said, number, done, absent, refused, step, run}
 use Rattle.model.specs.Promise.{Done, Promise}
 use Rattle.model.specs.Reading.{Rooms, slotsOf, reads}
 use Rattle.model.specs.ReadingLaws.{used-read}
