@@ -1,6 +1,7 @@
 pub mod Descriptors
 pub mod Room
 pub mod Sends
+pub mod Encoding
 pub mod Saying
 pub mod Promised
 pub mod Balance
@@ -10,4 +11,5 @@ pub mod Leaving
 pub mod Moving
 pub mod SendsLaws
 pub mod Outcomes
+pub mod EncodingLaws
 pub mod Theorems

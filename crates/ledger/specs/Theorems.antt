@@ -40,6 +40,8 @@ use Rattle.session.specs.Theorems as Session
 use Rattle.ledger.specs.Descriptors.{within, accepted, handedOut, acceptedIn, handedIn, Neither, brought, foundWith, foundClosed, sessionAccepted, sessionHanded}
 use Rattle.ledger.specs.Room.{filled, kept, NoRoom}
 use Rattle.ledger.specs.Sends.{mostSends, withoutReply, numbersFrom, sends, allNoRoom, SendsRow}
+use Rattle.ledger.specs.Encoding.{InRange, Encodes}
+use Rattle.ledger.specs.EncodingLaws as EncodingLaws
 use Rattle.ledger.specs.Balance as Balance
 use Rattle.ledger.specs.Sessions as Sessions
 use Rattle.ledger.specs.RoomLaws as RoomLaws
@@ -53,6 +55,14 @@ use Rattle.ledger.specs.Outcomes as Outcomes
 -- The test behind refusal 9 holds exactly where the rules' sentence does.
 pub sound-exactly : (c : Connection) (r : Rooms) → (soundb c r ≡ true) ↔ Sentence c r
 sound-exactly c r = Connection.sound-exactly c r
+
+-- And so exactly where state and rooms are an encoding of a model's state whose parts are in range,
+pub encoded-exactly : (c : Connection) (r : Rooms) → (soundb c r ≡ true) ↔ ((m : Client) × Encodes m c r × InRange m)
+encoded-exactly c r = EncodingLaws.encoded-exactly c r
+
+-- which is the one that they are read as.
+pub encoded-read : (m : Client) (c : Connection) (r : Rooms) → Encodes m c r → InRange m → reads c r ≡ m
+encoded-read m c r e i = EncodingLaws.encoded-read m c r e i
 
 -- ---- 2. EACH STATE THAT A CALL LEAVES IS SOUND
 
