@@ -93,7 +93,7 @@ read-requests (r ∷ rs) = (λ k. request-byte r k ∷ map requestOf (map byteOf
 
 reply-row-fits : (last : ℕ) → last ≤ lastNumber → (h : Held) → ReplyFits last h → Fits (replyRow h)
 unfolding mostFds choose
-reply-row-fits last l h f = record { number = omega arith; least = f .least; most = f .most; kind = omega arith; count = f .descriptors }
+reply-row-fits last l h f = record { number = omega arith; least = f .least; most = f .most; kind = omega arith; count = omega arith }
 
 event-row-fits : (last : ℕ) → last ≤ lastNumber → (h : Held) → EventFits last h → Fits (eventRow h)
 event-row-fits last l h f = record { number = omega arith; least = f .least; most = f .most; kind = omega arith; count = omega arith }

@@ -10,8 +10,8 @@ use Rattle.sequence.specs.Sending.{syncSpan}
 use Rattle.descriptors.specs.Room.{count}
 use Rattle.descriptors.specs.Room as Slots
 use Rattle.model.specs.Client.{Held, Client, used, costs}
-use Rattle.model.specs.Model.{fresh, hasReply, Filing, isError, at, find}
-use Rattle.model.specs.Calls.{Call, send, discard, poll-reply, Said, number, done, absent, refused, step, run}
+use Rattle.model.specs.Model.{mostDescriptors, fresh, hasReply, Filing, isError, at, find}
+use Rattle.model.specs.Calls.{Call, send, enqueue-fds, enqueue, discard, poll-reply, Said, number, done, absent, refused, step, run}
 use Rattle.model.specs.Promise.{Done, Promise}
 use Rattle.model.specs.Reading.{Rooms, slotsOf, reads}
 use Rattle.model.specs.ReadingLaws.{used-read}
@@ -29,6 +29,7 @@ use Rattle.model.specs.declared.PollReply.{PollReply}
 use Rattle.model.specs.declared.Event.{Event}
 use Rattle.model.specs.declared.Closed.{Closed}
 use Rattle.model.specs.declared.Prepared.{Prepared}
+use Rattle.sending.specs.Send.{same}
 use Rattle.connection.specs.Calls.{Opens, Sends, EnqueuesFds, Enqueues, Discards, Polls, Checks, PollsReply, PollsEvent, Closes, Prepares}
 use Rattle.connection.specs.Opening as Opening
 use Rattle.connection.specs.Theorems.{Sentence}
@@ -38,7 +39,7 @@ use Rattle.honest.specs.Public.{stateOf, Given, modelled}
 use Rattle.session.specs.Session.{Session}
 use Rattle.session.specs.Theorems as Session
 use Rattle.ledger.specs.Descriptors.{within, accepted, handedOut, acceptedIn, handedIn, Neither, brought, foundWith, foundClosed, sessionAccepted, sessionHanded}
-use Rattle.ledger.specs.Room.{filled, kept, NoRoom}
+use Rattle.ledger.specs.Room.{filled, kept, SendShort, PacketShort, NoRoom}
 use Rattle.ledger.specs.Sends.{mostSends, withoutReply, numbersFrom, sends, allNoRoom, SendsRow}
 use Rattle.ledger.specs.Encoding.{InRange, Encodes}
 use Rattle.ledger.specs.EncodingLaws as EncodingLaws
@@ -125,6 +126,19 @@ no-room c x = RoomLaws.no-room c x
 pub no-room-public : (x : Call) {B : Type 0} (f : Given x → B) (e : Answer (Done (Given x))) (c : Connection) (r : Rooms) (a : Answer (B × Connection)) (r' : Rooms) → Promise f e (modelled x) c r a r'
     → (a ≡ refuses 5) ↔ (Sound c r × NoRoom (kept c) (reads c r) x)
 no-room-public x f e c r a r' p = RoomLaws.public-no-room x f e c r a r' p
+
+module _ (c : Connection) (r : Rooms) where
+  -- So of `send_request`: 3 and 6 do not apply, and K requests are outstanding;
+  pub send-request-no-room : (kind : ReplyFdKind) (a : Answer (ℕ × Connection)) (r' : Rooms) → Sends c r kind a r' → (a ≡ refuses 5) ↔ (Sound c r × SendShort (kept c) (reads c r) kind)
+  send-request-no-room kind a r' h = RoomLaws.public-no-room (send kind) same _ c r a r' h
+
+  -- of `enqueue_fds`: over 256 would be inside;
+  pub enqueue-fds-no-room : (list : List ℕ) (a : Answer (Unit × Connection)) (r' : Rooms) → EnqueuesFds c r list a r' → (a ≡ refuses 5) ↔ (Sound c r × (mostDescriptors < kept c .descriptors + length list))
+  enqueue-fds-no-room list a r' h = RoomLaws.public-no-room (enqueue-fds list) same _ c r a r' h
+
+  -- of `enqueue_packet`: 1 to 4 do not apply, the packet is to be held, and used plus its cost is over S.
+  pub enqueue-packet-no-room : (p : List ℕ) (a : Answer (Filing × Connection)) (r' : Rooms) → Enqueues c r p a r' → (a ≡ refuses 5) ↔ (Sound c r × PacketShort (kept c) (reads c r) p)
+  enqueue-packet-no-room p a r' h = RoomLaws.public-no-room (enqueue p) (λ f. f) _ c r a r' h
 
 -- ---- 4. DESCRIPTORS ARE CONSERVED, each counted as often as it is there
 

@@ -3,4 +3,6 @@
 // where it is short, and a promise allows one outcome.
 //
 // To believe: `specs/Descriptors.antt`, what is inside, what a call accepts and what it hands out;
-// `specs/Theorems.antt` says what is then certain, each in a line.
+// `specs/Room.antt`, when a call lacks room; `specs/Encoding.antt`, when state and rooms encode a
+// model's state; `specs/Sends.antt`, rows of sends. `specs/Theorems.antt` says what is then certain,
+// statements alone.
