@@ -8,7 +8,7 @@ use lib.Dec.{eqb}
 use lib.ListN.{length, take, drop, getD, take-append-drop}
 use borrow.Author.Tests.{eqb-true}
 use Rattle.octets.specs.Logic.{choose, both}
-use Rattle.refusal.specs.Answer.{Answer, gives, refuses, refuse, pass}
+use Rattle.refusal.specs.Answer.{Answer, refuse, pass}
 use Rattle.descriptors.specs.Room.{count}
 use Rattle.descriptors.specs.Counting.{count-append, count-split}
 use Rattle.model.specs.Client.{Held, Client, setReplies, setWaiting, setClosing, descriptorsOf}
@@ -22,7 +22,7 @@ use Rattle.model.specs.declared.Place.{Place}
 use Rattle.model.specs.declared.Place.the-variants as Place
 use Rattle.requests.specs.declared.Mode.{Mode}
 use Rattle.requests.specs.declared.Mode.the-variants as Mode
-use Rattle.ledger.specs.Saying.{saysTaken}
+use Rattle.ledger.specs.Saying.{saysTaken, by-refuse, by-choose, by-pass}
 use Rattle.ledger.specs.Descriptors.{within, unlessRefused, accepted, tookWith, closedBy, handedOut, Balances, acceptedIn, handedIn}
 
 -- how often one is inside, list by list
@@ -47,19 +47,13 @@ balances-refused c (take-closed places) n d = refl
 
 module _ {A : Type 0} (f : A → Said) (c : Client) (x : Call) where
   balances-refuse : (b : Bool) (n : ℕ) (a : Answer (A × Client)) → Balances c x (outcome f c a) → Balances c x (outcome f c (refuse b n a))
-  unfolding refuse
-  balances-refuse true n a k = balances-refused c x n
-  balances-refuse false n a k = k
+  balances-refuse b n a k = by-refuse (Balances c x) f c (balances-refused c x) b n a k
 
   balances-choose : (b : Bool) (y z : Answer (A × Client)) → Balances c x (outcome f c y) → Balances c x (outcome f c z) → Balances c x (outcome f c (choose b y z))
-  unfolding choose
-  balances-choose true y z k l = k
-  balances-choose false y z k l = l
+  balances-choose b y z k l = by-choose (Balances c x) f c (balances-refused c x) b y z k l
 
   balances-pass : {B : Type 0} (y : Answer B) (g : B → Answer (A × Client)) → ((v : B) → Balances c x (outcome f c (g v))) → Balances c x (outcome f c (pass y g))
-  unfolding pass
-  balances-pass (gives v) g k = k v
-  balances-pass (refuses n) g k = balances-refused c x n
+  balances-pass y g k = by-pass (Balances c x) f c (balances-refused c x) y g k
 
 -- ---- lists of held packets
 

@@ -9,6 +9,7 @@ pub mod Sessions
 pub mod RoomLaws
 pub mod Leaving
 pub mod Moving
+pub mod Used
 pub mod SendsLaws
 pub mod Outcomes
 pub mod EncodingLaws

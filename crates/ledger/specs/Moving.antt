@@ -25,12 +25,12 @@ use Rattle.ledger.specs.Promised.{promise-refuses, promise-gave}
 
 -- ---- costs
 
-costs-append : (a b : List Held) → costs (a ++ b) ≡ costs a + costs b
+pub costs-append : (a b : List Held) → costs (a ++ b) ≡ costs a + costs b
 unfolding costs
 costs-append [] b = omega arith
 costs-append (h ∷ a) b = omega (arith, costs-append a b)
 
-costs-one : (h : Held) → costs (h ∷ []) ≡ header + length (h .packet)
+pub costs-one : (h : Held) → costs (h ∷ []) ≡ header + length (h .packet)
 unfolding costs
 costs-one h = omega arith
 
@@ -55,7 +55,7 @@ costs-errors (h ∷ l) = go (isError h) (costs-errors l)
     go false k = omega arith
 
 -- the one that is found and those that stay
-abbrev CostsFound : ℕ → Found → Type 0
+abbrev pub CostsFound : ℕ → Found → Type 0
 CostsFound m Model.nothing = Unit {0}
 CostsFound m (at h l) = header + length (h .packet) + costs l ≡ m
 
@@ -64,7 +64,7 @@ unfolding costs
 costs-behind m h Model.nothing k = tt
 costs-behind m h (at x l) k = omega arith
 
-costs-find : (n : ℕ) (l : List Held) → CostsFound (costs l) (find n l)
+pub costs-find : (n : ℕ) (l : List Held) → CostsFound (costs l) (find n l)
 unfolding find choose costs
 costs-find n [] = tt
 costs-find n (h ∷ l) = go (eqb (h .number) n) (costs-find n l)

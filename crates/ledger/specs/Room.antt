@@ -4,12 +4,13 @@ use mathlib.Core.List.{List}
 use mathlib.Core.Path.{_≡_}
 use Prim.Native.Nat.{ℕ, _+_, _-_, _≤_, _<_}
 use lib.ListN.{length}
+use Rattle.octets.specs.Logic.{choose}
 use Rattle.refusal.specs.Answer.{gives}
 use Rattle.sequence.specs.Numbering.{lastNumber}
 use Rattle.sequence.specs.Sending.{syncSpan}
 use Rattle.model.specs.Client.{Client, header, costs, descriptorsOf}
 use Rattle.model.specs.Model.{hasReply, codeOf, numberOf, askedOf, claimed, placeOf, isHeld, mostDescriptors}
-use Rattle.model.specs.Calls.{Call, send, enqueue-fds, enqueue, discard, poll, check, poll-reply, prepare, poll-event, take-closed}
+use Rattle.model.specs.Calls.{Call, send, enqueue-fds, enqueue, discard, poll, check, poll-reply, prepare, poll-event, take-closed, Said, number, done, filed, nothing, took, again, absent, answer, closed, refused}
 use Rattle.model.specs.declared.Connection.{Connection}
 use Rattle.model.specs.declared.ReplyFdKind.{ReplyFdKind}
 
@@ -59,3 +60,56 @@ NoRoom f c (poll-reply n bytes) = ⊥
 NoRoom f c (prepare n) = ⊥
 NoRoom f c (poll-event bytes) = ⊥
 NoRoom f c (take-closed places) = ⊥
+
+-- ---- What a call adds to what is used, and what it gives back
+
+-- a packet that is held costs its header and its length
+unfoldable pub costOf : List ℕ → Said → ℕ
+costOf p (number n) = 0
+costOf p done = 0
+costOf p (filed place n) = choose (isHeld place) (header + length p) 0
+costOf p nothing = 0
+costOf p (took h) = 0
+costOf p again = 0
+costOf p absent = 0
+costOf p (answer b) = 0
+costOf p (closed fds) = 0
+costOf p (refused n) = 0
+
+unfoldable pub added : Call → Said → ℕ
+added (send kind) said = 0
+added (enqueue-fds list) said = 0
+added (enqueue p) said = costOf p said
+added (discard n m) said = 0
+added (poll n bytes places) said = 0
+added (check n bytes) said = 0
+added (poll-reply n bytes) said = 0
+added (prepare n) said = 0
+added (poll-event bytes) said = 0
+added (take-closed places) said = 0
+
+-- and so does one that is taken
+unfoldable pub givenBack : Said → ℕ
+givenBack (number n) = 0
+givenBack done = 0
+givenBack (filed place n) = 0
+givenBack nothing = 0
+givenBack (took h) = header + length (h .packet)
+givenBack again = 0
+givenBack absent = 0
+givenBack (answer b) = 0
+givenBack (closed fds) = 0
+givenBack (refused n) = 0
+
+-- what a discard gives back it does not say
+abbrev pub NoDiscard : Call → Type 0
+NoDiscard (send kind) = Unit {0}
+NoDiscard (enqueue-fds list) = Unit {0}
+NoDiscard (enqueue p) = Unit {0}
+NoDiscard (discard n m) = ⊥
+NoDiscard (poll n bytes places) = Unit {0}
+NoDiscard (check n bytes) = Unit {0}
+NoDiscard (poll-reply n bytes) = Unit {0}
+NoDiscard (prepare n) = Unit {0}
+NoDiscard (poll-event bytes) = Unit {0}
+NoDiscard (take-closed places) = Unit {0}

@@ -1,12 +1,14 @@
 -- What a call says, and what the model's function for it comes to. Assumes nothing.
+use mathlib.Core.Bool.{Bool, true, false}
 use mathlib.Core.Logic.{_↔_}
 use mathlib.Core.Path.{_≡_, ap}
 use Prim.Native.Nat.{ℕ}
 use native.Mathlib.Omega.{arith}
-use Rattle.refusal.specs.Answer.{Answer, gives, refuses}
+use Rattle.octets.specs.Logic.{choose}
+use Rattle.refusal.specs.Answer.{Answer, gives, refuses, refuse, pass}
 use Rattle.model.specs.Client.{Client}
 use Rattle.model.specs.Model.{Filing, Taken, none, packet, PollReply, tryAgain, noReply, reply, sendRequest, enqueueFds, takeClosed, enqueuePacket, discardReply, pollForReplyOrError, pollCheck, pollForReply, pollForEvent}
-use Rattle.model.specs.Calls.{Call, send, enqueue-fds, enqueue, discard, poll, check, poll-reply, prepare, poll-event, take-closed, Said, number, done, filed, nothing, took, again, absent, closed, refused, step, outcome}
+use Rattle.model.specs.Calls.{Call, send, enqueue-fds, enqueue, discard, poll, check, poll-reply, prepare, poll-event, take-closed, Said, number, done, filed, nothing, took, again, absent, closed, refused, Step, step, outcome}
 use Rattle.honest.specs.Public.{modelled}
 
 abbrev pub saysFiling : Filing → Said
@@ -20,6 +22,23 @@ abbrev pub saysPoll : PollReply → Said
 saysPoll tryAgain = again
 saysPoll noReply = absent
 saysPoll (reply h) = took h
+
+-- What is true of a step where the call is refused, and of each step that it can come to, is true of what it comes to.
+module _ (P : Step → Type 0) {A : Type 0} (f : A → Said) (c : Client) (keeps : (n : ℕ) → P (record { said = refused n; next = c })) where
+  pub by-refuse : (b : Bool) (n : ℕ) (a : Answer (A × Client)) → P (outcome f c a) → P (outcome f c (refuse b n a))
+  unfolding refuse
+  by-refuse true n a k = keeps n
+  by-refuse false n a k = k
+
+  pub by-choose : (b : Bool) (y z : Answer (A × Client)) → P (outcome f c y) → P (outcome f c z) → P (outcome f c (choose b y z))
+  unfolding choose
+  by-choose true y z k l = k
+  by-choose false y z k l = l
+
+  pub by-pass : {B : Type 0} (y : Answer B) (g : B → Answer (A × Client)) → ((v : B) → P (outcome f c (g v))) → P (outcome f c (pass y g))
+  unfolding pass
+  by-pass (gives v) g k = k v
+  by-pass (refuses n) g k = keeps n
 
 -- what is given is never said as a refusal
 taken-says : (v : Taken) (k : ℕ) → saysTaken v ≡ refused k → ⊥

@@ -39,7 +39,7 @@ use Rattle.honest.specs.Public.{stateOf, Given, modelled}
 use Rattle.session.specs.Session.{Session}
 use Rattle.session.specs.Theorems as Session
 use Rattle.ledger.specs.Descriptors.{within, accepted, handedOut, acceptedIn, handedIn, Neither, brought, foundWith, foundClosed, sessionAccepted, sessionHanded}
-use Rattle.ledger.specs.Room.{filled, kept, SendShort, PacketShort, NoRoom}
+use Rattle.ledger.specs.Room.{filled, kept, SendShort, PacketShort, NoRoom, added, givenBack, NoDiscard}
 use Rattle.ledger.specs.Sends.{mostSends, withoutReply, numbersFrom, sends, allNoRoom, SendsRow}
 use Rattle.ledger.specs.Encoding.{InRange, Encodes}
 use Rattle.ledger.specs.EncodingLaws as EncodingLaws
@@ -48,6 +48,7 @@ use Rattle.ledger.specs.Sessions as Sessions
 use Rattle.ledger.specs.RoomLaws as RoomLaws
 use Rattle.ledger.specs.Leaving as Leaving
 use Rattle.ledger.specs.Moving as Moving
+use Rattle.ledger.specs.Used as Used
 use Rattle.ledger.specs.SendsLaws as SendsLaws
 use Rattle.ledger.specs.Outcomes as Outcomes
 
@@ -117,6 +118,10 @@ session-sound k = Session.session-sound k
 -- What the window of a sound state has is the sum of the costs over both lists.
 pub used-sum : (c : Connection) (r : Rooms) → Sound c r → c .window .end - c .window .start ≡ costs (reads c r .replies) + costs (reads c r .events)
 used-sum c r S = sym (used-read c r S)
+
+-- Over each call, a discard apart (5. below): what is used after it with what it gave back is what was used before with what it added. A packet that is held adds its cost, one that is taken gives it back at once, and a move does neither.
+pub used-over : (c : Client) (x : Call) → NoDiscard x → used (step c x .next) + givenBack (step c x .said) ≡ used c + added x (step c x .said)
+used-over c x o = Used.uses c x o
 
 -- A call of the model is refused by 5 exactly where it lacks room.
 pub no-room : (c : Client) (x : Call) → (step c x .said ≡ refused 5) ↔ NoRoom (filled c) c x
