@@ -4,16 +4,16 @@ use mathlib.Core.List.{List, [], _∷_, _++_}
 use mathlib.Core.Path.{_≡_, refl, ap, _∙_}
 use Prim.Native.Nat.{ℕ, _+_, _%_}
 use native.Mathlib.Omega.{arith}
-use lib.Dec.{eqb}
+use lib.Dec.{ltb, eqb}
 use lib.ListN.{length, take, drop, getD, take-append-drop}
 use borrow.Author.Tests.{eqb-true}
 use Rattle.octets.specs.Logic.{choose, both}
 use Rattle.refusal.specs.Answer.{Answer, refuse, pass}
 use Rattle.descriptors.specs.Room.{count}
 use Rattle.descriptors.specs.Counting.{count-append, count-split}
-use Rattle.model.specs.Client.{Held, Client, setReplies, setWaiting, setClosing, descriptorsOf}
+use Rattle.model.specs.Client.{Held, Client, setReplies, setEvents, setWaiting, setClosing, descriptorsOf}
 use Rattle.model.specs.Model as Model
-use Rattle.model.specs.Model.{fresh, sendRequest, enqueueFds, takeClosed, errorCode, replyCode, codeOf, numbered, Asked, askedOf, errorPlace, replyPlace, replyUnder, placeOf, claimed, wantsDescriptors, Filing, takeIn, enqueuePacket, withMode, ofNumber, notOf, above, turned, discarding, discardReply, Found, at, behind, find, Taken, PollReply, takenBy, pollForReplyOrError, checkedBy, pollCheck, repliedBy, pollForReply, eventBy, pollForEvent}
+use Rattle.model.specs.Model.{fresh, sendRequest, enqueueFds, takeClosed, close, asEvent, errorCode, replyCode, codeOf, numbered, Asked, askedOf, errorPlace, replyPlace, replyUnder, placeOf, claimed, wantsDescriptors, Filing, takeIn, enqueuePacket, withMode, ofNumber, notOf, above, turned, discarding, discardReply, Found, at, behind, find, Taken, takenBy, pollForReplyOrError, checkedBy, pollCheck, repliedBy, pollForReply, eventBy, pollForEvent}
 use Rattle.model.specs.Calls.{Call, send, enqueue-fds, enqueue, discard, poll, check, poll-reply, prepare, poll-event, take-closed, Said, done, closed, refused, step, outcome, run}
 use Rattle.model.specs.declared.ReplyFdKind.{ReplyFdKind}
 use Rattle.model.specs.declared.DiscardMode.{DiscardMode}
@@ -22,7 +22,7 @@ use Rattle.model.specs.declared.Place.{Place}
 use Rattle.model.specs.declared.Place.the-variants as Place
 use Rattle.requests.specs.declared.Mode.{Mode}
 use Rattle.requests.specs.declared.Mode.the-variants as Mode
-use Rattle.ledger.specs.Saying.{saysTaken, by-refuse, by-choose, by-pass}
+use Rattle.ledger.specs.Saying.{saysTaken, saysPoll, by-refuse, by-choose, by-pass}
 use Rattle.ledger.specs.Descriptors.{within, unlessRefused, accepted, tookWith, closedBy, handedOut, Balances, acceptedIn, handedIn}
 
 -- how often one is inside, list by list
@@ -152,19 +152,24 @@ balance-close : (c c' : Client) (h : Held) (l : List Held) (d : ℕ) → count d
 balance-close c c' h l d k w r q =
     omega (arith, count-within d c, count-within d c', ap (count d) w, ap (λ (y : List Held). count d (descriptorsOf y)) r, ap (count d) q, count-append d (c .closing) (h .descriptors))
 
-module _ (f : PollReply → Said) (c : Client) where
-  balances-checked : (n bytes : ℕ) (y : Found) → ((d : ℕ) → CountFound d (count d (descriptorsOf (c .replies))) y) → Balances c (check n bytes) (outcome f c (checkedBy c n bytes y))
-  unfolding accepted handedOut
-  balances-checked n bytes Model.nothing k = λ d. refl
+module _ (c : Client) where
+  balances-checked : (n bytes : ℕ) (y : Found) → ((d : ℕ) → CountFound d (count d (descriptorsOf (c .replies))) y) → Balances c (check n bytes) (outcome saysPoll c (checkedBy c n bytes y))
+  unfolding accepted handedOut tookWith count choose
+  balances-checked n bytes Model.nothing k = go (ltb n (c .numbers .read))
+    where
+      go : (b : Bool) → Balances c (check n bytes) (record { said = saysPoll (choose b Model.noReply Model.tryAgain); next = c })
+      go true = λ d. refl
+      go false = λ d. refl
   balances-checked n bytes (at h l) k =
-      balances-refuse f c (check n bytes) _ 8 _ (λ d. ap (λ (m : ℕ). m + count d []) (balance-close c _ h l d (k d) refl refl refl))
+      balances-refuse saysPoll c (check n bytes) _ 8 _ (λ d. omega (arith, balance-close c (close (h .descriptors) (setReplies c l)) h l d (k d) refl refl refl))
 
-  balances-replied : (n bytes : ℕ) (y : Found) → ((d : ℕ) → CountFound d (count d (descriptorsOf (c .replies))) y) → Balances c (poll-reply n bytes) (outcome f c (repliedBy c bytes y))
-  unfolding accepted handedOut
+  balances-replied : (n bytes : ℕ) (y : Found) → ((d : ℕ) → CountFound d (count d (descriptorsOf (c .replies))) y) → Balances c (poll-reply n bytes) (outcome saysPoll c (repliedBy c bytes y))
+  unfolding accepted handedOut tookWith count
   balances-replied n bytes Model.nothing k = λ d. refl
   balances-replied n bytes (at h l) k =
-      balances-choose f c (poll-reply n bytes) _ _ _ (λ d. ap (λ (m : ℕ). m + count d []) (balance-close c _ h l d (k d) refl refl refl))
-      (balances-refuse f c (poll-reply n bytes) _ 8 _ (λ d. ap (λ (m : ℕ). m + count d []) (balance-close c _ h l d (k d) refl refl refl)))
+      balances-choose saysPoll c (poll-reply n bytes) _ _ _
+      (λ d. omega (arith, balance-close c (close (h .descriptors) (setEvents (setReplies c l) (c .events ++ (asEvent h ∷ [])))) h l d (k d) refl refl refl))
+      (balances-refuse saysPoll c (poll-reply n bytes) _ 8 _ (λ d. omega (arith, balance-close c (close (h .descriptors) (setReplies c l)) h l d (k d) refl refl refl)))
 
 -- the mode is no descriptor
 within-choose : (c x : Client) (b : Bool) → within x ≡ within c → within (choose b x c) ≡ within c
@@ -252,8 +257,8 @@ balances c (enqueue-fds list) = balances-fds (λ x. done) c list refl
 balances c (enqueue p) = balances-packet _ c p
 balances c (discard n m) = balances-discard _ c n m
 balances c (poll n bytes places) = balances-taken saysTaken refl (λ h. refl) c n bytes places (find n (c .replies)) (λ d. count-find d n (c .replies))
-balances c (check n bytes) = balances-checked _ c n bytes (find n (c .replies)) (λ d. count-find d n (c .replies))
-balances c (poll-reply n bytes) = balances-replied _ c n bytes (find n (c .replies)) (λ d. count-find d n (c .replies))
+balances c (check n bytes) = balances-checked c n bytes (find n (c .replies)) (λ d. count-find d n (c .replies))
+balances c (poll-reply n bytes) = balances-replied c n bytes (find n (c .replies)) (λ d. count-find d n (c .replies))
 balances c (prepare n) = balances-prepare c n _
 balances c (poll-event bytes) = balances-event _ c bytes (c .events)
 balances c (take-closed places) = balances-closed closed c places (λ l. refl)
