@@ -1,19 +1,14 @@
--- WRONG ENGINES: five that the promises shut out, whatever the code. Each theorem takes answers that the promise of a call allows, and says what they are not. Assumes nothing.
-use mathlib.Core.Bool.{Bool, true, false}
+-- WRONG ENGINES that the promises shut out, whatever the code. Each theorem takes answers that the promise of a call allows, and says what they are not. Assumes nothing.
 use mathlib.Core.List.{List, [], _∷_}
-use mathlib.Core.Logic.{_↔_}
 use mathlib.Core.Path.{_≡_, refl, sym, ap, _∙_}
-use Prim.Native.Nat.{ℕ, _+_, _≤_, _<_}
+use Prim.Native.Nat.{ℕ}
 use native.Mathlib.Omega.{arith}
-use lib.Dec.{ltb}
-use lib.ListN.{length, replicate}
-use borrow.Author.Tests.{ltb-true, lt-ltb, le-ltb}
-use Rattle.octets.specs.Logic.{choose, both, either}
+use lib.ListN.{replicate}
+use Rattle.octets.specs.Logic.{both, either}
 use Rattle.octets.specs.Bytes.{legal}
-use Rattle.refusal.specs.Answer.{Answer, gives, refuses, refuse, pass}
-use Rattle.model.specs.Client.{Client, header, used}
-use Rattle.model.specs.Model.{roomy, fresh, joining, codeOf, numberOf, askedOf, Filing, takeIn, sendRequest, enqueuePacket}
-use Rattle.model.specs.Model as Model
+use Rattle.refusal.specs.Answer.{Answer, gives, refuses}
+use Rattle.model.specs.Client.{Client}
+use Rattle.model.specs.Model.{roomy, fresh, joining, Filing, sendRequest, enqueuePacket}
 use Rattle.model.specs.Promise.{gives-same}
 use Rattle.model.specs.Reading.{Rooms, rooms, reads}
 use Rattle.model.specs.Sound.{Sound, is-sound}
@@ -123,56 +118,3 @@ not-repeated f g s t r q k l e =
     let a : f .number ≡ 1 = ap (λ y. y .0 .number) x in
     let b : g .number ≡ 2 = ap (λ y. y .0 .number) (gave s r (event 2) _ _ (ap (λ y. y .1) x) takes-two g t q l) in
     omega arith
-
--- ---- INVENTS THE USED COUNT: an event is refused by 5 exactly where the sum over both lists and its cost are over S.
-
--- an event that has its number
-pub record Numbered (m : Client) (p : List ℕ) : Type 0 where
-  pub least : 32 ≤ length p
-  pub most : length p ≤ 65536
-  pub code : codeOf p ≡ 2
-  pub number : ℕ
-  pub number-is : numberOf m p ≡ gives number
-
-module _ (m : Client) (p : List ℕ) (h : Numbered m p) where
-  abbrev over : Bool
-  over = ltb (m .most-bytes) (used m + (header + length p))
-
-  taken-in : enqueuePacket m p ≡ takeIn m p (h .number) (askedOf m (h .number))
-  unfolding enqueuePacket refuse pass
-  taken-in = rw (le-ltb (length p) 32 (h .least), le-ltb 65536 (length p) (h .most), h .number-is)
-
-  goes : (a : Model.Asked) → Model.placeOf (codeOf p) a ≡ Events
-  unfolding Model.placeOf choose
-  goes a = rw (h .code)
-
-  claims : (a : Model.Asked) → Model.claimed p a ≡ 0
-  unfolding Model.claimed choose both
-  claims a = rw (h .code)
-
-  full : over ≡ true → enqueuePacket m p ≡ refuses 5
-  unfolding takeIn refuse both
-  full e = taken-in ∙ rw (goes (askedOf m (h .number)), claims (askedOf m (h .number)), le-ltb (length (m .waiting)) 0 (omega arith), e)
-
-  fits : over ≡ false → (n : ℕ) → enqueuePacket m p ≡ refuses n → ⊥
-  unfolding takeIn refuse both
-  fits e n q = never _ n (rw (goes (askedOf m (h .number)), claims (askedOf m (h .number)), le-ltb (length (m .waiting)) 0 (omega arith), e) at (sym taken-in ∙ q))
-
-  decides : (b : Bool) → over ≡ b → (n : ℕ) → enqueuePacket m p ≡ refuses n → m .most-bytes < used m + (header + length p)
-  decides true e n q = ltb-true _ _ e
-  decides false e n q = absurd (fits e n q)
-
-pub room-follows : (c : Connection) (r : Rooms) (p : List ℕ) (a : Answer (Filing × Connection)) (r' : Rooms) → Sound c r → Numbered (reads c r) p → Enqueues c r p a r'
-    → (a ≡ refuses 5) ↔ (c .room < used (reads c r) + (header + length p))
-unfolding reads
-room-follows c r p a r' S h k = (there, back a k)
-  where
-    there : a ≡ refuses 5 → c .room < used (reads c r) + (header + length p)
-    there e = decides (reads c r) p h _ refl 5 (refused-so _ _ (λ m. enqueuePacket m p) c r a r' (is-sound c r S) k 5 e)
-
-    back : (b : Answer (Filing × Connection)) → Enqueues c r p b r' → c .room < used (reads c r) + (header + length p) → b ≡ refuses 5
-    back (gives x) l o = absurd (never _ 5 (sym (given-so (came _ _ (λ m. enqueuePacket m p) c r (gives x) r' l) (x .0) (x .1) refl) ∙ full (reads c r) p h (lt-ltb _ _ o)))
-    back (refuses n) l o =
-        let e : _≡_ {A = Answer (Filing × Client)} (refuses n) (refuses 5) = sym (refused-so _ _ (λ m. enqueuePacket m p) c r (refuses n) r' (is-sound c r S) l n refl) ∙ full (reads c r) p h (lt-ltb _ _ o) in
-        let z : n ≡ 5 = cc in
-        ap refuses z

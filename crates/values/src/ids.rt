@@ -1,5 +1,4 @@
 // The ids of masks and of ranges.
-use crate::say;
 use id_allocator::Generated;
 use id_allocator::IdAllocator;
 use id_allocator::Ids;

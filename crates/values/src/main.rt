@@ -5,11 +5,8 @@
 // ids are those that the Rust answers.
 mod ids;
 mod misc;
-mod numbers;
-mod say;
 
 fn main() {
-    numbers::sending();
     ids::of_masks();
     ids::of_ranges();
     misc::requests();

@@ -1,5 +1,4 @@
 // XC-MISC and error packets, as an X server sent them.
-use crate::say;
 use x11_utils::Parsed;
 use x11_utils::X11Error;
 use xc_misc::ListAnswer;

@@ -1,0 +1,16 @@
+pub mod Descriptors
+pub mod Room
+pub mod Sends
+pub mod Encoding
+pub mod Saying
+pub mod Promised
+pub mod Balance
+pub mod Sessions
+pub mod RoomLaws
+pub mod Leaving
+pub mod Moving
+pub mod Used
+pub mod SendsLaws
+pub mod Outcomes
+pub mod EncodingLaws
+pub mod Theorems

@@ -1,0 +1,211 @@
+-- A call is refused by 5 exactly where it lacks room. Assumes nothing.
+use mathlib.Core.Bool.{Bool, true, false, not}
+use mathlib.Core.List.{List, [], _∷_, _++_}
+use mathlib.Core.Logic.{_↔_}
+use mathlib.Core.Path.{_≡_, refl, sym, ap, _∙_, subst}
+use Prim.Native.Nat.{ℕ, _+_, _<_}
+use native.Mathlib.Omega.{arith}
+use lib.Dec.{leb, ltb, eqb}
+use lib.ListN.{length}
+use borrow.Author.Tests.{leb-true, leb-false, le-leb, lt-leb, ltb-true, ltb-false, lt-ltb, le-ltb}
+use Rattle.octets.specs.Logic.{choose, both, both-left, both-right, both-yes, apart}
+use Rattle.refusal.specs.Answer.{Answer, gives, refuses, refuse, pass}
+use Rattle.octets.specs.Field.{field}
+use Rattle.sequence.specs.Numbering.{lastNumber, full, inRange}
+use Rattle.sequence.specs.Sending.{syncSpan, mustSync, sending}
+use Rattle.model.specs.Client.{Held, Client, setNumbers, setOutstanding, header, used, inside}
+use Rattle.model.specs.Model as Model
+use Rattle.model.specs.Model.{mostDescriptors, hasReply, joining, sendRequest, keymapNotify, enqueueFds, takeClosed, codeOf, numberOf, askedOf, claimed, takeIn, enqueuePacket, discardReply, Found, at, find, PollReply, takenBy, pollForReplyOrError, checkedBy, pollCheck, repliedBy, pollForReply, eventBy, pollForEvent}
+use Rattle.model.specs.Calls.{Call, send, enqueue-fds, enqueue, discard, poll, check, poll-reply, prepare, poll-event, take-closed, refused, step}
+use Rattle.model.specs.Promise.{Done, Promise}
+use Rattle.model.specs.Reading.{Rooms, reads}
+use Rattle.model.specs.ReadingLaws.{length-out, used-read, inside-read}
+use Rattle.model.specs.Sound.{Sound}
+use Rattle.model.specs.declared.Connection.{Connection}
+use Rattle.model.specs.declared.ReplyFdKind.{ReplyFdKind}
+use Rattle.honest.specs.Public.{Given, modelled}
+use Rattle.ledger.specs.Saying.{says-refused}
+use Rattle.ledger.specs.Promised.{refused-on, refused-past, refused-here, here-refused, promise-by}
+use Rattle.ledger.specs.Room.{Filled, filled, kept, SendShort, PacketShort, NoRoom}
+
+-- ---- sending
+
+pub no-sync-false : (hr : Bool) (w e : ℕ) → both (not hr) (mustSync w e) ≡ false → hr ≡ false → w < e + syncSpan
+unfolding both mustSync
+no-sync-false true w e h q = apart refl q
+no-sync-false false w e h q = leb-false _ _ h
+
+pub false-no-sync : (hr : Bool) (w e : ℕ) → (hr ≡ false → w < e + syncSpan) → both (not hr) (mustSync w e) ≡ false
+unfolding both mustSync
+false-no-sync true w e h = refl
+false-no-sync false w e h = lt-leb (e + syncSpan) w (h refl)
+
+pass-refuse : {A B : Type 0} (b : Bool) (n : ℕ) (a : Answer A) (f : A → Answer B) → pass (refuse b n a) f ≡ refuse b n (pass a f)
+unfolding refuse pass
+pass-refuse true n a f = refl
+pass-refuse false n a f = refl
+
+-- the state after a request was sent
+abbrev pub sentOn : Client → ReplyFdKind → Client
+sentOn c kind =
+    setOutstanding (setNumbers c (record { written = c .numbers .written + 1; expected = choose (hasReply kind) (c .numbers .written + 1) (c .numbers .expected); read = c .numbers .read }))
+    (c .outstanding ++ (joining kind ∷ []))
+
+-- sending is three tests in a row
+pub send-row : (c : Client) (kind : ReplyFdKind)
+    → sendRequest c kind
+    ≡ refuse (leb lastNumber (c .numbers .written)) 3
+    (refuse (both (not (hasReply kind)) (mustSync (c .numbers .written) (c .numbers .expected))) 6
+    (refuse (leb (c .most-requests) (length (c .outstanding))) 5 (gives (c .numbers .written + 1, sentOn c kind))))
+unfolding sendRequest sending pass
+send-row c kind = pass-refuse _ 3 _ _ ∙ ap (refuse (leb lastNumber (c .numbers .written)) 3) (pass-refuse _ 6 _ _)
+
+module _ (c : Client) (kind : ReplyFdKind) where
+  send-short : sendRequest c kind ≡ refuses 5 → SendShort (filled c) c kind
+  send-short q =
+      let a = refused-on _ 3 5 _ (λ i. omega arith) (sym (send-row c kind) ∙ q) in
+      let b = refused-on _ 6 5 _ (λ i. omega arith) (a .1) in
+      record { not-ended = leb-false _ _ (a .0); no-sync = no-sync-false (hasReply kind) _ _ (b .0); full = leb-true _ _ (refused-here _ 5 _ (b .1)) }
+
+  short-send : SendShort (filled c) c kind → sendRequest c kind ≡ refuses 5
+  short-send s =
+      send-row c kind
+      ∙ refused-past _ 3 5 _ (lt-leb lastNumber (c .numbers .written) (s .not-ended))
+      (refused-past _ 6 5 _ (false-no-sync (hasReply kind) _ _ (s .no-sync)) (here-refused _ 5 _ (le-leb (c .most-requests) (length (c .outstanding)) (s .full))))
+
+-- ---- descriptors
+
+module _ (c : Client) (list : List ℕ) where
+  fds-short : enqueueFds c list ≡ refuses 5 → mostDescriptors < inside c + length list
+  unfolding enqueueFds
+  fds-short q = ltb-true _ _ (refused-here _ 5 _ q)
+
+  short-fds : mostDescriptors < inside c + length list → enqueueFds c list ≡ refuses 5
+  unfolding enqueueFds
+  short-fds h = here-refused _ 5 _ (lt-ltb mostDescriptors (inside c + length list) h)
+
+-- ---- intake
+
+pass-refused : {A B : Type 0} (a : Answer A) (f : A → Answer B) (k : ℕ) → ((n : ℕ) → a ≡ refuses n → n ≡ k → ⊥) → pass a f ≡ refuses k → (x : A) × (a ≡ gives x) × (f x ≡ refuses k)
+unfolding pass
+pass-refused (gives x) f k d e = (x, refl, e)
+pass-refused (refuses n) f k d e = absurd (d n refl (cc))
+
+-- a number is refused by 3 alone
+number-ends : (c : Client) (p : List ℕ) (n : ℕ) → numberOf c p ≡ refuses n → n ≡ 5 → ⊥
+unfolding numberOf inRange choose refuse
+number-ends c p n e q = go (eqb (codeOf p) keymapNotify) (ltb lastNumber (full (c .numbers .read) (field (c .order) 2 2 p))) e
+  where
+    go : (x y : Bool) → choose x (gives (c .numbers .read)) (refuse y 3 (gives (full (c .numbers .read) (field (c .order) 2 2 p)))) ≡ refuses n → ⊥
+    go true y z = let i : _≡_ {A = ℕ} 0 1 = cc in omega arith
+    go false true z = let i : 3 ≡ n = cc in omega arith
+    go false false z = let i : _≡_ {A = ℕ} 0 1 = cc in omega arith
+
+module _ (c : Client) (p : List ℕ) where
+  packet-short : enqueuePacket c p ≡ refuses 5 → PacketShort (filled c) c p
+  unfolding enqueuePacket takeIn
+  packet-short q =
+      let a = refused-on _ 1 5 _ (λ i. omega arith) q in
+      let b = refused-on _ 2 5 _ (λ i. omega arith) (a .1) in
+      let n = pass-refused (numberOf c p) _ 5 (number-ends c p) (b .1) in
+      let d = refused-on _ 4 5 _ (λ i. omega arith) (n .2) in
+      let f = refused-here _ 5 _ (d .1) in
+      let over : c .most-bytes < used c + (header + length p) = ltb-true _ _ (both-right _ _ f) in
+      record {
+        not-short = ltb-false _ _ (a .0);
+        not-long = ltb-false _ _ (b .0);
+        number = n .0;
+        numbered = n .1;
+        enough-wait = ltb-false _ _ (d .0);
+        to-be-held = both-left _ _ f;
+        full = omega (arith, over);
+      }
+
+  short-packet : PacketShort (filled c) c p → enqueuePacket c p ≡ refuses 5
+  unfolding enqueuePacket takeIn pass
+  short-packet s =
+      refused-past _ 1 5 _ (le-ltb (length p) 32 (s .not-short))
+      (refused-past _ 2 5 _ (le-ltb 65536 (length p) (s .not-long))
+      (ap (λ (y : Answer ℕ). pass y (λ n. takeIn c p n (askedOf c n))) (s .numbered)
+      ∙ taking))
+    where
+      taking : takeIn c p (s .number) (askedOf c (s .number)) ≡ refuses 5
+      taking =
+          refused-past _ 4 5 _ (le-ltb (length (c .waiting)) (claimed p (askedOf c (s .number))) (s .enough-wait))
+          (here-refused _ 5 _ (both-yes _ _ (s .to-be-held) (lt-ltb (c .most-bytes) (used c + (header + length p)) (omega (arith, s .full)))))
+
+-- ---- the others
+
+-- by 8 alone
+eight-alone : {A : Type 0} (b : Bool) (x : A) (k : ℕ) → refuse b 8 (gives x) ≡ refuses k → k ≡ 8
+unfolding refuse
+eight-alone true x k e = cc
+eight-alone false x k e = absurd (let z : _≡_ {A = ℕ} 0 1 = cc in omega arith)
+
+closed-by : (c : Client) (places k : ℕ) → takeClosed c places ≡ refuses k → k ≡ 8
+unfolding takeClosed
+closed-by c places k e = eight-alone _ _ k e
+
+taken-by : (c : Client) (bytes places k : ℕ) (f : Found) → takenBy c bytes places f ≡ refuses k → k ≡ 8
+taken-by c bytes places k Model.nothing e = absurd (let z : _≡_ {A = ℕ} 0 1 = cc in omega arith)
+taken-by c bytes places k (at h l) e = eight-alone _ _ k e
+
+checked-by : (c : Client) (n bytes k : ℕ) (f : Found) → checkedBy c n bytes f ≡ refuses k → k ≡ 8
+checked-by c n bytes k Model.nothing e = absurd (let z : _≡_ {A = ℕ} 0 1 = cc in omega arith)
+checked-by c n bytes k (at h l) e = eight-alone _ _ k e
+
+replied-choose : (b t : Bool) (x y : PollReply × Client) (k : ℕ) → choose b (gives x) (refuse t 8 (gives y)) ≡ refuses k → k ≡ 8
+unfolding choose
+replied-choose true t x y k q = absurd (let z : _≡_ {A = ℕ} 0 1 = cc in omega arith)
+replied-choose false t x y k q = eight-alone t y k q
+
+replied-by : (c : Client) (bytes k : ℕ) (f : Found) → repliedBy c bytes f ≡ refuses k → k ≡ 8
+replied-by c bytes k Model.nothing e = absurd (let z : _≡_ {A = ℕ} 0 1 = cc in omega arith)
+replied-by c bytes k (at h l) e = replied-choose _ _ _ _ k e
+
+event-by : (c : Client) (bytes k : ℕ) (l : List Held) → eventBy c bytes l ≡ refuses k → k ≡ 8
+event-by c bytes k [] e = absurd (let z : _≡_ {A = ℕ} 0 1 = cc in omega arith)
+event-by c bytes k (h ∷ l) e = eight-alone _ _ k e
+
+never : {A : Type 0} {a : Answer A} → ((k : ℕ) → a ≡ refuses k → k ≡ 8) → (a ≡ refuses 5) ↔ ⊥
+never h = (λ e. (let z = h 5 e in omega arith), λ z. absurd z)
+
+-- ---- every call
+
+pub model-no-room : (x : Call) (c : Client) → (modelled x c ≡ refuses 5) ↔ NoRoom (filled c) c x
+unfolding discardReply pollForReplyOrError pollCheck pollForReply pollForEvent
+model-no-room (send kind) c = (send-short c kind, short-send c kind)
+model-no-room (enqueue-fds list) c = (fds-short c list, short-fds c list)
+model-no-room (enqueue p) c = (packet-short c p, short-packet c p)
+model-no-room (discard n m) c = (λ e. (let z : _≡_ {A = ℕ} 0 1 = cc in omega arith), λ z. absurd z)
+model-no-room (poll n bytes places) c = never (λ k. taken-by c bytes places k (find n (c .replies)))
+model-no-room (check n bytes) c = never (λ k. checked-by c n bytes k (find n (c .replies)))
+model-no-room (poll-reply n bytes) c = never (λ k. replied-by c bytes k (find n (c .replies)))
+model-no-room (prepare n) c = (λ e. (let z : _≡_ {A = ℕ} 0 1 = cc in omega arith), λ z. absurd z)
+model-no-room (poll-event bytes) c = never (λ k. event-by c bytes k (c .events))
+model-no-room (take-closed places) c = never (λ k. closed-by c places k)
+
+-- as it is said
+pub no-room : (c : Client) (x : Call) → (step c x .said ≡ refused 5) ↔ NoRoom (filled c) c x
+no-room c x = (λ e. model-no-room x c .0 (says-refused x c 5 .0 e), λ h. says-refused x c 5 .1 (model-no-room x c .1 h))
+
+-- ---- the public calls
+
+-- the rooms of a sound state are filled as it is read
+pub kept-filled : (c : Connection) (r : Rooms) → Sound c r → kept c ≡ filled (reads c r)
+kept-filled c r S = sym (λ i. record { requests = length-out c r S i; bytes = used-read c r S i; descriptors = inside-read c r S i })
+
+pub public-no-room : (x : Call) {B : Type 0} (f : Given x → B) (e : Answer (Done (Given x))) (c : Connection) (r : Rooms) (a : Answer (B × Connection)) (r' : Rooms) → Promise f e (modelled x) c r a r'
+    → (a ≡ refuses 5) ↔ (Sound c r × NoRoom (kept c) (reads c r) x)
+public-no-room x f e c r a r' p = (there, back)
+  where
+    by : (a ≡ refuses 5) ↔ (Sound c r × (modelled x (reads c r) ≡ refuses 5))
+    by = promise-by f e (modelled x) c r a r' p 5 (λ i. omega arith)
+
+    there : a ≡ refuses 5 → Sound c r × NoRoom (kept c) (reads c r) x
+    there i =
+        let z = by .0 i in
+        (z .0, rw (kept-filled c r (z .0)) (model-no-room x (reads c r) .0 (z .1)))
+
+    back : Sound c r × NoRoom (kept c) (reads c r) x → a ≡ refuses 5
+    back s = by .1 (s .0, model-no-room x (reads c r) .1 (subst (λ (y : Filled). NoRoom y (reads c r) x) (kept-filled c r (s .0)) (s .1)))
