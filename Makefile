@@ -1,5 +1,5 @@
-# The two commands of the README.
-.PHONY: run test
+# The commands of the README.
+.PHONY: run test library beside
 
 # Prove the program `packets` and what it stands on, and run it on bytes that an X server sent.
 run:
@@ -10,3 +10,12 @@ run:
 # 'N passed, 0 failed'.
 test:
 	tests/run
+
+# The static library: target/staticlib/libxiengmado.a, for include/xiengmado.h and the Rust crate in rust/.
+library:
+	rt staticlib xiengmado
+
+# The engine beside the published Rust, call by call: RUST is the folder of its files (with connection/mod.rs in it),
+# ARGS are a seed and how many runs of each kind, or 'long'.
+beside: library
+	cd rust && XIENGMADO_RUST="$(abspath $(RUST))" cargo run --offline --quiet --profile beside -p beside -- $(ARGS)

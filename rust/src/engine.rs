@@ -12,6 +12,9 @@ const MOST_PACKET: usize = 65_536;
 /// The bytes of a record in front of its packet.
 const HEADER: usize = 16;
 
+/// A packet and its descriptors.
+pub type PacketWithFds = (Vec<u8>, Vec<u32>);
+
 /// Where a packet was filed.
 #[derive(Debug, Clone, Copy, PartialEq, Eq)]
 pub enum Place {
@@ -132,7 +135,7 @@ impl Engine {
     pub fn poll_for_reply_or_error(
         &mut self,
         number: SequenceNumber,
-    ) -> Result<Option<(Vec<u8>, Vec<u32>)>, Refusal> {
+    ) -> Result<Option<PacketWithFds>, Refusal> {
         let (found, size, count) = ffi::poll_for_reply_or_error(
             &mut self.state,
             &mut self.rooms,

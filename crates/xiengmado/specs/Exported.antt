@@ -56,3 +56,6 @@ kept-off p = record { exported = record { answer = refuses 9; promise = p; numbe
 pub kept-by : {A : Type 0} {P : Answer A → Type 0} {show put : A → List ℕ} {v v' s s' : List ℕ} {code : ℕ} (a : Answer A) → P a → code ≡ codeOf a → v' ≡ shownOf show a v → s' ≡ shownOf put a s
     → Kept P show put v v' s s' code
 kept-by a p c w t = record { exported = record { answer = a; promise = p; number = c; values = w }; state = t }
+
+pub exported-by : {A : Type 0} {P : Answer A → Type 0} {show : A → List ℕ} {v v' : List ℕ} {code : ℕ} (a : Answer A) → P a → code ≡ codeOf a → v' ≡ shownOf show a v → Exported P show v v' code
+exported-by a p c w = record { answer = a; promise = p; number = c; values = w }

@@ -1,3 +1,4 @@
 pub mod State
 pub mod Exported
 pub mod Shown
+pub mod Looking

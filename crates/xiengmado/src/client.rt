@@ -1,6 +1,5 @@
 // `connection`: the public calls, over a state in sixteen lent numbers and the three rooms.
 ghost use mathlib.Core.Path.{_≡_};
-ghost use mathlib.Core.Bool.{cond};
 ghost use mathlib.Core.List.{[], _∷_};
 ghost use lib.Dec.{eqb, leb};
 ghost use lib.ListN.{length};
@@ -18,6 +17,7 @@ use crate::answers::give_next;
 use crate::answers::give_poll;
 use crate::answers::give_polled;
 use crate::answers::give_sent;
+use crate::bit;
 use crate::code;
 use crate::state;
 use model::DiscardMode;
@@ -253,12 +253,6 @@ fn kind_of(kind: u8) -> ReplyFdKind
         return ReplyFdKind::ReplyWithoutFds;
     }
     ReplyFdKind::ReplyWithFds
-}
-
-fn bit(b: bool) -> u8
-    ensures { λ r. ⌜ r ≡ cond b 1 0 ⌝ }
-{
-    if b { 1 } else { 0 }
 }
 
 fn is_mode(mode: u8) -> bool

@@ -8,6 +8,7 @@
 // `mode` cannot mean is refused by 9 too. Nothing is decided here: a contract says that an export
 // does what the promise of the call below it says (`specs/Exported`).
 ghost use mathlib.Core.Path.{_≡_};
+ghost use mathlib.Core.Bool.{cond};
 ghost use Rattle.refusal.specs.Numbers.{numberOf};
 use refusal::Refusal;
 
@@ -26,6 +27,13 @@ mod state;
 pub(crate) const DONE: u32 = 0;
 
 pub(crate) const BAD: u32 = 9;
+
+// 1 for true.
+pub(crate) fn bit(b: bool) -> u8
+    ensures { λ r. ⌜ r ≡ cond b 1 0 ⌝ }
+{
+    if b { 1 } else { 0 }
+}
 
 pub(crate) fn code(refusal: Refusal) -> u32
     ensures { λ r. ⌜ r ≡ numberOf refusal ⌝ }

@@ -1,10 +1,13 @@
 // What the rooms of a connection hold, read without a state: for those who compare two runs or look
 // for a fault. No other function of the library needs these.
 ghost use mathlib.Core.Path.{_≡_};
+ghost use mathlib.Core.List.{[], _∷_};
 ghost use Rattle.requests.specs.Room.{modeNumber};
+ghost use Rattle.xiengmado.specs.Exported.{Exported};
+ghost use Rattle.xiengmado.specs.Looking.{requestKept, requestFields, Looks, recordFields};
 use crate::BAD;
 use crate::DONE;
-use held::HEADER;
+use crate::bit;
 use requests::Mode;
 
 // What is kept of the request of a number: whether its reply has descriptors, and its mode (0 none, 1
@@ -16,13 +19,15 @@ pub extern "C" fn xm_request_at(
     number: u64,
     descriptors: &mut u8,
     mode: &mut u8,
-) -> u32 {
+) -> u32
+    ensures { λ r. ⌜ Exported (λ a. a ≡ requestKept (now (requests .entry)) number) requestFields (now (descriptors .entry) ∷ now (mode .entry) ∷ []) (now (descriptors .exit) ∷ now (mode .exit) ∷ []) r ⌝ }
+{
     if !requests::sized(requests, requests.len()) {
         return BAD;
     }
     let request = requests::get(requests, number);
     let kept = request.mode;
-    *descriptors = request.descriptors as u8;
+    *descriptors = bit(request.descriptors);
     *mode = mode_number(kept);
     DONE
 }
@@ -40,17 +45,17 @@ pub extern "C" fn xm_record_at(
     number: &mut u64,
     size: &mut usize,
     count: &mut u8,
-) -> u32 {
+) -> u32
+    ensures { λ r. ⌜ Exported (λ a. Looks (now (store .entry)) at end a) recordFields (now (kind .entry) ∷ now (number .entry) ∷ now (size .entry) ∷ now (count .entry) ∷ []) (now (kind .exit) ∷ now (number .exit) ∷ now (size .exit) ∷ now (count .exit) ∷ []) r ⌝ }
+{
     if store.len() < end {
         return BAD;
     }
     if end < at {
         return BAD;
     }
-    if end - at < HEADER {
-        return BAD;
-    }
-    if held::size_at(store, at, end) == 0 {
+    let cost = held::size_at(store, at, end);
+    if cost == 0 {
         return BAD;
     }
     *kind = held::kind_at(store, at);

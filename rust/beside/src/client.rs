@@ -60,10 +60,10 @@ pub struct Both {
     pub calls: u64,
 }
 
-fn same<T: PartialEq + std::fmt::Debug>(what: &str, ours: T, theirs: T) {
+fn same<T: PartialEq + std::fmt::Debug>(call: &str, part: &str, ours: T, theirs: T) {
     assert!(
         ours == theirs,
-        "{what}\n  here: {ours:?}\n  Rust: {theirs:?}"
+        "{call}: {part}\n  here: {ours:?}\n  Rust: {theirs:?}"
     );
 }
 
@@ -122,7 +122,7 @@ impl Both {
     fn compare_closed(&mut self, what: &str) {
         let ours = self.engine.take_closed_fds().unwrap();
         met(|met| met.closed += ours.len() as u64);
-        same(&format!("{what}: closed"), ours, take_closed());
+        same(what, "closed", ours, take_closed());
     }
 
     fn compare_state(&self, what: &str) {
@@ -132,19 +132,16 @@ impl Both {
             engine.next_reply_expected(),
             engine.last_sequence_read(),
         );
-        same(
-            &format!("{what}: numbers"),
-            numbers,
-            connection::numbers(&self.rust),
-        );
+        same(what, "numbers", numbers, connection::numbers(&self.rust));
         let outstanding = connection::outstanding(&self.rust);
         same(
-            &format!("{what}: outstanding"),
+            what,
+            "outstanding",
             engine.outstanding_len(),
             outstanding.len(),
         );
         for (ours, theirs) in engine.outstanding().zip(outstanding) {
-            same(&format!("{what}: request"), ours, theirs);
+            same(what, "request", ours, theirs);
         }
         let mut cost = 0;
         for place in [Place::Replies, Place::Events] {
@@ -156,11 +153,11 @@ impl Both {
             let theirs = connection::held(&self.rust, place);
             cost += theirs.iter().map(|held| 16 + held.1.len()).sum::<usize>();
             met(|met| met.most_held = met.most_held.max(ours.len()));
-            same(&format!("{what}: {place:?}"), ours, theirs);
+            same(what, "held", ours, theirs);
         }
-        same(&format!("{what}: used"), engine.used(), cost);
+        same(what, "used", engine.used(), cost);
         let waiting: Vec<u32> = connection::waiting(&self.rust).collect();
-        same(&format!("{what}: waiting"), engine.waiting(), &waiting[..]);
+        same(what, "waiting", engine.waiting(), &waiting[..]);
     }
 
     /// A request; whether it was accepted. Only where there is room for it.
@@ -184,7 +181,7 @@ impl Both {
             }
             Err(refusal) => panic!("send_request: {refusal}"),
         };
-        same("send_request", ours, self.rust.send_request(kind));
+        same("send_request", "answer", ours, self.rust.send_request(kind));
         self.calls += 1;
         ours.is_some()
     }
@@ -201,7 +198,7 @@ impl Both {
             Ok(()) => self
                 .rust
                 .enqueue_fds(list.iter().map(|&fd| RawFdContainer(fd)).collect()),
-            Err(refusal) => same("enqueue_fds", refusal, Refusal::NoRoom),
+            Err(refusal) => same("enqueue_fds", "answer", refusal, Refusal::NoRoom),
         }
         self.compare("enqueue_fds");
     }
@@ -243,7 +240,7 @@ impl Both {
             .rust
             .poll_for_reply_or_error(sequence)
             .map(|(packet, fds)| (packet, fds.into_iter().map(number).collect()));
-        same("poll_for_reply_or_error", ours, theirs);
+        same("poll_for_reply_or_error", "answer", ours, theirs);
         self.compare("poll_for_reply_or_error");
     }
 
@@ -251,13 +248,19 @@ impl Both {
         let prepared = self.engine.prepare_check_for_reply_or_error(sequence);
         same(
             "prepare_check_for_reply_or_error",
+            "answer",
             prepared.unwrap(),
             self.rust.prepare_check_for_reply_or_error(sequence),
         );
         self.compare("prepare_check_for_reply_or_error");
         let ours = self.engine.poll_check_for_reply_or_error(sequence).unwrap();
         let theirs = self.rust.poll_check_for_reply_or_error(sequence);
-        same("poll_check_for_reply_or_error", ours, poll_of(theirs));
+        same(
+            "poll_check_for_reply_or_error",
+            "answer",
+            ours,
+            poll_of(theirs),
+        );
         self.compare("poll_check_for_reply_or_error");
     }
 
@@ -265,6 +268,7 @@ impl Both {
         let ours = self.engine.poll_for_reply(sequence).unwrap();
         same(
             "poll_for_reply",
+            "answer",
             ours,
             poll_of(self.rust.poll_for_reply(sequence)),
         );
@@ -274,7 +278,7 @@ impl Both {
     pub fn poll_event(&mut self) {
         let ours = self.engine.poll_for_event_with_sequence().unwrap();
         let theirs = self.rust.poll_for_event_with_sequence();
-        same("poll_for_event_with_sequence", ours, theirs);
+        same("poll_for_event_with_sequence", "answer", ours, theirs);
         self.compare("poll_for_event_with_sequence");
     }
 
@@ -282,7 +286,7 @@ impl Both {
     pub fn finish(self) -> u64 {
         let inside = self.engine.inside().to_vec();
         connection::finish(self.rust);
-        same("drop: closed", inside, take_closed());
+        same("drop", "closed", inside, take_closed());
         self.calls
     }
 }
