@@ -2,3 +2,4 @@ pub mod State
 pub mod Exported
 pub mod Shown
 pub mod Looking
+pub mod Theorems

@@ -1,7 +1,6 @@
 -- `xiengmado::client::xm_connection_new` meets its contract. Assumes nothing.
-use Rattle.xiengmado.specs.Exported.{kept-off, kept-on, When}
+use Rattle.xiengmado.specs.Exported.{kept-off, kept-on, on, off}
 use borrow.Author.Tests.{eq-eqb, ne-eqb}
-use Rattle.xiengmado.specs.Exported.{on, off}
 use borrow.Author.Needs.{needs}
 use Rattle.xiengmado.proofs.client.xm_connection_new.Statement.{statement}
 use Rattle.xiengmado.proofs.client.xm_connection_new.Tie as tie

@@ -1,9 +1,7 @@
 -- `xiengmado::client::xm_discard_reply` meets its contract. Assumes nothing.
-use mathlib.Core.Path.{refl}
-use Rattle.xiengmado.specs.Exported.{kept-off, kept-on, When}
-use mathlib.Core.Path.{sym, _∙_}
+use mathlib.Core.Path.{refl, sym, _∙_}
+use Rattle.xiengmado.specs.Exported.{kept-off, kept-on, on, off}
 use borrow.Author.Tests.{not-true, not-false}
-use Rattle.xiengmado.specs.Exported.{on, off}
 use borrow.Author.Needs.{needs}
 use Rattle.xiengmado.proofs.client.xm_discard_reply.Statement.{statement}
 use Rattle.xiengmado.proofs.client.xm_discard_reply.Tie as tie

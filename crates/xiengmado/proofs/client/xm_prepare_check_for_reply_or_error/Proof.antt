@@ -3,9 +3,7 @@ use Rattle.model.specs.Says.{saysPrepared}
 use Rattle.xiengmado.specs.Exported.{exported-at}
 use mathlib.Core.Path.{refl}
 use borrow.Author.Needs.{needs}
-use Rattle.xiengmado.proofs.client.xm_prepare_check_for_reply_or_error.Statement.{
-  statement,
-}
+use Rattle.xiengmado.proofs.client.xm_prepare_check_for_reply_or_error.Statement.{statement}
 use Rattle.xiengmado.proofs.client.xm_prepare_check_for_reply_or_error.Tie as tie
 
 connection-requires : tie.Need-connection-requires

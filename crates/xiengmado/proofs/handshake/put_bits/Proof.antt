@@ -1,6 +1,4 @@
 -- `xiengmado::handshake::put_bits` meets its contract. Assumes nothing.
-use lib.ListN.{length-set}
-use native.Mathlib.Omega.{arith}
 use borrow.Author.Needs.{needs}
 use Rattle.xiengmado.proofs.handshake.put_bits.Statement.{statement}
 use Rattle.xiengmado.proofs.handshake.put_bits.Tie as tie

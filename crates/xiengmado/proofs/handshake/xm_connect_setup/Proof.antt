@@ -1,6 +1,5 @@
 -- `xiengmado::handshake::xm_connect_setup` meets its contract. Assumes nothing.
-use mathlib.Core.Path.{sym, ap, _∙_}
-use mathlib.Core.Path.{refl}
+use mathlib.Core.Path.{sym, ap, _∙_, refl}
 use Rattle.connect.specs.Setup.{saysSetup}
 use Rattle.xiengmado.specs.Exported.{kept-by}
 use Rattle.xiengmado.specs.Shown.{setup-short, setup-roomy, setup-refused}

@@ -2,7 +2,6 @@
 use Rattle.xiengmado.specs.State.{fits, fits-last}
 use borrow.Author.Tests.{eq-eqb, ne-eqb, lt-ltb, le-ltb}
 use Rattle.octets.specs.Logic.{both}
-use Rattle.xiengmado.specs.State.{fits, fits-last}
 use borrow.Author.Needs.{needs}
 use Rattle.xiengmado.proofs.state.fits.Statement.{statement}
 use Rattle.xiengmado.proofs.state.fits.Tie as tie
