@@ -11,11 +11,15 @@ run:
 test:
 	tests/run
 
-# The static library: target/staticlib/libxiengmado.a, for include/xiengmado.h and the Rust crate in rust/.
-library:
+# The static library, for include/xiengmado.h and the Rust crate in rust/.
+ARCHIVE = target/staticlib/libxiengmado.a
+
+library: $(ARCHIVE)
+
+$(ARCHIVE): $(wildcard crates/*/src/*.rt crates/*/specs/*.antt)
 	rt staticlib xiengmado
 
 # The engine beside the published Rust, call by call: RUST is the folder of its files (with connection/mod.rs in it),
 # ARGS are a seed and how many runs of each kind, or 'long'.
-beside: library
+beside: $(ARCHIVE)
 	cd rust && XIENGMADO_RUST="$(abspath $(RUST))" cargo run --offline --quiet --profile beside -p beside -- $(ARGS)

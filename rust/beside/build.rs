@@ -5,7 +5,8 @@ use std::env;
 fn main() {
     println!("cargo:rerun-if-env-changed=XIENGMADO_RUST");
     println!("cargo:rustc-check-cfg=cfg(published)");
-    if let Ok(folder) = env::var("XIENGMADO_RUST") {
+    let folder = env::var("XIENGMADO_RUST").unwrap_or_default();
+    if !folder.is_empty() {
         println!("cargo:rerun-if-changed={folder}");
         println!("cargo:rustc-env=XIENGMADO_RUST={folder}");
         println!("cargo:rustc-cfg=published");
