@@ -1,5 +1,5 @@
-# The two commands of the README, and the benchmark of docs/BENCH.md.
-.PHONY: run test bench
+# The commands of the README, and the benchmark of docs/BENCH.md.
+.PHONY: run test bench library beside
 
 # Prove the program `packets` and what it stands on, and run it on bytes that an X server sent.
 run:
@@ -19,3 +19,16 @@ bench:
 	objcopy --set-section-alignment '.text*=64' target/staticlib/libbench.a target/bench/libbench.a
 	gcc -O3 -std=c11 -Wall -Wextra -falign-functions=64 -o target/bench/rooms bench/rooms.c target/bench/libbench.a
 	target/bench/rooms
+
+# The static library, for include/xiengmado.h and the Rust crate in rust/.
+ARCHIVE = target/staticlib/libxiengmado.a
+
+library: $(ARCHIVE)
+
+$(ARCHIVE): $(wildcard crates/*/src/*.rt crates/*/specs/*.antt)
+	rt staticlib xiengmado
+
+# The engine beside the published Rust, call by call: RUST is the folder of its files (with connection/mod.rs in it),
+# ARGS are a seed and how many runs of each kind, or 'long'.
+beside: $(ARCHIVE)
+	cd rust && XIENGMADO_RUST="$(abspath $(RUST))" cargo run --offline --quiet --profile beside -p beside -- $(ARGS)

@@ -1,0 +1,61 @@
+-- What an export does: what the promise of the call below it says, answered by a number. Assumes nothing.
+use mathlib.Core.Path.{_≡_, refl, subst, sym}
+use mathlib.Core.Bool.{Bool, true, false}
+use mathlib.Core.List.{List}
+use Prim.Native.Nat.{ℕ}
+use Rattle.refusal.specs.Answer.{Answer, gives, refuses}
+
+-- the number that an export answers: 0, or that of the refusal
+abbrev pub codeOf : {A : Type 0} → Answer A → ℕ
+codeOf (gives x) = 0
+codeOf (refuses n) = n
+
+-- what is behind the lent numbers at exit: what is shown of the values given, and after a refusal what was there
+abbrev pub shownOf : {A : Type 0} → (A → List ℕ) → Answer A → List ℕ → List ℕ
+shownOf show (gives x) v = show x
+shownOf show (refuses n) v = v
+
+-- An export of a call with the promise P: it has an answer that P allows, returns its number, and shows its values.
+pub record Exported {A : Type 0} (P : Answer A → Type 0) (show : A → List ℕ) (v v' : List ℕ) (code : ℕ) : Type 0 where
+  pub answer : Answer A
+  pub promise : P answer
+  pub number : code ≡ codeOf answer
+  pub values : v' ≡ shownOf show answer v
+
+-- One that keeps a state in a row of numbers: a refusal leaves the row, otherwise the state handed back is put there.
+pub record Kept {A : Type 0} (P : Answer A → Type 0) (show : A → List ℕ) (put : A → List ℕ) (v v' s s' : List ℕ) (code : ℕ) : Type 0 where
+  pub exported : Exported P show v v' code
+  pub state : s' ≡ shownOf put (exported .answer) s
+
+-- The promise P where a test holds, and otherwise a refusal by 9 that leaves all as found.
+pub data When {A : Type 0} (b : Bool) (same : Type 0) (P : Answer A → Type 0) : Answer A → Type 0 where
+  on : {a : Answer A} → b ≡ true → P a → When b same P a
+  off : b ≡ false → same → When b same P (refuses 9)
+
+-- An export that goes by the case of an enum.
+pub exported-at : {E A : Type 0} {P : Answer A → Type 0} {show : A → List ℕ} {v v' : List ℕ} {code : ℕ} (says : E → Answer A) {e k : E} → e ≡ k → P (says e) → code ≡ codeOf (says k)
+    → v' ≡ shownOf show (says k) v → Exported P show v v' code
+exported-at {P = P} says {k = k} q p c s = record { answer = says k; promise = subst (λ (x : _). P (says x)) q p; number = c; values = s }
+
+pub kept-at : {E A : Type 0} {P : Answer A → Type 0} {show put : A → List ℕ} {v v' s s' : List ℕ} {code : ℕ} (says : E → Answer A) {e k : E} → e ≡ k → P (says e) → code ≡ codeOf (says k)
+    → v' ≡ shownOf show (says k) v → s' ≡ shownOf put (says k) s → Kept P show put v v' s s' code
+unfolding exported-at
+kept-at {P = P} says {k = k} q p c w t = record { exported = exported-at {P = P} says {k = k} q p c w; state = t }
+
+-- An export whose answer is known has the promise of that answer.
+pub kept-on : {A : Type 0} {P : Answer A → Type 0} {show put : A → List ℕ} {v v' s s' : List ℕ} {code : ℕ} {k : Answer A} → Kept (λ a. a ≡ k) show put v v' s s' code → P k
+    → Kept P show put v v' s s' code
+kept-on {P = P} x p =
+    record { exported = record { answer = x .exported .answer; promise = subst P (sym (x .exported .promise)) p; number = x .exported .number; values = x .exported .values }; state = x .state }
+
+-- An export that refuses by 9 before its call.
+pub kept-off : {A : Type 0} {P : Answer A → Type 0} {show put : A → List ℕ} {v s : List ℕ} → P (refuses 9) → Kept P show put v v s s 9
+kept-off p = record { exported = record { answer = refuses 9; promise = p; number = refl; values = refl }; state = refl }
+
+-- An export whose answer is given.
+pub kept-by : {A : Type 0} {P : Answer A → Type 0} {show put : A → List ℕ} {v v' s s' : List ℕ} {code : ℕ} (a : Answer A) → P a → code ≡ codeOf a → v' ≡ shownOf show a v → s' ≡ shownOf put a s
+    → Kept P show put v v' s s' code
+kept-by a p c w t = record { exported = record { answer = a; promise = p; number = c; values = w }; state = t }
+
+pub exported-by : {A : Type 0} {P : Answer A → Type 0} {show : A → List ℕ} {v v' : List ℕ} {code : ℕ} (a : Answer A) → P a → code ≡ codeOf a → v' ≡ shownOf show a v → Exported P show v v' code
+exported-by a p c w = record { answer = a; promise = p; number = c; values = w }

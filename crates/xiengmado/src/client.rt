@@ -1,0 +1,274 @@
+// `connection`: the public calls, over a state in sixteen lent numbers and the three rooms.
+ghost use mathlib.Core.Path.{_≡_};
+ghost use mathlib.Core.List.{[], _∷_};
+ghost use lib.Dec.{eqb, leb};
+ghost use lib.ListN.{length};
+ghost use Rattle.model.specs.Reading.{rooms};
+ghost use Rattle.connection.specs.Calls.{Opens, Sends, EnqueuesFds, Enqueues, Discards, Polls, Checks, PollsReply, PollsEvent, Closes, Prepares};
+ghost use Rattle.xiengmado.specs.Exported.{Exported, Kept, When};
+ghost use Rattle.xiengmado.specs.Shown.{nothing, stateRow, first, filing, polled, poll, event, flag, kindOf, modeOf, mostKind, isMode};
+ghost use Rattle.xiengmado.specs.State.{connectionSlots, connectionOf};
+use crate::BAD;
+use crate::DONE;
+use crate::answers::give_closed;
+use crate::answers::give_enqueued;
+use crate::answers::give_event;
+use crate::answers::give_next;
+use crate::answers::give_poll;
+use crate::answers::give_polled;
+use crate::answers::give_sent;
+use crate::bit;
+use crate::code;
+use crate::state;
+use model::DiscardMode;
+use model::Prepared;
+use model::ReplyFdKind;
+
+// The largest number that means a kind.
+const MOST_KIND: u8 = 2;
+
+// A fresh connection in these rooms.
+#[no_mangle]
+pub extern "C" fn xm_connection_new(
+    state: &mut [u64],
+    order: u8,
+    requests: &[u8],
+    store: &[u8],
+    slots: &[u32],
+) -> u32
+    ensures { λ r. ⌜ Kept (λ a. When (eqb (length (now (state .entry))) connectionSlots) Unit (Opens order (rooms (now (requests .entry)) (now (store .entry)) (now (slots .entry)))) a) nothing (stateRow (now (state .entry))) [] [] (now (state .entry)) (now (state .exit)) r ⌝ }
+{
+    if state.len() != state::CONNECTION {
+        return BAD;
+    }
+    let answer = connection::new(order, requests, store, slots);
+    give_next(answer, state)
+}
+
+// Kinds are 0 for a request without a reply, 1 for one with a reply, 2 for one whose reply has
+// descriptors; another is refused by 9.
+#[no_mangle]
+pub extern "C" fn xm_send_request(
+    state: &mut [u64],
+    requests: &mut [u8],
+    store: &[u8],
+    slots: &[u32],
+    kind: u8,
+    number: &mut u64,
+) -> u32
+    ensures { λ r. ⌜ Kept (λ a. When (leb kind mostKind) (now (requests .exit) ≡ now (requests .entry)) (λ b. Sends (connectionOf (now (state .entry))) (rooms (now (requests .entry)) (now (store .entry)) (now (slots .entry))) (kindOf kind) b (rooms (now (requests .exit)) (now (store .entry)) (now (slots .entry)))) a) first (stateRow (now (state .entry))) (now (number .entry) ∷ []) (now (number .exit) ∷ []) (now (state .entry)) (now (state .exit)) r ⌝ }
+{
+    if MOST_KIND < kind {
+        return BAD;
+    }
+    let now = state::connection(state);
+    let answer = connection::send_request(now, requests, store, slots, kind_of(kind));
+    give_sent(answer, state, number)
+}
+
+// Modes are 1 for DiscardReply and 2 for DiscardReplyAndError; another is refused by 9.
+#[no_mangle]
+pub extern "C" fn xm_discard_reply(
+    state: &mut [u64],
+    requests: &mut [u8],
+    store: &mut [u8],
+    slots: &mut [u32],
+    number: u64,
+    mode: u8,
+) -> u32
+    ensures { λ r. ⌜ Kept (λ a. When (isMode mode) ((rooms (now (requests .exit)) (now (store .exit)) (now (slots .exit))) ≡ (rooms (now (requests .entry)) (now (store .entry)) (now (slots .entry)))) (λ b. Discards (connectionOf (now (state .entry))) (rooms (now (requests .entry)) (now (store .entry)) (now (slots .entry))) number (modeOf mode) b (rooms (now (requests .exit)) (now (store .exit)) (now (slots .exit)))) a) nothing (stateRow (now (state .entry))) [] [] (now (state .entry)) (now (state .exit)) r ⌝ }
+{
+    if !is_mode(mode) {
+        return BAD;
+    }
+    let now = state::connection(state);
+    let answer = connection::discard_reply(now, requests, store, slots, number, mode_of(mode));
+    give_next(answer, state)
+}
+
+#[no_mangle]
+pub extern "C" fn xm_enqueue_fds(
+    state: &mut [u64],
+    requests: &[u8],
+    store: &[u8],
+    slots: &mut [u32],
+    list: &[u32],
+) -> u32
+    ensures { λ r. ⌜ Kept (λ a. EnqueuesFds (connectionOf (now (state .entry))) (rooms (now (requests .entry)) (now (store .entry)) (now (slots .entry))) (now (list .entry)) a (rooms (now (requests .entry)) (now (store .entry)) (now (slots .exit)))) nothing (stateRow (now (state .entry))) [] [] (now (state .entry)) (now (state .exit)) r ⌝ }
+{
+    let now = state::connection(state);
+    let answer = connection::enqueue_fds(now, requests, store, slots, list);
+    give_next(answer, state)
+}
+
+// Places are 0 for the replies, 1 for the events, 2 for a packet that was dropped.
+#[no_mangle]
+pub extern "C" fn xm_enqueue_packet(
+    state: &mut [u64],
+    requests: &[u8],
+    store: &mut [u8],
+    slots: &mut [u32],
+    packet: &[u8],
+    place: &mut u8,
+    number: &mut u64,
+) -> u32
+    ensures { λ r. ⌜ Kept (λ a. Enqueues (connectionOf (now (state .entry))) (rooms (now (requests .entry)) (now (store .entry)) (now (slots .entry))) (now (packet .entry)) a (rooms (now (requests .entry)) (now (store .exit)) (now (slots .exit)))) filing (stateRow (now (state .entry))) (now (place .entry) ∷ now (number .entry) ∷ []) (now (place .exit) ∷ now (number .exit) ∷ []) (now (state .entry)) (now (state .exit)) r ⌝ }
+{
+    let now = state::connection(state);
+    let answer = connection::enqueue_packet(now, requests, store, slots, packet);
+    give_enqueued(answer, state, place, number)
+}
+
+// Where nothing is found, found is 0 and so are size and count.
+#[no_mangle]
+pub extern "C" fn xm_poll_for_reply_or_error(
+    state: &mut [u64],
+    requests: &[u8],
+    store: &mut [u8],
+    slots: &mut [u32],
+    number: u64,
+    out: &mut [u8],
+    fds: &mut [u32],
+    found: &mut u8,
+    size: &mut usize,
+    count: &mut usize,
+) -> u32
+    ensures { λ r. ⌜ Kept (λ a. Polls (connectionOf (now (state .entry))) (rooms (now (requests .entry)) (now (store .entry)) (now (slots .entry))) number (now (out .entry)) (now (fds .entry)) a (rooms (now (requests .entry)) (now (store .exit)) (now (slots .exit))) (now (out .exit)) (now (fds .exit))) polled (stateRow (now (state .entry))) (now (found .entry) ∷ now (size .entry) ∷ now (count .entry) ∷ []) (now (found .exit) ∷ now (size .exit) ∷ now (count .exit) ∷ []) (now (state .entry)) (now (state .exit)) r ⌝ }
+{
+    let now = state::connection(state);
+    let answer = connection::poll_for_reply_or_error(now, requests, store, slots, number, out, fds);
+    give_polled(answer, state, found, size, count)
+}
+
+// Results are 0 for TryAgain, 1 for NoReply and 2 for a reply; size is 0 but for a reply.
+#[no_mangle]
+pub extern "C" fn xm_poll_check_for_reply_or_error(
+    state: &mut [u64],
+    requests: &[u8],
+    store: &mut [u8],
+    slots: &mut [u32],
+    number: u64,
+    out: &mut [u8],
+    result: &mut u8,
+    size: &mut usize,
+) -> u32
+    ensures { λ r. ⌜ Kept (λ a. Checks (connectionOf (now (state .entry))) (rooms (now (requests .entry)) (now (store .entry)) (now (slots .entry))) number (now (out .entry)) a (rooms (now (requests .entry)) (now (store .exit)) (now (slots .exit))) (now (out .exit))) poll (stateRow (now (state .entry))) (now (result .entry) ∷ now (size .entry) ∷ []) (now (result .exit) ∷ now (size .exit) ∷ []) (now (state .entry)) (now (state .exit)) r ⌝ }
+{
+    let now = state::connection(state);
+    let answer = connection::poll_check_for_reply_or_error(
+        now,
+        requests,
+        store,
+        slots,
+        number,
+        out,
+    );
+    give_poll(answer, state, result, size)
+}
+
+// Results as those of the call above.
+#[no_mangle]
+pub extern "C" fn xm_poll_for_reply(
+    state: &mut [u64],
+    requests: &[u8],
+    store: &mut [u8],
+    slots: &mut [u32],
+    number: u64,
+    out: &mut [u8],
+    result: &mut u8,
+    size: &mut usize,
+) -> u32
+    ensures { λ r. ⌜ Kept (λ a. PollsReply (connectionOf (now (state .entry))) (rooms (now (requests .entry)) (now (store .entry)) (now (slots .entry))) number (now (out .entry)) a (rooms (now (requests .entry)) (now (store .exit)) (now (slots .exit))) (now (out .exit))) poll (stateRow (now (state .entry))) (now (result .entry) ∷ now (size .entry) ∷ []) (now (result .exit) ∷ now (size .exit) ∷ []) (now (state .entry)) (now (state .exit)) r ⌝ }
+{
+    let now = state::connection(state);
+    let answer = connection::poll_for_reply(now, requests, store, slots, number, out);
+    give_poll(answer, state, result, size)
+}
+
+// Where nothing is found, found is 0 and so are number and size.
+#[no_mangle]
+pub extern "C" fn xm_poll_for_event_with_sequence(
+    state: &mut [u64],
+    requests: &[u8],
+    store: &mut [u8],
+    slots: &[u32],
+    out: &mut [u8],
+    found: &mut u8,
+    number: &mut u64,
+    size: &mut usize,
+) -> u32
+    ensures { λ r. ⌜ Kept (λ a. PollsEvent (connectionOf (now (state .entry))) (rooms (now (requests .entry)) (now (store .entry)) (now (slots .entry))) (now (out .entry)) a (rooms (now (requests .entry)) (now (store .exit)) (now (slots .entry))) (now (out .exit))) event (stateRow (now (state .entry))) (now (found .entry) ∷ now (number .entry) ∷ now (size .entry) ∷ []) (now (found .exit) ∷ now (number .exit) ∷ now (size .exit) ∷ []) (now (state .entry)) (now (state .exit)) r ⌝ }
+{
+    let now = state::connection(state);
+    let answer = connection::poll_for_event_with_sequence(now, requests, store, slots, out);
+    give_event(answer, state, found, number, size)
+}
+
+#[no_mangle]
+pub extern "C" fn xm_take_closed_fds(
+    state: &mut [u64],
+    requests: &[u8],
+    store: &[u8],
+    slots: &mut [u32],
+    out: &mut [u32],
+    count: &mut usize,
+) -> u32
+    ensures { λ r. ⌜ Kept (λ a. Closes (connectionOf (now (state .entry))) (rooms (now (requests .entry)) (now (store .entry)) (now (slots .entry))) (now (out .entry)) a (rooms (now (requests .entry)) (now (store .entry)) (now (slots .exit))) (now (out .exit))) first (stateRow (now (state .entry))) (now (count .entry) ∷ []) (now (count .exit) ∷ []) (now (state .entry)) (now (state .exit)) r ⌝ }
+{
+    let now = state::connection(state);
+    let answer = connection::take_closed_fds(now, requests, store, slots, out);
+    give_closed(answer, state, count)
+}
+
+// Sync is 1 where a sync must be sent, otherwise 0.
+#[no_mangle]
+pub extern "C" fn xm_prepare_check_for_reply_or_error(
+    state: &[u64],
+    requests: &[u8],
+    store: &[u8],
+    slots: &[u32],
+    number: u64,
+    sync: &mut u8,
+) -> u32
+    ensures { λ r. ⌜ Exported (λ a. Prepares (connectionOf (now (state .entry))) (rooms (now (requests .entry)) (now (store .entry)) (now (slots .entry))) number a) flag (now (sync .entry) ∷ []) (now (sync .exit) ∷ []) r ⌝ }
+{
+    let now = state::connection(state);
+    let answer = connection::prepare_check_for_reply_or_error(now, requests, store, slots, number);
+    match answer {
+        Prepared::Answer(needed) => {
+            *sync = bit(needed);
+            DONE
+        }
+        Prepared::Refused(refusal) => code(refusal),
+    }
+}
+
+fn kind_of(kind: u8) -> ReplyFdKind
+    ensures { λ r. ⌜ r ≡ kindOf kind ⌝ }
+{
+    if kind == 0 {
+        return ReplyFdKind::NoReply;
+    }
+    if kind == 1 {
+        return ReplyFdKind::ReplyWithoutFds;
+    }
+    ReplyFdKind::ReplyWithFds
+}
+
+fn is_mode(mode: u8) -> bool
+    ensures { λ r. ⌜ r ≡ isMode mode ⌝ }
+{
+    if mode == 1 {
+        return true;
+    }
+    mode == 2
+}
+
+fn mode_of(mode: u8) -> DiscardMode
+    ensures { λ r. ⌜ r ≡ modeOf mode ⌝ }
+{
+    if mode == 1 {
+        return DiscardMode::DiscardReply;
+    }
+    DiscardMode::DiscardReplyAndError
+}

@@ -1,0 +1,42 @@
+// The engine as a static library: each public call of each public crate, for C and whoever can call C.
+//
+// Every function is `xm_` and the name of the call below it. It answers 0, or the number of a refusal,
+// and then the state, every lent room and every number behind a pointer are as they were. State is a
+// row of 64-bit numbers that the caller lends and may have spoilt: numbers that are no state, or too
+// many or too few of them, are read as a state that is not sound, so the call refuses them by 9.
+// Values come back through pointers; a part of a buffer as its start and its size. What `kind` and
+// `mode` cannot mean is refused by 9 too. Nothing is decided here: a contract says that an export
+// does what the promise of the call below it says (`specs/Exported`).
+ghost use mathlib.Core.Path.{_≡_};
+ghost use mathlib.Core.Bool.{cond};
+ghost use Rattle.refusal.specs.Numbers.{numberOf};
+use refusal::Refusal;
+
+mod answers;
+mod client;
+mod handshake;
+mod ids;
+mod misc;
+mod numbers;
+mod packets;
+mod reader;
+mod rooms;
+mod state;
+
+// What an export answers where it refuses nothing, and where a value means nothing.
+pub(crate) const DONE: u32 = 0;
+
+pub(crate) const BAD: u32 = 9;
+
+// 1 for true.
+pub(crate) fn bit(b: bool) -> u8
+    ensures { λ r. ⌜ r ≡ cond b 1 0 ⌝ }
+{
+    if b { 1 } else { 0 }
+}
+
+pub(crate) fn code(refusal: Refusal) -> u32
+    ensures { λ r. ⌜ r ≡ numberOf refusal ⌝ }
+{
+    refusal.number() as u32
+}

@@ -1,0 +1,105 @@
+// `packet_reader`: the length of a packet, and a reader in three lent numbers beside its buffer.
+ghost use mathlib.Core.Path.{_≡_};
+ghost use mathlib.Core.List.{[], _∷_};
+ghost use lib.ListN.{length};
+ghost use Rattle.packet_reader.specs.Frame.{total};
+ghost use Rattle.packet_reader.specs.Reader.{made, capacity, advanced};
+ghost use Rattle.xiengmado.specs.Exported.{Exported, Kept};
+ghost use Rattle.xiengmado.specs.Shown.{nothing, number, roomed, packetLength, packetReader};
+ghost use Rattle.xiengmado.specs.State.{threeSlots, readerOf, readerRow};
+use crate::BAD;
+use crate::DONE;
+use crate::code;
+use crate::state;
+use packet_reader::Advanced;
+use packet_reader::Capacity;
+use packet_reader::Made;
+use packet_reader::PacketReader;
+
+#[no_mangle]
+pub extern "C" fn xm_packet_length(packet_code: u8, field: u32) -> usize
+    ensures { λ r. ⌜ r ≡ total «packet_code» field ⌝ }
+{
+    packet_reader::packet_length(packet_code, field)
+}
+
+#[no_mangle]
+pub extern "C" fn xm_reader_new(reader: &mut [u64], order: u8, buf: &[u8]) -> u32
+    ensures { λ r. ⌜ Kept (λ a. a ≡ roomed threeSlots (now (reader .entry)) (made order (length (now (buf .entry))))) nothing (readerRow (now (reader .entry))) [] [] (now (reader .entry)) (now (reader .exit)) r ⌝ }
+{
+    if reader.len() != state::THREE {
+        return BAD;
+    }
+    let answer = PacketReader::new(order, buf);
+    match answer {
+        Made::Reader(fresh) => {
+            state::put_reader(reader, fresh);
+            DONE
+        }
+        Made::Refused(refusal) => code(refusal),
+    }
+}
+
+#[no_mangle]
+pub extern "C" fn xm_reader_remaining_capacity(reader: &[u64], buf: &[u8], size: &mut usize) -> u32
+    ensures { λ r. ⌜ Exported (λ a. a ≡ capacity (readerOf (now (reader .entry))) (now (buf .entry))) number (now (size .entry) ∷ []) (now (size .exit) ∷ []) r ⌝ }
+{
+    let at = state::reader(reader);
+    let answer = at.remaining_capacity(buf);
+    match answer {
+        Capacity::Bytes(n) => {
+            *size = n;
+            DONE
+        }
+        Capacity::Refused(refusal) => code(refusal),
+    }
+}
+
+// The part that is to be filled next begins where the filled bytes end.
+#[no_mangle]
+pub extern "C" fn xm_reader_buffer(
+    reader: &[u64],
+    buf: &[u8],
+    start: &mut usize,
+    size: &mut usize,
+) -> u32
+    ensures { λ r. ⌜ Exported (λ a. a ≡ capacity (readerOf (now (reader .entry))) (now (buf .entry))) (λ n. readerOf (now (reader .entry)) .filled ∷ n ∷ []) (now (start .entry) ∷ now (size .entry) ∷ []) (now (start .exit) ∷ now (size .exit) ∷ []) r ⌝ }
+{
+    let at = state::reader(reader);
+    let answer = at.remaining_capacity(buf);
+    match answer {
+        Capacity::Bytes(n) => {
+            *start = at.filled;
+            *size = n;
+            DONE
+        }
+        Capacity::Refused(refusal) => code(refusal),
+    }
+}
+
+// A packet that isn't whole yet has the length 0.
+#[no_mangle]
+pub extern "C" fn xm_reader_advance(
+    reader: &mut [u64],
+    buf: &[u8],
+    amount: usize,
+    size: &mut usize,
+) -> u32
+    ensures { λ r. ⌜ Kept (λ a. a ≡ advanced (readerOf (now (reader .entry))) (now (buf .entry)) amount) packetLength (λ p. readerRow (now (reader .entry)) (packetReader p)) (now (size .entry) ∷ []) (now (size .exit) ∷ []) (now (reader .entry)) (now (reader .exit)) r ⌝ }
+{
+    let at = state::reader(reader);
+    let answer = at.advance(buf, amount);
+    match answer {
+        Advanced::NotYet(next) => {
+            state::put_reader(reader, next);
+            *size = 0;
+            DONE
+        }
+        Advanced::Packet(n, next) => {
+            state::put_reader(reader, next);
+            *size = n;
+            DONE
+        }
+        Advanced::Refused(refusal) => code(refusal),
+    }
+}

@@ -1,0 +1,372 @@
+/*
+ * Xiengmado: an X11 client engine whose every function is proved to meet its contract.
+ *
+ * The engine allocates nothing and makes no system call. The caller lends it state and rooms; each
+ * call answers 0, or the number of a refusal (enum xm_refusal), and then the state, every lent room
+ * and every number behind a pointer are as they were.
+ *
+ * Any bytes and any numbers may be handed in; only the lending itself is on trust: a pointer with
+ * the length n behind it must be valid for n elements (and not null, also where n is 0), what is not
+ * const must overlap nothing else that is lent, and nobody else may write meanwhile.
+ *
+ * A state is a row of 64-bit numbers: XM_CONNECTION_SLOTS of them for a connection, XM_SLOTS for a
+ * reader, a handshake and an allocator. It is copied, stored and compared like any numbers. Numbers
+ * that are no state, or a row of another length, are refused by XM_BAD_ROOM, as every unsound state
+ * is. The rooms of a connection are lent with each of its calls, always with the lengths that
+ * xm_connection_new was given.
+ */
+#ifndef XIENGMADO_H
+#define XIENGMADO_H
+
+#include <stdbool.h>
+#include <stddef.h>
+#include <stdint.h>
+
+#ifdef __cplusplus
+extern "C" {
+#endif
+
+/* What a call answers where it refuses; XM_DONE otherwise. */
+enum xm_refusal {
+    XM_DONE = 0,
+    XM_SHORT_PACKET = 1,    /* a packet under 32 bytes */
+    XM_LONG_PACKET = 2,     /* a packet over 65,536 bytes or its buffer, a setup over its buffer */
+    XM_NUMBER_END = 3,      /* a full number would pass 2^63 - 1 */
+    XM_FEW_DESCRIPTORS = 4, /* a reply claims more descriptors than wait */
+    XM_NO_ROOM = 5,         /* no room for a request, a packet or a descriptor */
+    XM_SYNC_FIRST = 6,      /* a request with a reply must be sent first */
+    XM_OVER_ADVANCE = 7,    /* more bytes claimed than remain */
+    XM_OUT_SHORT = 8,       /* the caller's output is too small */
+    XM_BAD_ROOM = 9,        /* a length out of range, an unsound state, a kind or mode of no meaning */
+    XM_ZERO_MASK = 10,      /* an id mask of 0 */
+    XM_IDS_EXHAUSTED = 11,  /* no id left */
+    XM_BAD_RANGE = 12,      /* a range whose last id is over 2^32 - 1 */
+    XM_BAD_ORDER = 13,      /* a byte order other than XM_LITTLE and XM_BIG */
+    XM_BAD_CONTENT = 14,    /* a wrong first byte, or inner lengths that pass the end */
+    XM_INCOMPLETE = 15,     /* a setup asked for too early */
+    XM_LONG_AUTH = 16       /* an authorization name or data over 65,535 bytes */
+};
+
+/* Byte orders. */
+enum { XM_LITTLE = 'l', XM_BIG = 'B' };
+
+/* How many numbers a state has. */
+enum { XM_CONNECTION_SLOTS = 16, XM_SLOTS = 3 };
+
+/* How long rooms may be. XM_DESCRIPTORS is the one length of the room for descriptors. */
+enum {
+    XM_LEAST_REQUESTS = 1,
+    XM_MOST_REQUESTS = 65536,
+    XM_LEAST_STORE = 48,
+    XM_MOST_STORE = 16777216,
+    XM_DESCRIPTORS = 256,
+    XM_LEAST_PACKET_BUFFER = 32,
+    XM_MOST_PACKET_BUFFER = 65536,
+    XM_LEAST_SETUP_BUFFER = 8,
+    XM_MOST_SETUP_BUFFER = 262148,
+    XM_MOST_PACKET = 65536
+};
+
+/* Where the numbers of a state stand: of a connection (the last four are 0), */
+enum {
+    XM_STATE_ORDER = 0,
+    XM_STATE_REQUESTS = 1, /* the length of the request room */
+    XM_STATE_STORE = 2,    /* the length of the packet store */
+    XM_STATE_WRITTEN = 3,  /* the last number written */
+    XM_STATE_EXPECTED = 4, /* the next reply expected */
+    XM_STATE_READ = 5,     /* the last number read */
+    XM_STATE_FIRST = 6,    /* the first outstanding number; written + 1 where none is */
+    XM_STATE_START = 7,    /* held records lie in the store from here .. */
+    XM_STATE_END = 8,      /* .. to here */
+    XM_STATE_CLOSED = 9,   /* descriptors to be closed: the first in their room, then .. */
+    XM_STATE_HELD = 10,    /* .. those held, reply by reply, then .. */
+    XM_STATE_WAITING = 11  /* .. those waiting */
+};
+
+/* of a reader and of a handshake, */
+enum { XM_READER_ORDER = 0, XM_READER_FILLED = 1, XM_READER_TARGET = 2 };
+
+/* and of an allocator. */
+enum { XM_IDS_NEXT = 0, XM_IDS_LAST = 1, XM_IDS_STEP = 2 };
+
+/* ---- sequence numbers ---- */
+
+/*
+ * The full number of a packet: the least one at or above the last read whose low 16 bits are wire.
+ * Refused by 3.
+ */
+uint32_t xm_full_number(uint64_t read, uint16_t wire, uint64_t *number);
+
+/*
+ * The number of the next request, and the next reply expected after it. Refused by 3, then by 6
+ * where the request has no reply and a request with one must come first.
+ */
+uint32_t xm_send(uint64_t written, uint64_t expected, bool reply, uint64_t *number, uint64_t *next);
+
+/* ---- packets ---- */
+
+/* The bytes of a packet that begins with code and has field at bytes 4 to 7. Never refused. */
+size_t xm_packet_length(uint8_t code, uint32_t field);
+
+/* Whether a packet's fields can be read. Refused by 1, 2, 13, and 14 where it does not begin with first. */
+uint32_t xm_check_packet(uint8_t order, const uint8_t *packet, size_t packet_len, uint8_t first);
+
+/* The fields of an error packet. Refused as by xm_check_packet with first 0. */
+uint32_t xm_error(uint8_t order, const uint8_t *packet, size_t packet_len, uint8_t *code,
+                  uint16_t *sequence, uint32_t *value, uint16_t *minor, uint8_t *major);
+
+/* ---- ids ---- */
+
+/* An allocator for the resource-id-base and resource-id-mask of a setup. Refused by 9 for a row of
+ * other than 3 numbers, then by 10. */
+uint32_t xm_ids_new(uint64_t *ids, size_t ids_len, uint32_t base, uint32_t mask);
+
+/* The next id. Refused by 9, 11. */
+uint32_t xm_ids_generate_id(uint64_t *ids, size_t ids_len, uint32_t *id);
+
+/* Go on with the start and the count of a GetXIDRange reply. Refused by 9, 11, 12. */
+uint32_t xm_ids_update_xid_range(uint64_t *ids, size_t ids_len, uint32_t start, uint32_t count);
+
+/* ---- XC-MISC: requests go to the start of out, size says how many bytes; opcode is the extension's ---- */
+
+/* Refused by 13, and 8 where out has under 8 bytes. */
+uint32_t xm_xc_misc_get_version_request(uint8_t order, uint8_t opcode, uint16_t major,
+                                        uint16_t minor, uint8_t *out, size_t out_len, size_t *size);
+
+/* Refused by 13, and 8 where out has under 4 bytes. */
+uint32_t xm_xc_misc_get_xid_range_request(uint8_t order, uint8_t opcode, uint8_t *out,
+                                          size_t out_len, size_t *size);
+
+/* Refused by 13, and 8 where out has under 8 bytes. */
+uint32_t xm_xc_misc_get_xid_list_request(uint8_t order, uint8_t opcode, uint32_t count,
+                                         uint8_t *out, size_t out_len, size_t *size);
+
+/* Replies are refused by 1, 2, 13, and 14 where the first byte isn't 1 or the length passes the end. */
+uint32_t xm_xc_misc_get_version_reply(uint8_t order, const uint8_t *packet, size_t packet_len,
+                                      uint16_t *sequence, uint32_t *length, uint16_t *major,
+                                      uint16_t *minor);
+
+uint32_t xm_xc_misc_get_xid_range_reply(uint8_t order, const uint8_t *packet, size_t packet_len,
+                                        uint16_t *sequence, uint32_t *length, uint32_t *start,
+                                        uint32_t *count);
+
+/* The ids go to the start of ids. Refused by 14 also where they pass the end, and last by 8. */
+uint32_t xm_xc_misc_get_xid_list_reply(uint8_t order, const uint8_t *packet, size_t packet_len,
+                                       uint32_t *ids, size_t ids_len, uint16_t *sequence,
+                                       uint32_t *length, uint32_t *count);
+
+/* ---- the packet reader ---- */
+
+/* A reader with nothing filled. Refused by 9 for a buffer out of range, then by 13. */
+uint32_t xm_reader_new(uint64_t *reader, size_t reader_len, uint8_t order, const uint8_t *buf,
+                       size_t buf_len);
+
+/* How many bytes the part has that is to be filled next. Refused by 9. */
+uint32_t xm_reader_remaining_capacity(const uint64_t *reader, size_t reader_len, const uint8_t *buf,
+                                      size_t buf_len, size_t *size);
+
+/* The part of buf that is to be filled next: where it starts and its size. Refused by 9. */
+uint32_t xm_reader_buffer(const uint64_t *reader, size_t reader_len, const uint8_t *buf,
+                          size_t buf_len, size_t *start, size_t *size);
+
+/*
+ * Counts amount bytes of that part as filled. A whole packet is the first size bytes of buf, and the
+ * reader begins anew; size is 0 where it isn't whole yet. Refused by 9, 7, and 2 where the packet is
+ * longer than the buffer.
+ */
+uint32_t xm_reader_advance(uint64_t *reader, size_t reader_len, const uint8_t *buf, size_t buf_len,
+                           size_t amount, size_t *size);
+
+/* ---- the handshake ---- */
+
+/*
+ * The request that opens a connection, with the authorization's protocol name and data (both of
+ * length 0 for none), to the start of out. Refused by 13, 16, and 8 where out is too small.
+ */
+uint32_t xm_setup_request(uint8_t order, const uint8_t *name, size_t name_len, const uint8_t *auth,
+                          size_t auth_len, uint8_t *out, size_t out_len, size_t *size);
+
+/* A handshake with nothing filled. Refused by 9 for a buffer out of range, then by 13. */
+uint32_t xm_connect_new(uint64_t *connect, size_t connect_len, uint8_t order, const uint8_t *buf,
+                        size_t buf_len);
+
+/* As the functions of the reader; the part is empty once the reply is complete. Refused by 9. */
+uint32_t xm_connect_remaining_capacity(const uint64_t *connect, size_t connect_len,
+                                       const uint8_t *buf, size_t buf_len, size_t *size);
+uint32_t xm_connect_buffer(const uint64_t *connect, size_t connect_len, const uint8_t *buf,
+                           size_t buf_len, size_t *start, size_t *size);
+
+/* Counts amount bytes as filled; complete is 1 once the whole reply is there. Refused by 9, 7, 2. */
+uint32_t xm_connect_advance(uint64_t *connect, size_t connect_len, const uint8_t *buf,
+                            size_t buf_len, size_t amount, uint8_t *complete);
+
+/* What a setup reply can be, */
+enum { XM_SETUP_FAILED = 0, XM_SETUP_SUCCESS = 1, XM_SETUP_AUTHENTICATE = 2 };
+
+/*
+ * and where its fields stand. A success has all of them; a failure has the first three and
+ * XM_SETUP_REASON, the length of its reason; further authentication has XM_SETUP_LENGTH alone.
+ */
+enum {
+    XM_SETUP_MAJOR = 0,
+    XM_SETUP_MINOR = 1,
+    XM_SETUP_LENGTH = 2, /* in units of four bytes behind the eighth */
+    XM_SETUP_RELEASE = 3,
+    XM_SETUP_REASON = 3,
+    XM_SETUP_BASE = 4,
+    XM_SETUP_MASK = 5,
+    XM_SETUP_MOTION = 6,
+    XM_SETUP_VENDOR = 7, /* the length of the vendor's text */
+    XM_SETUP_REQUEST = 8,
+    XM_SETUP_ROOTS = 9,
+    XM_SETUP_FORMATS = 10,
+    XM_SETUP_IMAGE = 11,
+    XM_SETUP_BITMAP = 12,
+    XM_SETUP_UNIT = 13,
+    XM_SETUP_PAD = 14,
+    XM_SETUP_FIRST = 15,
+    XM_SETUP_LAST = 16,
+    XM_SETUP_FIELDS = 17
+};
+
+/* What a complete reply says. Refused by 9, 15, 14, and 8 for under XM_SETUP_FIELDS fields. */
+uint32_t xm_connect_setup(const uint64_t *connect, size_t connect_len, const uint8_t *buf,
+                          size_t buf_len, uint8_t *status, uint32_t *fields, size_t fields_len);
+
+/*
+ * The vendor's text of a success, and the reason of any other reply: where the text starts in buf and
+ * its size; 0 and 0 where the reply has no such text. Refused by 9, 15, 14.
+ */
+uint32_t xm_connect_vendor(const uint64_t *connect, size_t connect_len, const uint8_t *buf,
+                           size_t buf_len, size_t *start, size_t *size);
+uint32_t xm_connect_reason(const uint64_t *connect, size_t connect_len, const uint8_t *buf,
+                           size_t buf_len, size_t *start, size_t *size);
+
+/* ---- the connection ---- */
+
+/* Kinds of a request. */
+enum { XM_NO_REPLY = 0, XM_REPLY_WITHOUT_FDS = 1, XM_REPLY_WITH_FDS = 2 };
+
+/* Modes of a request; xm_discard_reply takes the last two. */
+enum { XM_KEEP = 0, XM_DISCARD_REPLY = 1, XM_DISCARD_REPLY_AND_ERROR = 2 };
+
+/* Where a packet was filed. */
+enum { XM_REPLIES = 0, XM_EVENTS = 1, XM_DROPPED = 2 };
+
+/* The result of a poll. */
+enum { XM_TRY_AGAIN = 0, XM_NO_REPLY_COMES = 1, XM_REPLY = 2 };
+
+/*
+ * A fresh connection in these rooms. Refused by 9 for a state of other than 16 numbers, a room out of
+ * range or other than 256 slots, then by 13.
+ */
+uint32_t xm_connection_new(uint64_t *state, size_t state_len, uint8_t order,
+                           const uint8_t *requests, size_t requests_len, const uint8_t *store,
+                           size_t store_len, const uint32_t *slots, size_t slots_len);
+
+/*
+ * A request was written: its number. Refused by 9, 3 at the end of the numbers, 6 where a request with
+ * a reply must be sent first, 5 where the request room is full.
+ */
+uint32_t xm_send_request(uint64_t *state, size_t state_len, uint8_t *requests, size_t requests_len,
+                         const uint8_t *store, size_t store_len, const uint32_t *slots,
+                         size_t slots_len, uint8_t kind, uint64_t *number);
+
+/*
+ * The answers to a request are not wanted, neither those to come nor those held. Under
+ * XM_DISCARD_REPLY held errors become events. Refused by 9.
+ */
+uint32_t xm_discard_reply(uint64_t *state, size_t state_len, uint8_t *requests, size_t requests_len,
+                          uint8_t *store, size_t store_len, uint32_t *slots, size_t slots_len,
+                          uint64_t number, uint8_t mode);
+
+/* Descriptors came: they wait for the replies that they belong to. Refused by 9, 5. */
+uint32_t xm_enqueue_fds(uint64_t *state, size_t state_len, const uint8_t *requests,
+                        size_t requests_len, const uint8_t *store, size_t store_len,
+                        uint32_t *slots, size_t slots_len, const uint32_t *list, size_t list_len);
+
+/* A packet came: where it was filed, and under which number. Refused by 9, 1, 2, 3, 4, 5. */
+uint32_t xm_enqueue_packet(uint64_t *state, size_t state_len, const uint8_t *requests,
+                           size_t requests_len, uint8_t *store, size_t store_len, uint32_t *slots,
+                           size_t slots_len, const uint8_t *packet, size_t packet_len,
+                           uint8_t *place, uint64_t *number);
+
+/*
+ * The oldest reply or error of a request: found is 1, size bytes are at the start of out and count
+ * descriptors, the caller's from then on, at the start of fds. All three are 0 where none is held.
+ * Refused by 9, and 8 where out or fds is too small.
+ */
+uint32_t xm_poll_for_reply_or_error(uint64_t *state, size_t state_len, const uint8_t *requests,
+                                    size_t requests_len, uint8_t *store, size_t store_len,
+                                    uint32_t *slots, size_t slots_len, uint64_t number,
+                                    uint8_t *out, size_t out_len, uint32_t *fds, size_t fds_len,
+                                    uint8_t *found, size_t *size, size_t *count);
+
+/* Sync is 1 where a request with a reply must be sent before the next call can tell. Refused by 9. */
+uint32_t xm_prepare_check_for_reply_or_error(const uint64_t *state, size_t state_len,
+                                             const uint8_t *requests, size_t requests_len,
+                                             const uint8_t *store, size_t store_len,
+                                             const uint32_t *slots, size_t slots_len,
+                                             uint64_t number, uint8_t *sync);
+
+/*
+ * The oldest reply or error of a request; its descriptors are to be closed. XM_NO_REPLY_COMES only
+ * where a packet above the number was read. Refused by 9, and 8 where out is too small.
+ */
+uint32_t xm_poll_check_for_reply_or_error(uint64_t *state, size_t state_len,
+                                          const uint8_t *requests, size_t requests_len,
+                                          uint8_t *store, size_t store_len, uint32_t *slots,
+                                          size_t slots_len, uint64_t number, uint8_t *out,
+                                          size_t out_len, uint8_t *result, size_t *size);
+
+/*
+ * The oldest reply of a request; its descriptors are to be closed. An error becomes an event, and no
+ * reply comes. Refused by 9, and 8 where out is too small for a reply.
+ */
+uint32_t xm_poll_for_reply(uint64_t *state, size_t state_len, const uint8_t *requests,
+                           size_t requests_len, uint8_t *store, size_t store_len, uint32_t *slots,
+                           size_t slots_len, uint64_t number, uint8_t *out, size_t out_len,
+                           uint8_t *result, size_t *size);
+
+/*
+ * The oldest event: found is 1, and its number and bytes. All three are 0 where none is held.
+ * Refused by 9, and 8 where out is too small.
+ */
+uint32_t xm_poll_for_event_with_sequence(uint64_t *state, size_t state_len,
+                                         const uint8_t *requests, size_t requests_len,
+                                         uint8_t *store, size_t store_len, const uint32_t *slots,
+                                         size_t slots_len, uint8_t *out, size_t out_len,
+                                         uint8_t *found, uint64_t *number, size_t *size);
+
+/*
+ * The descriptors to be closed, whole and in their order, at the start of out. Refused by 9, and 8
+ * where out has too few places.
+ */
+uint32_t xm_take_closed_fds(uint64_t *state, size_t state_len, const uint8_t *requests,
+                            size_t requests_len, const uint8_t *store, size_t store_len,
+                            uint32_t *slots, size_t slots_len, uint32_t *out, size_t out_len,
+                            size_t *count);
+
+/* ---- what the rooms of a connection hold, for those who compare runs or look for a fault ---- */
+
+/*
+ * What is kept of the request of a number: 1 where its reply has descriptors, and its mode. It means
+ * something for outstanding numbers alone. Refused by 9 for a room out of range.
+ */
+uint32_t xm_request_at(const uint8_t *requests, size_t requests_len, uint64_t number,
+                       uint8_t *descriptors, uint8_t *mode);
+
+/*
+ * The record at an index of the packet store, the window ending at end: XM_REPLIES or XM_EVENTS, its
+ * number, the length of its packet and its descriptors. The first record stands at XM_STATE_START, its
+ * packet 16 bytes behind it, and the next record where the packet ends. Refused by 9 where no whole
+ * record stands there.
+ */
+uint32_t xm_record_at(const uint8_t *store, size_t store_len, size_t at, size_t end, uint8_t *kind,
+                      uint64_t *number, size_t *size, uint8_t *count);
+
+#ifdef __cplusplus
+}
+#endif
+
+#endif

@@ -1,0 +1,292 @@
+//! One connection on both sides.
+
+use std::cell::RefCell;
+use std::panic::{catch_unwind, AssertUnwindSafe};
+
+use xiengmado::engine::{Engine, Place};
+use xiengmado::{ByteOrder, Refusal};
+
+use crate::connection::{self, Connection, PollReply, ReplyFdKind};
+use crate::utils::{number, take_closed, RawFdContainer};
+use crate::DiscardMode;
+
+/// What the runs have met, so that one can see what was compared.
+#[derive(Default)]
+pub struct Met {
+    pub syncs: u64,
+    pub replies: u64,
+    pub events: u64,
+    pub dropped: u64,
+    pub closed: u64,
+    pub handed_out: u64,
+    pub panics: u64,
+    pub refused: u64,
+    pub most_held: usize,
+}
+
+thread_local! {
+    pub static MET: RefCell<Met> = RefCell::default();
+}
+
+fn met(change: impl FnOnce(&mut Met)) {
+    MET.with(|met| change(&mut met.borrow_mut()));
+}
+
+/// Whatever the runs so far have met.
+pub fn report() -> String {
+    MET.with(|met| {
+        let met = met.borrow();
+        format!(
+            "syncs asked for {}, packets filed with the replies {}, with the events {}, dropped {}, \
+             descriptors closed {}, handed out {}, panics met by 4 {}, calls outside the domain {}, \
+             most packets held {}",
+            met.syncs,
+            met.replies,
+            met.events,
+            met.dropped,
+            met.closed,
+            met.handed_out,
+            met.panics,
+            met.refused,
+            met.most_held,
+        )
+    })
+}
+
+/// The two sides of a run, and how many calls they have agreed on.
+pub struct Both {
+    pub engine: Engine,
+    pub rust: Connection,
+    pub calls: u64,
+}
+
+fn same<T: PartialEq + std::fmt::Debug>(call: &str, part: &str, ours: T, theirs: T) {
+    assert!(
+        ours == theirs,
+        "{call}: {part}\n  here: {ours:?}\n  Rust: {theirs:?}"
+    );
+}
+
+fn kind_of(kind: ReplyFdKind) -> xiengmado::connection::ReplyFdKind {
+    use xiengmado::connection::ReplyFdKind as Ours;
+    match kind {
+        ReplyFdKind::NoReply => Ours::NoReply,
+        ReplyFdKind::ReplyWithoutFDs => Ours::ReplyWithoutFDs,
+        ReplyFdKind::ReplyWithFDs => Ours::ReplyWithFDs,
+    }
+}
+
+fn mode_of(mode: DiscardMode) -> xiengmado::DiscardMode {
+    match mode {
+        DiscardMode::DiscardReply => xiengmado::DiscardMode::DiscardReply,
+        DiscardMode::DiscardReplyAndError => xiengmado::DiscardMode::DiscardReplyAndError,
+    }
+}
+
+fn poll_of(poll: PollReply) -> xiengmado::connection::PollReply {
+    use xiengmado::connection::PollReply as Ours;
+    match poll {
+        PollReply::TryAgain => Ours::TryAgain,
+        PollReply::NoReply => Ours::NoReply,
+        PollReply::Reply(packet) => Ours::Reply(packet),
+    }
+}
+
+impl Both {
+    /// A fresh connection with these rooms.
+    pub fn new(requests: usize, store: usize) -> Self {
+        let _ = take_closed();
+        Both {
+            engine: Engine::new(ByteOrder::Little, requests, store).unwrap(),
+            rust: Connection::new(),
+            calls: 0,
+        }
+    }
+
+    /// A connection after so many requests, all of them handled.
+    pub fn after(number: u64, requests: usize, store: usize) -> Self {
+        let mut both = Both::new(requests, store);
+        both.engine = Engine::after(ByteOrder::Little, requests, store, number).unwrap();
+        both.rust = connection::after(number);
+        both.compare("after");
+        both
+    }
+
+    /// Compares all that is closed since the last call, and the whole state.
+    pub fn compare(&mut self, what: &str) {
+        self.calls += 1;
+        self.compare_closed(what);
+        self.compare_state(what);
+    }
+
+    fn compare_closed(&mut self, what: &str) {
+        let ours = self.engine.take_closed_fds().unwrap();
+        met(|met| met.closed += ours.len() as u64);
+        same(what, "closed", ours, take_closed());
+    }
+
+    fn compare_state(&self, what: &str) {
+        let engine = &self.engine;
+        let numbers = (
+            engine.last_sequence_written(),
+            engine.next_reply_expected(),
+            engine.last_sequence_read(),
+        );
+        same(what, "numbers", numbers, connection::numbers(&self.rust));
+        let outstanding = connection::outstanding(&self.rust);
+        same(
+            what,
+            "outstanding",
+            engine.outstanding_len(),
+            outstanding.len(),
+        );
+        for (ours, theirs) in engine.outstanding().zip(outstanding) {
+            same(what, "request", ours, theirs);
+        }
+        let mut cost = 0;
+        for place in [Place::Replies, Place::Events] {
+            let ours: Vec<_> = engine
+                .records()
+                .filter(|record| record.place == place)
+                .map(|record| (record.number, record.packet, record.fds.to_vec()))
+                .collect();
+            let theirs = connection::held(&self.rust, place);
+            cost += theirs.iter().map(|held| 16 + held.1.len()).sum::<usize>();
+            met(|met| met.most_held = met.most_held.max(ours.len()));
+            same(what, "held", ours, theirs);
+        }
+        same(what, "used", engine.used(), cost);
+        let waiting: Vec<u32> = connection::waiting(&self.rust).collect();
+        same(what, "waiting", engine.waiting(), &waiting[..]);
+    }
+
+    /// A request; whether it was accepted. Only where there is room for it.
+    pub fn send(&mut self, kind: ReplyFdKind) -> bool {
+        let accepted = self.send_unseen(kind);
+        self.compare("send_request");
+        accepted
+    }
+
+    /// The same without a look at the state.
+    pub fn send_unseen(&mut self, kind: ReplyFdKind) -> bool {
+        let ours = match self.engine.send_request(kind_of(kind)) {
+            Ok(number) => Some(number),
+            Err(Refusal::SyncFirst) => {
+                met(|met| met.syncs += 1);
+                None
+            }
+            Err(Refusal::NoRoom) => {
+                met(|met| met.refused += 1);
+                return false;
+            }
+            Err(refusal) => panic!("send_request: {refusal}"),
+        };
+        same("send_request", "answer", ours, self.rust.send_request(kind));
+        self.calls += 1;
+        ours.is_some()
+    }
+
+    pub fn discard(&mut self, number: u64, mode: DiscardMode) {
+        self.engine.discard_reply(number, mode_of(mode)).unwrap();
+        self.rust.discard_reply(number, mode);
+        self.compare("discard_reply");
+    }
+
+    /// Descriptors, where there is room for them.
+    pub fn fds(&mut self, list: &[u32]) {
+        match self.engine.enqueue_fds(list) {
+            Ok(()) => self
+                .rust
+                .enqueue_fds(list.iter().map(|&fd| RawFdContainer(fd)).collect()),
+            Err(refusal) => same("enqueue_fds", "answer", refusal, Refusal::NoRoom),
+        }
+        self.compare("enqueue_fds");
+    }
+
+    /// A packet; false ends the run, since the Rust has panicked where the engine refused by 4.
+    pub fn packet(&mut self, packet: &[u8]) -> bool {
+        match self.engine.enqueue_packet(packet) {
+            Ok((place, _)) => {
+                met(|met| match place {
+                    Place::Replies => met.replies += 1,
+                    Place::Events => met.events += 1,
+                    Place::Dropped => met.dropped += 1,
+                });
+                self.rust.enqueue_packet(packet.to_vec());
+            }
+            Err(Refusal::NoRoom) => met(|met| met.refused += 1),
+            Err(Refusal::FewDescriptors) => {
+                self.compare("enqueue_packet, refused");
+                let rust = &mut self.rust;
+                let call = catch_unwind(AssertUnwindSafe(|| rust.enqueue_packet(packet.to_vec())));
+                met(|met| met.panics += 1);
+                assert!(
+                    call.is_err(),
+                    "enqueue_packet: refused by 4, the Rust takes it"
+                );
+                return false;
+            }
+            Err(refusal) => panic!("enqueue_packet: {refusal}"),
+        }
+        self.compare("enqueue_packet");
+        true
+    }
+
+    pub fn poll_reply_or_error(&mut self, sequence: u64) {
+        let ours = self.engine.poll_for_reply_or_error(sequence).unwrap();
+        let handed_out = ours.as_ref().map_or(0, |(_, fds)| fds.len());
+        met(|met| met.handed_out += handed_out as u64);
+        let theirs = self
+            .rust
+            .poll_for_reply_or_error(sequence)
+            .map(|(packet, fds)| (packet, fds.into_iter().map(number).collect()));
+        same("poll_for_reply_or_error", "answer", ours, theirs);
+        self.compare("poll_for_reply_or_error");
+    }
+
+    pub fn poll_check(&mut self, sequence: u64) {
+        let prepared = self.engine.prepare_check_for_reply_or_error(sequence);
+        same(
+            "prepare_check_for_reply_or_error",
+            "answer",
+            prepared.unwrap(),
+            self.rust.prepare_check_for_reply_or_error(sequence),
+        );
+        self.compare("prepare_check_for_reply_or_error");
+        let ours = self.engine.poll_check_for_reply_or_error(sequence).unwrap();
+        let theirs = self.rust.poll_check_for_reply_or_error(sequence);
+        same(
+            "poll_check_for_reply_or_error",
+            "answer",
+            ours,
+            poll_of(theirs),
+        );
+        self.compare("poll_check_for_reply_or_error");
+    }
+
+    pub fn poll_reply(&mut self, sequence: u64) {
+        let ours = self.engine.poll_for_reply(sequence).unwrap();
+        same(
+            "poll_for_reply",
+            "answer",
+            ours,
+            poll_of(self.rust.poll_for_reply(sequence)),
+        );
+        self.compare("poll_for_reply");
+    }
+
+    pub fn poll_event(&mut self) {
+        let ours = self.engine.poll_for_event_with_sequence().unwrap();
+        let theirs = self.rust.poll_for_event_with_sequence();
+        same("poll_for_event_with_sequence", "answer", ours, theirs);
+        self.compare("poll_for_event_with_sequence");
+    }
+
+    /// The end of a run: what is inside is closed in the same order.
+    pub fn finish(self) -> u64 {
+        let inside = self.engine.inside().to_vec();
+        connection::finish(self.rust);
+        same("drop", "closed", inside, take_closed());
+        self.calls
+    }
+}

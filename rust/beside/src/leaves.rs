@@ -1,0 +1,308 @@
+//! Readers, handshakes and allocators on both sides.
+
+use std::panic::{catch_unwind, AssertUnwindSafe};
+
+use xiengmado::{ByteOrder, Refusal};
+
+use crate::chance::Chance;
+use crate::client::Both;
+use crate::connection::ReplyFdKind;
+
+/// A packet as a server could send it, whole.
+fn whole(chance: &mut Chance) -> Vec<u8> {
+    let code = chance.pick(&[0, 1, 1, 2, 11, 35, 35, 128, 129, 163, 28]);
+    let units = chance.pick(&[0, 0, 1, 2, 7, 100]);
+    let long = code == 1 || code & 0x7f == 35;
+    let mut bytes = chance.bytes(if long { 32 + 4 * units } else { 32 });
+    bytes[0] = code;
+    if long {
+        bytes[4..8].copy_from_slice(&(units as u32).to_le_bytes());
+    }
+    bytes
+}
+
+/// A reader on both sides, fed the same pieces.
+struct Reader {
+    ours: xiengmado::packet_reader::PacketReader,
+    theirs: crate::packet_reader::PacketReader,
+    calls: u64,
+}
+
+impl Reader {
+    fn new(buffer: usize) -> Self {
+        Reader {
+            ours: xiengmado::packet_reader::PacketReader::with_buffer(ByteOrder::Little, buffer)
+                .unwrap(),
+            theirs: crate::packet_reader::PacketReader::new(),
+            calls: 0,
+        }
+    }
+
+    fn compare(&mut self) {
+        self.calls += 1;
+        let capacity = self.ours.remaining_capacity();
+        assert_eq!(capacity, self.theirs.remaining_capacity(), "capacity");
+        assert_eq!(self.ours.buffer().len(), capacity, "buffer");
+        let (read, _) = crate::packet_reader::view(&self.theirs);
+        assert_eq!(self.ours.filled(), read, "bytes read");
+    }
+
+    /// One piece; `Err` where the packet is longer than the buffer: there the run ends.
+    fn feed(&mut self, piece: &[u8]) -> Result<Option<Vec<u8>>, Refusal> {
+        self.ours.buffer()[..piece.len()].copy_from_slice(piece);
+        let ours = self.ours.try_advance(piece.len())?;
+        self.theirs.buffer()[..piece.len()].copy_from_slice(piece);
+        let theirs = self.theirs.advance(piece.len());
+        assert_eq!(ours, theirs, "advance");
+        self.compare();
+        Ok(ours)
+    }
+}
+
+/// How many bytes go in next: few, all that is wanted, or none.
+fn piece(chance: &mut Chance, wanted: usize, left: usize) -> usize {
+    let most = wanted.min(left) as u64;
+    match chance.below(4) {
+        0 => most as usize,
+        1 => chance.below(most + 1) as usize,
+        _ => chance.below(9).min(most) as usize,
+    }
+}
+
+/// Streams of packets, some of them damaged or cut, in odd pieces.
+pub fn readers(chance: &mut Chance) -> u64 {
+    let mut calls = 0;
+    for _ in 0..20 {
+        let mut reader = Reader::new(chance.pick(&[32, 40, 432, 65_536]));
+        let mut stream = Vec::new();
+        for _ in 0..30 {
+            stream.extend(whole(chance));
+        }
+        damage(chance, &mut stream);
+        let mut rest = &stream[..];
+        while !rest.is_empty() {
+            let n = piece(chance, reader.ours.remaining_capacity(), rest.len());
+            match reader.feed(&rest[..n]) {
+                Ok(_) => rest = &rest[n..],
+                Err(refusal) => {
+                    assert_eq!(refusal, Refusal::LongPacket);
+                    break;
+                }
+            }
+        }
+        calls += reader.calls;
+    }
+    calls
+}
+
+fn damage(chance: &mut Chance, stream: &mut Vec<u8>) {
+    if chance.once(2) {
+        for _ in 0..chance.below(6) {
+            let at = chance.below(stream.len() as u64) as usize;
+            stream[at] = chance.next() as u8;
+        }
+    }
+    if chance.once(3) {
+        let at = chance.below(stream.len() as u64) as usize;
+        stream.truncate(at);
+    }
+}
+
+/// Streams through both readers into both connections.
+pub fn streams(chance: &mut Chance) -> u64 {
+    let mut reader = Reader::new(65_536);
+    let mut both = Both::new(65_536, 1_000_000);
+    let mut next_fd = 0;
+    for _ in 0..200 {
+        for _ in 0..chance.below(4) {
+            both.send(chance.pick(&[
+                ReplyFdKind::NoReply,
+                ReplyFdKind::ReplyWithoutFDs,
+                ReplyFdKind::ReplyWithFDs,
+            ]));
+        }
+        let written = both.engine.last_sequence_written();
+        let read = both.engine.last_sequence_read();
+        let mut bytes = whole(chance);
+        let ahead = read + chance.below(written.saturating_sub(read) + 1);
+        bytes[1] = chance.below(3) as u8;
+        bytes[2..4].copy_from_slice(&(ahead as u16).to_le_bytes());
+        if chance.once(30) {
+            damage(chance, &mut bytes);
+        }
+        let mut rest = &bytes[..];
+        while !rest.is_empty() {
+            let n = piece(chance, reader.ours.remaining_capacity(), rest.len());
+            let Ok(packet) = reader.feed(&rest[..n]) else {
+                return reader.calls + both.calls;
+            };
+            rest = &rest[n..];
+            let Some(packet) = packet else { continue };
+            let list: Vec<u32> = (next_fd..next_fd + u32::from(packet[1]).min(3)).collect();
+            next_fd += 3;
+            both.fds(&list);
+            if packet.len() > 65_536 || !both.packet(&packet) {
+                return reader.calls + both.calls;
+            }
+        }
+        match chance.below(4) {
+            0 => both.poll_event(),
+            1 => both.poll_reply(ahead),
+            2 => both.poll_reply_or_error(ahead),
+            _ => both.poll_check(ahead),
+        }
+    }
+    reader.calls + both.finish()
+}
+
+/// Setup replies in odd pieces. Outside the domain: a zero length, and 0 bytes more at 8.
+pub fn handshakes(chance: &mut Chance) -> u64 {
+    let mut calls = 0;
+    for _ in 0..200 {
+        let most = chance.pick(&[4, 300, 65_535]);
+        let units = 1 + chance.below(most);
+        let mut reply = chance.bytes(8 + 4 * units as usize);
+        reply[6..8].copy_from_slice(&(units as u16).to_le_bytes());
+        let (mut ours, _) =
+            xiengmado::connect::Connect::with_buffer(ByteOrder::Little, b"", b"", 262_148).unwrap();
+        let (mut theirs, _) = crate::connect::Connect::with_authorization(Vec::new(), Vec::new());
+        if chance.once(3) {
+            reply.truncate(chance.below(reply.len() as u64) as usize);
+        }
+        let mut rest = &reply[..];
+        while !rest.is_empty() {
+            assert_eq!(ours.buffer().len(), theirs.buffer().len(), "buffer");
+            let n = if reply.len() > 2000 {
+                chance
+                    .below(5000)
+                    .min(ours.buffer().len().min(rest.len()) as u64) as usize
+            } else {
+                piece(chance, ours.buffer().len(), rest.len())
+            };
+            if n == 0 {
+                continue;
+            }
+            ours.buffer()[..n].copy_from_slice(&rest[..n]);
+            theirs.buffer()[..n].copy_from_slice(&rest[..n]);
+            rest = &rest[n..];
+            assert_eq!(ours.advance(n), theirs.advance(n), "advance");
+            let (read, wanted) = crate::connect::view(&theirs);
+            assert_eq!(ours.filled(), read, "bytes read");
+            assert_eq!(ours.filled().len() + ours.buffer().len(), wanted, "wanted");
+            calls += 1;
+        }
+        compare_setups(ours, theirs);
+        calls += 1;
+    }
+    calls
+}
+
+/// The published parsers aren't given: what is compared is when a setup is there to be read.
+fn compare_setups(ours: xiengmado::connect::Connect, theirs: crate::connect::Connect) {
+    use crate::errors::ConnectError as Theirs;
+    use xiengmado::errors::ConnectError as Ours;
+    match (ours.into_setup(), theirs.into_setup()) {
+        (
+            Err(Ours::Incomplete { expected, received }),
+            Err(Theirs::Incomplete {
+                expected: e,
+                received: r,
+            }),
+        ) => assert_eq!((expected, received), (e, r), "incomplete"),
+        (Err(Ours::Incomplete { .. }), other) | (_, other @ Err(Theirs::Incomplete { .. })) => {
+            panic!(
+                "into_setup: one side is incomplete, the Rust says {:?}",
+                other.err()
+            )
+        }
+        _ => {}
+    }
+}
+
+/// Allocators. A run ends where the Rust's numbers overflow.
+pub fn ids(chance: &mut Chance) -> u64 {
+    let mut calls = 0;
+    for _ in 0..200 {
+        let base = number(chance);
+        let mask = if chance.once(20) { 0 } else { number(chance) };
+        let ours = xiengmado::id_allocator::IdAllocator::new(base, mask);
+        let theirs = crate::id_allocator::IdAllocator::new(base, mask);
+        calls += 1;
+        assert_eq!(ours.is_ok(), theirs.is_ok(), "new {base} {mask}");
+        let (Ok(mut ours), Ok(mut theirs)) = (ours, theirs) else {
+            continue;
+        };
+        for _ in 0..chance.below(40) {
+            let ended = if chance.once(6) {
+                let (start, count) = (number(chance), number(chance));
+                range(&mut ours, &mut theirs, start, count)
+            } else {
+                generate(&mut ours, &mut theirs)
+            };
+            calls += 1;
+            if ended {
+                break;
+            }
+            assert_eq!(
+                ours.numbers(),
+                crate::id_allocator::view(&theirs),
+                "numbers"
+            );
+        }
+    }
+    calls
+}
+
+fn number(chance: &mut Chance) -> u32 {
+    match chance.below(5) {
+        0 => chance.below(6) as u32,
+        1 => u32::MAX - chance.below(6) as u32,
+        2 => 1 << chance.below(32),
+        3 => (chance.below(1 << 20) as u32) << chance.below(12),
+        _ => chance.next() as u32,
+    }
+}
+
+type Ours = xiengmado::id_allocator::IdAllocator;
+type Theirs = crate::id_allocator::IdAllocator;
+
+fn generate(ours: &mut Ours, theirs: &mut Theirs) -> bool {
+    match catch_unwind(AssertUnwindSafe(|| theirs.generate_id())) {
+        Ok(id) => {
+            assert_eq!(ours.generate_id(), id, "generate_id");
+            false
+        }
+        Err(_) => true,
+    }
+}
+
+fn range(ours: &mut Ours, theirs: &mut Theirs, start: u32, count: u32) -> bool {
+    let reply = crate::protocol::xc_misc::GetXIDRangeReply {
+        start_id: start,
+        count,
+    };
+    let ask = xiengmado::protocol::xc_misc::GetXIDRangeReply {
+        start_id: start,
+        count,
+        ..Default::default()
+    };
+    let answer = ours.try_update_xid_range(&ask);
+    match catch_unwind(AssertUnwindSafe(|| theirs.update_xid_range(&reply))) {
+        Ok(there) => {
+            assert_eq!(
+                answer.is_ok(),
+                there.is_ok(),
+                "update_xid_range {start} {count}"
+            );
+            false
+        }
+        Err(_) => {
+            assert_eq!(
+                answer,
+                Err(Refusal::BadRange),
+                "update_xid_range {start} {count}"
+            );
+            true
+        }
+    }
+}

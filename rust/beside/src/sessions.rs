@@ -1,0 +1,322 @@
+//! Whole runs, by kind. Each answers how many calls were compared.
+
+use crate::chance::Chance;
+use crate::client::Both;
+use crate::connection::ReplyFdKind;
+use crate::leaves;
+use crate::DiscardMode;
+
+type Kind = fn(&mut Chance) -> u64;
+
+pub const KINDS: [(&str, Kind); 9] = [
+    ("mixed", mixed),
+    ("descriptors", descriptors),
+    ("same number", same_number),
+    ("wraps", wraps),
+    ("sync bursts", sync_bursts),
+    ("streams", leaves::streams),
+    ("readers", leaves::readers),
+    ("handshakes", leaves::handshakes),
+    ("ids", leaves::ids),
+];
+
+/// What a run is made of: one chance in so many for each call.
+struct Weights {
+    send: u64,
+    fds: u64,
+    packet: u64,
+    discard: u64,
+    poll: u64,
+    event: u64,
+}
+
+const MIXED: Weights = Weights {
+    send: 6,
+    fds: 1,
+    packet: 8,
+    discard: 2,
+    poll: 6,
+    event: 3,
+};
+
+fn kind(chance: &mut Chance) -> ReplyFdKind {
+    chance.pick(&[
+        ReplyFdKind::NoReply,
+        ReplyFdKind::NoReply,
+        ReplyFdKind::ReplyWithoutFDs,
+        ReplyFdKind::ReplyWithFDs,
+    ])
+}
+
+fn mode(chance: &mut Chance) -> DiscardMode {
+    chance.pick(&[DiscardMode::DiscardReply, DiscardMode::DiscardReplyAndError])
+}
+
+/// A number that says something about this connection: outstanding, held, at an edge, or any.
+fn number(both: &Both, chance: &mut Chance) -> u64 {
+    let engine = &both.engine;
+    let written = engine.last_sequence_written();
+    let read = engine.last_sequence_read();
+    match chance.below(8) {
+        0 => read,
+        1 => written + chance.below(3),
+        2 => (written + 1).saturating_sub(chance.below(engine.outstanding_len() as u64 + 2)),
+        3 | 4 => {
+            let count = engine.records().count() as u64;
+            let at = chance.below(count + 1) as usize;
+            engine.records().nth(at).map_or(read + 1, |r| r.number)
+        }
+        5 => chance.next(),
+        6 => chance.below(written + 2),
+        _ => read.saturating_sub(chance.below(4)),
+    }
+}
+
+/// A packet: mostly of a number that the server could send, at times of any.
+fn packet(both: &Both, chance: &mut Chance) -> Vec<u8> {
+    let code = match chance.below(10) {
+        0..=3 => 1,
+        4 | 5 => 0,
+        6 => chance.pick(&[11, 35, 129, 128, 139, 163]),
+        _ => chance.next() as u8,
+    };
+    let size = match chance.below(12) {
+        0 => 32 + chance.below(200) as usize,
+        1 => 36,
+        _ => 32,
+    };
+    let mut bytes = chance.bytes(size);
+    bytes[0] = code;
+    bytes[1] = match chance.below(6) {
+        0 => chance.next() as u8,
+        _ => chance.below(4) as u8,
+    };
+    let engine = &both.engine;
+    let (written, read) = (engine.last_sequence_written(), engine.last_sequence_read());
+    let full = match chance.below(16) {
+        0 => chance.next(),
+        1 => written + 1 + chance.below(3),
+        2..=6 => read,
+        _ => {
+            read + chance
+                .below(written.saturating_sub(read) + 1)
+                .min(chance.below(6))
+        }
+    };
+    bytes[2..4].copy_from_slice(&(full as u16).to_le_bytes());
+    bytes
+}
+
+/// One call of either side; false ends the run.
+fn step(both: &mut Both, chance: &mut Chance, w: &Weights, next_fd: &mut u32) -> bool {
+    let all = [w.send, w.fds, w.packet, w.discard, w.poll, w.event];
+    let mut at = chance.below(all.iter().sum());
+    let call = all.iter().position(|&weight| {
+        let here = at < weight;
+        at = at.wrapping_sub(weight);
+        here
+    });
+    match call.unwrap() {
+        0 => {
+            both.send(kind(chance));
+        }
+        1 => {
+            let count = if chance.once(20) {
+                chance.below(300)
+            } else {
+                chance.below(5)
+            } as u32;
+            let list: Vec<u32> = (*next_fd..*next_fd + count).collect();
+            *next_fd += count;
+            both.fds(&list);
+        }
+        2 => {
+            let bytes = packet(both, chance);
+            return both.packet(&bytes);
+        }
+        3 => {
+            let number = number(both, chance);
+            both.discard(number, mode(chance));
+        }
+        4 => {
+            let number = number(both, chance);
+            match chance.below(3) {
+                0 => both.poll_reply_or_error(number),
+                1 => both.poll_check(number),
+                _ => both.poll_reply(number),
+            }
+        }
+        _ => both.poll_event(),
+    }
+    true
+}
+
+fn run(mut both: Both, chance: &mut Chance, weights: &Weights, steps: u64) -> u64 {
+    let mut next_fd = 1000;
+    for _ in 0..steps {
+        if !step(&mut both, chance, weights, &mut next_fd) {
+            return both.calls;
+        }
+    }
+    both.finish()
+}
+
+fn rooms(chance: &mut Chance) -> (usize, usize) {
+    (
+        chance.pick(&[1, 7, 64, 65_536]),
+        chance.pick(&[48, 96, 500, 4096, 100_000]),
+    )
+}
+
+fn mixed(chance: &mut Chance) -> u64 {
+    let (requests, store) = rooms(chance);
+    run(Both::new(requests, store), chance, &MIXED, 4000)
+}
+
+/// Many descriptors, and many ways in which they are closed.
+fn descriptors(chance: &mut Chance) -> u64 {
+    let mut both = Both::new(512, 100_000);
+    let mut next_fd = 0;
+    let mut calls = 0;
+    for _ in 0..300 {
+        let requests = 1 + chance.below(6);
+        for _ in 0..requests {
+            both.send(ReplyFdKind::ReplyWithFDs);
+        }
+        let last = both.engine.last_sequence_written();
+        for n in last + 1 - requests..=last {
+            if chance.once(8) {
+                both.discard(n, mode(chance));
+            }
+            for _ in 0..1 + chance.below(3) {
+                let count = chance.below(5) as u32;
+                let list: Vec<u32> = (next_fd..next_fd + count).collect();
+                next_fd += count;
+                both.fds(&list);
+                let mut bytes = chance.bytes(32);
+                bytes[0] = chance.pick(&[1, 1, 1, 0]);
+                bytes[1] = chance.below(u64::from(count) + 2) as u8;
+                bytes[2..4].copy_from_slice(&(n as u16).to_le_bytes());
+                if !both.packet(&bytes) {
+                    calls += both.calls;
+                    drop(both);
+                    both = Both::new(512, 100_000);
+                    break;
+                }
+            }
+        }
+        for _ in 0..chance.below(8) {
+            let number = number(&both, chance);
+            match chance.below(5) {
+                0 => both.discard(number, DiscardMode::DiscardReply),
+                1 => both.discard(number, DiscardMode::DiscardReplyAndError),
+                2 => both.poll_reply(number),
+                3 => both.poll_check(number),
+                _ => both.poll_reply_or_error(number),
+            }
+        }
+    }
+    calls + both.finish()
+}
+
+/// Several replies and errors of one number, with others before and behind, then discarded.
+fn same_number(chance: &mut Chance) -> u64 {
+    let mut calls = 0;
+    for _ in 0..60 {
+        let mut both = Both::new(64, 100_000);
+        let mut next_fd = 0;
+        for _ in 0..6 {
+            both.send(ReplyFdKind::ReplyWithFDs);
+        }
+        for n in 1..=6u16 {
+            for _ in 0..chance.below(6) {
+                let count = chance.below(3) as u32;
+                let list: Vec<u32> = (next_fd..next_fd + count).collect();
+                next_fd += count;
+                both.fds(&list);
+                let mut bytes = chance.bytes(32);
+                bytes[0] = chance.pick(&[1, 1, 1, 0]);
+                bytes[1] = if bytes[0] == 1 { count as u8 } else { 3 };
+                bytes[2..4].copy_from_slice(&n.to_le_bytes());
+                assert!(both.packet(&bytes));
+            }
+        }
+        for _ in 0..6 {
+            let n = 1 + chance.below(6);
+            match chance.below(4) {
+                0 => both.discard(n, DiscardMode::DiscardReply),
+                1 | 2 => both.discard(n, DiscardMode::DiscardReplyAndError),
+                _ => both.poll_reply(n),
+            }
+        }
+        calls += both.finish();
+    }
+    calls
+}
+
+/// Runs that start shortly before the numbers' low 16 bits, or their low 32, are all ones.
+fn wraps(chance: &mut Chance) -> u64 {
+    let edge = chance.pick(&[
+        1 << 16,
+        1 << 17,
+        1 << 32,
+        1 << 33,
+        (1 << 32) + (1 << 16),
+        1 << 62,
+    ]);
+    let start = edge - 1 - chance.below(40);
+    let both = Both::after(start, chance.pick(&[8, 256, 65_536]), 100_000);
+    run(both, chance, &MIXED, 2000)
+}
+
+/// Requests without a reply up to the sync, some replies, and on past several wraps.
+fn sync_bursts(chance: &mut Chance) -> u64 {
+    let mut both = Both::new(65_536, 4096);
+    for _ in 0..4 {
+        let burst = chance.pick(&[1000, 20_000, 65_530, 65_533, 65_534, 65_535, 65_600]);
+        let mut sent = 0;
+        while sent < burst && both.send_unseen(ReplyFdKind::NoReply) {
+            sent += 1;
+        }
+        both.compare("after a burst");
+        both.send(ReplyFdKind::ReplyWithoutFDs);
+        both.send(ReplyFdKind::NoReply);
+        let written = both.engine.last_sequence_written();
+        let answered = match chance.below(3) {
+            0 => written - chance.below(3).min(written),
+            1 => both.engine.last_sequence_read() + chance.below(65_536),
+            _ => written - chance.below(2000).min(written),
+        };
+        let mut bytes = chance.bytes(32);
+        bytes[0] = chance.pick(&[0, 1, 28]);
+        bytes[2..4].copy_from_slice(&(answered as u16).to_le_bytes());
+        both.packet(&bytes);
+        both.poll_check(written);
+        both.poll_event();
+        both.poll_reply(both.engine.last_sequence_read());
+    }
+    both.finish()
+}
+
+/// More than 2^32 requests from a fresh connection, in bulk; the state is compared now and then.
+pub fn long() {
+    let mut chance = Chance::new(1, "long", 0);
+    let mut both = Both::new(65_536, 4096);
+    let end = (1 << 32) + 200_000;
+    while both.engine.last_sequence_written() < end {
+        for _ in 0..chance.pick(&[3, 15, 15, 15, 40]) {
+            both.send_unseen(ReplyFdKind::NoReply);
+        }
+        both.send_unseen(ReplyFdKind::ReplyWithoutFDs);
+        let written = both.engine.last_sequence_written();
+        let mut bytes = [0; 32];
+        bytes[0] = 1;
+        bytes[2..4].copy_from_slice(&(written as u16).to_le_bytes());
+        both.packet(&bytes);
+        both.poll_reply_or_error(written);
+        if written % (1 << 28) < 60 {
+            println!("beside long: {written} requests, no difference");
+        }
+    }
+    println!("beside long: {} calls compared, no difference", both.calls);
+}

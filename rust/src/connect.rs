@@ -1,0 +1,223 @@
+//! The handshake that opens a connection.
+
+use crate::errors::{ConnectError, ParseError, Refusal};
+use crate::protocol::xproto::{Setup, SetupAuthenticate, SetupFailed};
+use crate::{ffi, ByteOrder};
+
+/// The buffer that `Connect::with_authorization` takes: as large as it may be.
+const BUFFER: usize = 262_148;
+
+/// A handshake: the server's reply as far as it has come.
+///
+/// Authority data is not looked for: its owner hands name and data in.
+#[derive(Debug, Clone)]
+pub struct Connect {
+    state: [u64; ffi::SLOTS],
+    buffer: Box<[u8]>,
+}
+
+impl Connect {
+    /// A handshake, and the request to send. Panics for a name or data over 65,535 bytes.
+    pub fn with_authorization(protocol_name: Vec<u8>, protocol_data: Vec<u8>) -> (Self, Vec<u8>) {
+        Self::with_buffer(ByteOrder::NATIVE, &protocol_name, &protocol_data, BUFFER)
+            .unwrap_or_else(|refusal| panic!("with_authorization: {refusal}"))
+    }
+
+    /// The same for a reply of up to so many bytes (8 to 262,148). Refused by 9, 16.
+    pub fn with_buffer(
+        order: ByteOrder,
+        protocol_name: &[u8],
+        protocol_data: &[u8],
+        size: usize,
+    ) -> Result<(Self, Vec<u8>), Refusal> {
+        let mut connect = Connect {
+            state: [0; ffi::SLOTS],
+            buffer: vec![0; size].into(),
+        };
+        ffi::connect_new(&mut connect.state, order.byte(), &connect.buffer)?;
+        let mut request = vec![0; 18 + protocol_name.len() + protocol_data.len()];
+        let size = ffi::setup_request(order.byte(), protocol_name, protocol_data, &mut request)?;
+        request.truncate(size);
+        Ok((connect, request))
+    }
+
+    /// The part that is to be filled with bytes of the server; empty once the reply is complete.
+    pub fn buffer(&mut self) -> &mut [u8] {
+        let (start, size) =
+            ffi::connect_buffer(&self.state, &self.buffer).expect("the handshake is whole");
+        &mut self.buffer[start..start + size]
+    }
+
+    /// How many bytes that part has.
+    pub fn remaining_capacity(&self) -> usize {
+        ffi::connect_remaining_capacity(&self.state, &self.buffer).expect("the handshake is whole")
+    }
+
+    /// The bytes that were filled so far.
+    pub fn filled(&self) -> &[u8] {
+        &self.buffer[..self.state[1] as usize]
+    }
+
+    /// So many bytes of the part were filled. Says whether the reply is complete; panics for more
+    /// bytes than the part has, and for a reply that is longer than the buffer.
+    pub fn advance(&mut self, bytes: usize) -> bool {
+        self.try_advance(bytes)
+            .unwrap_or_else(|refusal| panic!("advance: {refusal}"))
+    }
+
+    /// The same. Refused by 7, 2.
+    pub fn try_advance(&mut self, bytes: usize) -> Result<bool, Refusal> {
+        let complete = ffi::connect_advance(&mut self.state, &self.buffer, bytes)?;
+        Ok(complete != 0)
+    }
+
+    /// The setup of a complete reply.
+    pub fn into_setup(self) -> Result<Setup, ConnectError> {
+        let mut fields = [0; ffi::SETUP_FIELDS];
+        let status = match ffi::connect_setup(&self.state, &self.buffer, &mut fields) {
+            Ok(status) => status,
+            Err(Refusal::Incomplete) => {
+                return Err(ConnectError::Incomplete {
+                    expected: self.state[2] as usize,
+                    received: self.state[1] as usize,
+                })
+            }
+            Err(refusal) => return Err(ParseError(refusal).into()),
+        };
+        match status {
+            0 => Err(ConnectError::SetupFailed(SetupFailed {
+                status,
+                protocol_major_version: fields[0] as u16,
+                protocol_minor_version: fields[1] as u16,
+                length: fields[2] as u16,
+                reason: self.reason(),
+            })),
+            1 => Ok(self.success(&fields)),
+            _ => Err(ConnectError::SetupAuthenticate(SetupAuthenticate {
+                status,
+                reason: self.reason(),
+            })),
+        }
+    }
+
+    fn success(&self, fields: &[u32; ffi::SETUP_FIELDS]) -> Setup {
+        Setup {
+            status: 1,
+            protocol_major_version: fields[0] as u16,
+            protocol_minor_version: fields[1] as u16,
+            length: fields[2] as u16,
+            release_number: fields[3],
+            resource_id_base: fields[4],
+            resource_id_mask: fields[5],
+            motion_buffer_size: fields[6],
+            maximum_request_length: fields[8] as u16,
+            image_byte_order: fields[11] as u8,
+            bitmap_format_bit_order: fields[12] as u8,
+            bitmap_format_scanline_unit: fields[13] as u8,
+            bitmap_format_scanline_pad: fields[14] as u8,
+            min_keycode: fields[15] as u8,
+            max_keycode: fields[16] as u8,
+            vendor: self.vendor(),
+            pixmap_formats_len: fields[10] as u8,
+            roots_len: fields[9] as u8,
+        }
+    }
+
+    fn vendor(&self) -> Vec<u8> {
+        let place = ffi::connect_vendor(&self.state, &self.buffer);
+        self.text(place)
+    }
+
+    fn reason(&self) -> Vec<u8> {
+        let place = ffi::connect_reason(&self.state, &self.buffer);
+        self.text(place)
+    }
+
+    fn text(&self, place: Result<(usize, usize), Refusal>) -> Vec<u8> {
+        let (start, size) = place.expect("the setup was read");
+        self.buffer[start..start + size].to_vec()
+    }
+}
+
+impl TryFrom<Connect> for Setup {
+    type Error = ConnectError;
+
+    fn try_from(connect: Connect) -> Result<Self, Self::Error> {
+        connect.into_setup()
+    }
+}
+
+#[cfg(test)]
+mod test {
+    use super::*;
+
+    fn feed(reply: &[u8]) -> Connect {
+        let (mut connect, _) = Connect::with_authorization(Vec::new(), Vec::new());
+        let mut rest = reply;
+        while !rest.is_empty() {
+            let wanted = connect.remaining_capacity();
+            let part = connect.buffer();
+            assert_eq!(part.len(), wanted);
+            let n = part.len().min(rest.len()).min(3);
+            part[..n].copy_from_slice(&rest[..n]);
+            rest = &rest[n..];
+            let complete = connect.advance(n);
+            assert!(!complete || rest.is_empty());
+        }
+        connect
+    }
+
+    fn reply(status: u8, detail: u8, units: u16) -> Vec<u8> {
+        let mut bytes = vec![0; 8 + 4 * usize::from(units)];
+        bytes[0] = status;
+        bytes[1] = detail;
+        bytes[2..4].copy_from_slice(&11u16.to_ne_bytes());
+        bytes[6..8].copy_from_slice(&units.to_ne_bytes());
+        bytes
+    }
+
+    #[test]
+    fn the_request() {
+        let (_, request) = Connect::with_authorization(b"NAME1".to_vec(), b"data".to_vec());
+        assert_eq!(request.len(), 12 + 8 + 4);
+        assert_eq!(&request[12..], b"NAME1\0\0\0data");
+        let long = vec![0; 65_536];
+        let refused = Connect::with_buffer(ByteOrder::Big, &long, &[], 8);
+        assert_eq!(refused.err(), Some(Refusal::LongAuth));
+    }
+
+    #[test]
+    fn success() {
+        let mut bytes = reply(1, 0, 10);
+        bytes[12..16].copy_from_slice(&0x200000u32.to_ne_bytes());
+        bytes[24..26].copy_from_slice(&5u16.to_ne_bytes());
+        bytes[40..45].copy_from_slice(b"Maker");
+        let setup = feed(&bytes).into_setup().unwrap();
+        assert_eq!(setup.protocol_major_version, 11);
+        assert_eq!(setup.resource_id_base, 0x200000);
+        assert_eq!(setup.vendor, b"Maker");
+    }
+
+    #[test]
+    fn failures() {
+        let mut bytes = reply(0, 4, 1);
+        bytes[8..].copy_from_slice(b"away");
+        match feed(&bytes).into_setup() {
+            Err(ConnectError::SetupFailed(failed)) => assert_eq!(failed.reason, b"away"),
+            other => panic!("{other:?}"),
+        }
+        bytes[0] = 2;
+        match feed(&bytes).into_setup() {
+            Err(ConnectError::SetupAuthenticate(more)) => assert_eq!(more.reason, b"away"),
+            other => panic!("{other:?}"),
+        }
+        bytes[0] = 3;
+        let refused = ConnectError::ParseError(ParseError(Refusal::BadContent));
+        assert_eq!(feed(&bytes).into_setup(), Err(refused));
+        let incomplete = ConnectError::Incomplete {
+            expected: 12,
+            received: 9,
+        };
+        assert_eq!(feed(&bytes[..9]).into_setup(), Err(incomplete));
+    }
+}

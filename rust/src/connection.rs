@@ -1,0 +1,321 @@
+//! A connection to an X server, without the socket.
+
+use std::mem::forget;
+
+use crate::engine::{Engine, Place};
+use crate::errors::Refusal;
+use crate::ffi;
+use crate::{ByteOrder, DiscardMode, RawFdContainer, SequenceNumber};
+
+/// A combination of a buffer and a list of file descriptors.
+pub type BufWithFds = crate::BufWithFds<Vec<u8>>;
+
+/// The raw bytes of an X11 event and its sequence number.
+pub type RawEventAndSeqNumber = crate::RawEventAndSeqNumber<Vec<u8>>;
+
+/// Whether a request has a reply, and whether the reply has descriptors.
+#[derive(Debug, Copy, Clone, PartialEq, Eq)]
+pub enum ReplyFdKind {
+    /// No reply.
+    NoReply,
+    /// A reply without descriptors.
+    ReplyWithoutFDs,
+    /// A reply with descriptors.
+    ReplyWithFDs,
+}
+
+/// The result of polling for a reply.
+#[derive(Debug, Clone, PartialEq, Eq)]
+pub enum PollReply {
+    /// It is not clear yet; try again later.
+    TryAgain,
+    /// There will be no reply.
+    NoReply,
+    /// Here it is.
+    Reply(Vec<u8>),
+}
+
+/// The rooms that `Connection::new` takes: both as large as they may be.
+const REQUESTS: usize = 65_536;
+const STORE: usize = 16_777_216;
+
+/// A client's side of the X11 protocol: it keeps what was sent and what came, and does no I/O.
+///
+/// Descriptors that the connection is not asked for again are closed at once, in the calls that have
+/// the original's names; the `try_` calls leave them for [`Connection::take_closed_fds`].
+#[derive(Debug)]
+pub struct Connection {
+    engine: Engine,
+}
+
+impl Default for Connection {
+    fn default() -> Self {
+        Self::new()
+    }
+}
+
+impl Connection {
+    /// A connection that was just established, with the largest rooms and this machine's byte order.
+    pub fn new() -> Self {
+        Self::with_rooms(ByteOrder::NATIVE, REQUESTS, STORE).expect("the rooms are in range")
+    }
+
+    /// The same with room for so many outstanding requests (1 to 65,536) and so many bytes of held
+    /// packets (48 to 16,777,216; a packet takes 16 and its length). Refused by 9.
+    pub fn with_rooms(order: ByteOrder, requests: usize, store: usize) -> Result<Self, Refusal> {
+        let engine = Engine::new(order, requests, store)?;
+        Ok(Connection { engine })
+    }
+
+    /// The engine below, to look at.
+    pub fn engine(&self) -> &Engine {
+        &self.engine
+    }
+
+    /// Send a request. `None` says that a sync is necessary before; panics where the requests' room
+    /// is full.
+    pub fn send_request(&mut self, kind: ReplyFdKind) -> Option<SequenceNumber> {
+        match self.try_send_request(kind) {
+            Ok(number) => Some(number),
+            Err(Refusal::SyncFirst) => None,
+            Err(refusal) => panic!("send_request: {refusal}"),
+        }
+    }
+
+    /// The same. Refused by 3, 6, 5.
+    pub fn try_send_request(&mut self, kind: ReplyFdKind) -> Result<SequenceNumber, Refusal> {
+        self.engine.send_request(kind)
+    }
+
+    /// Ignore the reply of a request that was sent before.
+    pub fn discard_reply(&mut self, seqno: SequenceNumber, mode: DiscardMode) {
+        self.try_discard_reply(seqno, mode)
+            .unwrap_or_else(|refusal| panic!("discard_reply: {refusal}"));
+        self.close();
+    }
+
+    /// The same. Never refused while the connection is whole.
+    pub fn try_discard_reply(
+        &mut self,
+        seqno: SequenceNumber,
+        mode: DiscardMode,
+    ) -> Result<(), Refusal> {
+        self.engine.discard_reply(seqno, mode)
+    }
+
+    /// Descriptors were received, before the packets that they belong to. Panics where over 256 would
+    /// be inside.
+    pub fn enqueue_fds(&mut self, fds: Vec<RawFdContainer>) {
+        if let Err((refusal, _)) = self.try_enqueue_fds(fds) {
+            panic!("enqueue_fds: {refusal}");
+        }
+    }
+
+    /// The same; a refusal, by 5, hands the descriptors back.
+    pub fn try_enqueue_fds(
+        &mut self,
+        fds: Vec<RawFdContainer>,
+    ) -> Result<(), (Refusal, Vec<RawFdContainer>)> {
+        let numbers: Vec<u32> = fds.iter().map(ffi::number).collect();
+        match self.engine.enqueue_fds(&numbers) {
+            Ok(()) => {
+                fds.into_iter().for_each(forget);
+                Ok(())
+            }
+            Err(refusal) => Err((refusal, fds)),
+        }
+    }
+
+    /// A packet was received. Panics where it is no packet, claims more descriptors than wait or
+    /// finds no room.
+    pub fn enqueue_packet(&mut self, packet: Vec<u8>) {
+        if let Err(refusal) = self.try_enqueue_packet(&packet) {
+            panic!("enqueue_packet: {refusal}");
+        }
+        self.close();
+    }
+
+    /// The same: where it was filed, and under which number. Refused by 1, 2, 3, 4, 5.
+    pub fn try_enqueue_packet(
+        &mut self,
+        packet: &[u8],
+    ) -> Result<(Place, SequenceNumber), Refusal> {
+        self.engine.enqueue_packet(packet)
+    }
+
+    /// The oldest answer to a request that has a reply.
+    pub fn poll_for_reply_or_error(&mut self, sequence: SequenceNumber) -> Option<BufWithFds> {
+        let (packet, fds) = whole(self.engine.poll_for_reply_or_error(sequence))?;
+        Some((packet, fds.into_iter().map(ffi::from_number).collect()))
+    }
+
+    /// Whether a sync is necessary before `poll_check_for_reply_or_error` can tell.
+    pub fn prepare_check_for_reply_or_error(&mut self, sequence: SequenceNumber) -> bool {
+        whole(self.engine.prepare_check_for_reply_or_error(sequence))
+    }
+
+    /// Whether the server has handled a request, with or without a reply.
+    pub fn poll_check_for_reply_or_error(&mut self, sequence: SequenceNumber) -> PollReply {
+        let answer = whole(self.engine.poll_check_for_reply_or_error(sequence));
+        self.close();
+        answer
+    }
+
+    /// The reply of a request; an error becomes an event.
+    pub fn poll_for_reply(&mut self, sequence: SequenceNumber) -> PollReply {
+        let answer = whole(self.engine.poll_for_reply(sequence));
+        self.close();
+        answer
+    }
+
+    /// The oldest event.
+    pub fn poll_for_event_with_sequence(&mut self) -> Option<RawEventAndSeqNumber> {
+        whole(self.engine.poll_for_event_with_sequence())
+    }
+
+    /// The descriptors that are to be closed, in their order.
+    pub fn take_closed_fds(&mut self) -> Vec<RawFdContainer> {
+        let closed = whole(self.engine.take_closed_fds());
+        closed.into_iter().map(ffi::from_number).collect()
+    }
+
+    fn close(&mut self) {
+        if !self.engine.closing().is_empty() {
+            drop(self.take_closed_fds());
+        }
+    }
+}
+
+/// What the engine refuses by 9 or 8 alone, which its owner never meets: the rooms are those of the
+/// start, nobody else writes them, and the outputs take the largest packet and all descriptors.
+fn whole<T>(answer: Result<T, Refusal>) -> T {
+    answer.unwrap_or_else(|refusal| panic!("the connection is not whole: {refusal}"))
+}
+
+impl Drop for Connection {
+    fn drop(&mut self) {
+        for &number in self.engine.inside() {
+            drop(ffi::from_number(number));
+        }
+    }
+}
+
+#[cfg(test)]
+mod test {
+    use super::*;
+    use std::fs::File;
+    use std::io::Read;
+    use std::os::unix::net::UnixStream;
+
+    fn packet(kind: u8, detail: u8, number: u16) -> Vec<u8> {
+        let mut bytes = vec![0; 32];
+        bytes[0] = kind;
+        bytes[1] = detail;
+        bytes[2..4].copy_from_slice(&number.to_ne_bytes());
+        bytes
+    }
+
+    #[test]
+    fn request_reply_event() {
+        let mut c = Connection::new();
+        assert_eq!(c.send_request(ReplyFdKind::NoReply), Some(1));
+        assert_eq!(c.send_request(ReplyFdKind::ReplyWithoutFDs), Some(2));
+        assert!(!c.prepare_check_for_reply_or_error(1));
+        assert!(c.prepare_check_for_reply_or_error(3));
+        assert_eq!(c.poll_check_for_reply_or_error(1), PollReply::TryAgain);
+        c.enqueue_packet(packet(1, 0, 2));
+        c.enqueue_packet(packet(28, 0, 2));
+        assert_eq!(c.poll_check_for_reply_or_error(1), PollReply::NoReply);
+        assert_eq!(c.poll_for_reply(2), PollReply::Reply(packet(1, 0, 2)));
+        assert_eq!(
+            c.poll_for_event_with_sequence(),
+            Some((packet(28, 0, 2), 2))
+        );
+        assert_eq!(c.poll_for_event_with_sequence(), None);
+    }
+
+    #[test]
+    fn a_sync_comes_first() {
+        let mut c = Connection::new();
+        for _ in 0..65_534 {
+            assert!(c.send_request(ReplyFdKind::NoReply).is_some());
+        }
+        assert_eq!(c.send_request(ReplyFdKind::NoReply), None);
+        assert_eq!(c.send_request(ReplyFdKind::ReplyWithoutFDs), Some(65_535));
+        assert_eq!(c.send_request(ReplyFdKind::NoReply), Some(65_536));
+        assert_eq!(
+            c.try_send_request(ReplyFdKind::NoReply),
+            Err(Refusal::NoRoom)
+        );
+    }
+
+    #[test]
+    fn an_error_becomes_an_event() {
+        let mut c = Connection::new();
+        c.send_request(ReplyFdKind::ReplyWithoutFDs);
+        c.enqueue_packet(packet(0, 3, 1));
+        assert_eq!(c.poll_for_reply(1), PollReply::NoReply);
+        assert_eq!(c.poll_for_event_with_sequence(), Some((packet(0, 3, 1), 1)));
+    }
+
+    #[test]
+    fn refusals_change_nothing() {
+        let mut c = Connection::with_rooms(ByteOrder::Little, 1, 48).unwrap();
+        assert_eq!(c.try_enqueue_packet(&[0; 31]), Err(Refusal::ShortPacket));
+        assert_eq!(c.try_enqueue_packet(&[28; 32]), Ok((Place::Events, 0x1c1c)));
+        assert_eq!(c.try_enqueue_packet(&[28; 32]), Err(Refusal::NoRoom));
+        assert_eq!(c.engine().records().count(), 1);
+        assert_eq!(c.engine().used(), 48);
+        assert!(Connection::with_rooms(ByteOrder::Big, 0, 48).is_err());
+        assert!(Connection::with_rooms(ByteOrder::Big, 1, 47).is_err());
+    }
+
+    // The other end of each stream reads the end of the file once the descriptor is closed.
+    fn pair() -> (RawFdContainer, UnixStream) {
+        let (a, b) = UnixStream::pair().unwrap();
+        b.set_nonblocking(true).unwrap();
+        (a.into(), b)
+    }
+
+    fn is_closed(mut end: &UnixStream) -> bool {
+        matches!(end.read(&mut [0]), Ok(0))
+    }
+
+    #[test]
+    fn descriptors_are_handed_out_or_closed() {
+        let mut c = Connection::new();
+        let (fds, ends): (Vec<_>, Vec<_>) = (0..4).map(|_| pair()).unzip();
+        for _ in 0..3 {
+            c.send_request(ReplyFdKind::ReplyWithFDs);
+        }
+        c.enqueue_fds(fds);
+        c.enqueue_packet(packet(1, 1, 1));
+        c.enqueue_packet(packet(1, 1, 2));
+        c.enqueue_packet(packet(1, 1, 3));
+        let (_, mut handed) = c.poll_for_reply_or_error(1).unwrap();
+        assert_eq!(handed.len(), 1);
+        let file = File::from(handed.pop().unwrap());
+        assert!(!is_closed(&ends[0]));
+        drop(file);
+        assert!(is_closed(&ends[0]));
+        assert!(matches!(c.poll_for_reply(2), PollReply::Reply(_)));
+        assert!(is_closed(&ends[1]));
+        c.try_discard_reply(3, DiscardMode::DiscardReplyAndError)
+            .unwrap();
+        assert!(!is_closed(&ends[2]));
+        assert_eq!(c.take_closed_fds().len(), 1);
+        assert!(is_closed(&ends[2]));
+        assert!(!is_closed(&ends[3]));
+        drop(c);
+        assert!(is_closed(&ends[3]));
+    }
+
+    #[test]
+    fn descriptors_without_room_come_back() {
+        let mut c = Connection::new();
+        let (fds, ends): (Vec<_>, Vec<_>) = (0..257).map(|_| pair()).unzip();
+        let (refusal, fds) = c.try_enqueue_fds(fds).unwrap_err();
+        assert_eq!((refusal, fds.len()), (Refusal::NoRoom, 257));
+        assert!(!is_closed(&ends[256]));
+    }
+}

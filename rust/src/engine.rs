@@ -1,0 +1,291 @@
+//! The engine as it is: every call answers its refusal, descriptors are opaque numbers, and
+//! everything that is held can be looked at.
+
+use crate::connection::{PollReply, ReplyFdKind};
+use crate::errors::Refusal;
+use crate::ffi::{self, Rooms};
+use crate::{ByteOrder, DiscardMode, SequenceNumber};
+
+/// The most bytes of a packet.
+const MOST_PACKET: usize = 65_536;
+
+/// The bytes of a record in front of its packet.
+const HEADER: usize = 16;
+
+/// A packet and its descriptors.
+pub type PacketWithFds = (Vec<u8>, Vec<u32>);
+
+/// Where a packet was filed.
+#[derive(Debug, Clone, Copy, PartialEq, Eq)]
+pub enum Place {
+    /// With the replies.
+    Replies,
+    /// With the events.
+    Events,
+    /// It was dropped, as its request asked.
+    Dropped,
+}
+
+/// An outstanding request.
+#[derive(Debug, Clone, Copy, PartialEq, Eq)]
+pub struct Request {
+    /// Its number.
+    pub number: SequenceNumber,
+    /// Whether its reply has descriptors.
+    pub has_fds: bool,
+    /// What is to happen to its answers.
+    pub discard_mode: Option<DiscardMode>,
+}
+
+/// A held packet.
+#[derive(Debug, Clone, Copy, PartialEq, Eq)]
+pub struct Record<'a> {
+    /// Whether it is with the replies or with the events.
+    pub place: Place,
+    /// The number that it was filed under.
+    pub number: SequenceNumber,
+    /// Its bytes.
+    pub packet: &'a [u8],
+    /// A reply's descriptors.
+    pub fds: &'a [u32],
+}
+
+/// A connection's state and its rooms.
+#[derive(Debug, Clone)]
+pub struct Engine {
+    state: [u64; ffi::CONNECTION_SLOTS],
+    rooms: Rooms,
+    out: Box<[u8]>,
+    fds: Box<[u32]>,
+}
+
+impl Engine {
+    /// A fresh connection with room for so many outstanding requests (1 to 65,536) and a packet store
+    /// of so many bytes (48 to 16,777,216), of which a held packet takes 16 and its length. Refused
+    /// by 9.
+    pub fn new(order: ByteOrder, requests: usize, store: usize) -> Result<Self, Refusal> {
+        let mut engine = Engine {
+            state: [0; ffi::CONNECTION_SLOTS],
+            rooms: Rooms {
+                requests: vec![0; requests].into(),
+                store: vec![0; store].into(),
+                slots: vec![0; ffi::DESCRIPTORS].into(),
+            },
+            out: vec![0; MOST_PACKET].into(),
+            fds: vec![0; ffi::DESCRIPTORS].into(),
+        };
+        ffi::connection_new(&mut engine.state, order.byte(), &engine.rooms)?;
+        Ok(engine)
+    }
+
+    /// A connection after so many requests, of which the last had a reply that came and was taken:
+    /// where runs begin that look at large numbers. Refused by 9.
+    pub fn after(
+        order: ByteOrder,
+        requests: usize,
+        store: usize,
+        number: SequenceNumber,
+    ) -> Result<Self, Refusal> {
+        let mut engine = Engine::new(order, requests, store)?;
+        engine.state[3..7].fill(number);
+        engine.prepare_check_for_reply_or_error(number)?;
+        Ok(engine)
+    }
+
+    /// A request was written: its number. Refused by 3, 6, 5.
+    pub fn send_request(&mut self, kind: ReplyFdKind) -> Result<SequenceNumber, Refusal> {
+        let kind = match kind {
+            ReplyFdKind::NoReply => 0,
+            ReplyFdKind::ReplyWithoutFDs => 1,
+            ReplyFdKind::ReplyWithFDs => 2,
+        };
+        ffi::send_request(&mut self.state, &mut self.rooms, kind)
+    }
+
+    /// The answers to a request are not wanted.
+    pub fn discard_reply(
+        &mut self,
+        number: SequenceNumber,
+        mode: DiscardMode,
+    ) -> Result<(), Refusal> {
+        let mode = match mode {
+            DiscardMode::DiscardReply => 1,
+            DiscardMode::DiscardReplyAndError => 2,
+        };
+        ffi::discard_reply(&mut self.state, &mut self.rooms, number, mode)
+    }
+
+    /// Descriptors came: they wait for the replies that they belong to. Refused by 5.
+    pub fn enqueue_fds(&mut self, fds: &[u32]) -> Result<(), Refusal> {
+        ffi::enqueue_fds(&mut self.state, &mut self.rooms, fds)
+    }
+
+    /// A packet came: where it was filed, and under which number. Refused by 1, 2, 3, 4, 5.
+    pub fn enqueue_packet(&mut self, packet: &[u8]) -> Result<(Place, SequenceNumber), Refusal> {
+        let (place, number) = ffi::enqueue_packet(&mut self.state, &mut self.rooms, packet)?;
+        let place = match place {
+            0 => Place::Replies,
+            1 => Place::Events,
+            _ => Place::Dropped,
+        };
+        Ok((place, number))
+    }
+
+    /// The oldest reply or error of a request, with its descriptors.
+    pub fn poll_for_reply_or_error(
+        &mut self,
+        number: SequenceNumber,
+    ) -> Result<Option<PacketWithFds>, Refusal> {
+        let (found, size, count) = ffi::poll_for_reply_or_error(
+            &mut self.state,
+            &mut self.rooms,
+            number,
+            &mut self.out,
+            &mut self.fds,
+        )?;
+        if found == 0 {
+            return Ok(None);
+        }
+        Ok(Some((
+            self.out[..size].to_vec(),
+            self.fds[..count].to_vec(),
+        )))
+    }
+
+    /// Whether a sync must be sent before `poll_check_for_reply_or_error` can tell.
+    pub fn prepare_check_for_reply_or_error(
+        &self,
+        number: SequenceNumber,
+    ) -> Result<bool, Refusal> {
+        let sync = ffi::prepare_check_for_reply_or_error(&self.state, &self.rooms, number)?;
+        Ok(sync != 0)
+    }
+
+    /// The oldest reply or error of a request; its descriptors are to be closed.
+    pub fn poll_check_for_reply_or_error(
+        &mut self,
+        number: SequenceNumber,
+    ) -> Result<PollReply, Refusal> {
+        let answer = ffi::poll_check_for_reply_or_error(
+            &mut self.state,
+            &mut self.rooms,
+            number,
+            &mut self.out,
+        )?;
+        Ok(self.polled(answer))
+    }
+
+    /// The oldest reply of a request; its descriptors are to be closed. An error becomes an event.
+    pub fn poll_for_reply(&mut self, number: SequenceNumber) -> Result<PollReply, Refusal> {
+        let answer = ffi::poll_for_reply(&mut self.state, &mut self.rooms, number, &mut self.out)?;
+        Ok(self.polled(answer))
+    }
+
+    fn polled(&self, (result, size): (u8, usize)) -> PollReply {
+        match result {
+            0 => PollReply::TryAgain,
+            1 => PollReply::NoReply,
+            _ => PollReply::Reply(self.out[..size].to_vec()),
+        }
+    }
+
+    /// The oldest event, with its number.
+    pub fn poll_for_event_with_sequence(
+        &mut self,
+    ) -> Result<Option<(Vec<u8>, SequenceNumber)>, Refusal> {
+        let (found, number, size) =
+            ffi::poll_for_event_with_sequence(&mut self.state, &mut self.rooms, &mut self.out)?;
+        if found == 0 {
+            return Ok(None);
+        }
+        Ok(Some((self.out[..size].to_vec(), number)))
+    }
+
+    /// The descriptors to be closed, whole and in their order.
+    pub fn take_closed_fds(&mut self) -> Result<Vec<u32>, Refusal> {
+        let count = ffi::take_closed_fds(&mut self.state, &mut self.rooms, &mut self.fds)?;
+        Ok(self.fds[..count].to_vec())
+    }
+
+    /// The number of the last request that was written.
+    pub fn last_sequence_written(&self) -> SequenceNumber {
+        self.state[3]
+    }
+
+    /// The number of the next reply that is expected.
+    pub fn next_reply_expected(&self) -> SequenceNumber {
+        self.state[4]
+    }
+
+    /// The number of the last packet that was read.
+    pub fn last_sequence_read(&self) -> SequenceNumber {
+        self.state[5]
+    }
+
+    /// How many requests are outstanding.
+    pub fn outstanding_len(&self) -> usize {
+        (self.state[3] + 1 - self.state[6]) as usize
+    }
+
+    /// The outstanding requests, oldest first.
+    pub fn outstanding(&self) -> impl Iterator<Item = Request> + '_ {
+        (self.state[6]..=self.state[3]).map(|number| {
+            let (fds, mode) = ffi::request_at(&self.rooms.requests, number)
+                .expect("the request room has its length");
+            Request {
+                number,
+                has_fds: fds != 0,
+                discard_mode: match mode {
+                    0 => None,
+                    1 => Some(DiscardMode::DiscardReply),
+                    _ => Some(DiscardMode::DiscardReplyAndError),
+                },
+            }
+        })
+    }
+
+    /// The held packets in order of arrival, replies and events together.
+    pub fn records(&self) -> impl Iterator<Item = Record<'_>> + '_ {
+        let end = self.state[8] as usize;
+        let mut at = self.state[7] as usize;
+        let mut fd = self.closing().len();
+        std::iter::from_fn(move || {
+            let (kind, number, size, count) = ffi::record_at(&self.rooms.store, at, end).ok()?;
+            let record = Record {
+                place: if kind == 0 {
+                    Place::Replies
+                } else {
+                    Place::Events
+                },
+                number,
+                packet: &self.rooms.store[at + HEADER..at + HEADER + size],
+                fds: &self.rooms.slots[fd..fd + usize::from(count)],
+            };
+            at += HEADER + size;
+            fd += usize::from(count);
+            Some(record)
+        })
+    }
+
+    /// How many bytes of the packet store are used.
+    pub fn used(&self) -> usize {
+        (self.state[8] - self.state[7]) as usize
+    }
+
+    /// The descriptors to be closed.
+    pub fn closing(&self) -> &[u32] {
+        &self.rooms.slots[..self.state[9] as usize]
+    }
+
+    /// The descriptors that wait for a reply.
+    pub fn waiting(&self) -> &[u32] {
+        let start = (self.state[9] + self.state[10]) as usize;
+        &self.rooms.slots[start..start + self.state[11] as usize]
+    }
+
+    /// All descriptors inside: those to be closed, those held, those that wait.
+    pub fn inside(&self) -> &[u32] {
+        let count = self.state[9] + self.state[10] + self.state[11];
+        &self.rooms.slots[..count as usize]
+    }
+}
