@@ -1,9 +1,10 @@
--- There are runs with an honest server: one with every kind of call and packet, and runs of any length. Assumes nothing.
-use mathlib.Core.Bool.{true, false}
+-- There are runs with an honest server: one with every kind of call and packet, runs of any length, and one that is both, past 65,536. Assumes nothing.
+use mathlib.Core.Bool.{Bool, true, false}
 use mathlib.Core.List.{List, [], _∷_, _++_}
 use mathlib.Core.Logic.{inl, inr, ⊎-elim}
-use mathlib.Core.Path.{_≡_, refl, sym, ap, _∙_}
+use mathlib.Core.Path.{_≡_, refl, sym, ap, subst, _∙_}
 use Prim.Native.Nat.{ℕ, zero, suc, _+_, _-_, _%_, _≤_, _<_, max}
+use native.Mathlib.Decide.{decLe}
 use native.Mathlib.Omega.{arith}
 use lib.ListN.{length, length-append}
 use lib.Seq.{drop-at}
@@ -22,6 +23,7 @@ use Rattle.model.specs.Calls.{Call, send, enqueue-fds, enqueue, discard, poll, 
 use Rattle.model.specs.Calls as Calls
 use Rattle.model.specs.declared.ReplyFdKind.the-variants.{NoReply, ReplyWithoutFds, ReplyWithFds}
 use Rattle.model.specs.declared.DiscardMode.the-variants.{DiscardReply}
+use Rattle.model.specs.declared.Place.{Place}
 use Rattle.model.specs.declared.Place.the-variants.{Replies, Events, Dropped}
 use Rattle.honest.specs.Run.{Event, sent, took, noted, Runs, start, call, sends, Asked, Heard, Fair, Honest}
 use Rattle.honest.specs.Computing.{computing, packetOf, send-to, packet-to, poll-to}
@@ -115,18 +117,18 @@ last = joining ReplyWithoutFds
 
 -- the state between rounds: the request that was answered last is still outstanding
 abbrev between : ℕ → List Request → Client
-between n rest = record { order = 108; most-requests = 2; most-bytes = 48; numbers = record { written = n; expected = n; read = n }; outstanding = rest; replies = []; events = []; waiting = []; closing = [] }
+between n rest = record { order = 108; most-requests = 5; most-bytes = 100; numbers = record { written = n; expected = n; read = n }; outstanding = rest; replies = []; events = []; waiting = []; closing = [] }
 
 -- the same once the next request went out, and once its reply came
 abbrev sentOne : ℕ → List Request → Client
-sentOne n rest = record { order = 108; most-requests = 2; most-bytes = 48; numbers = record { written = n + 1; expected = n + 1; read = n }; outstanding = rest ++ (last ∷ []); replies = []; events = []; waiting = []; closing = [] }
+sentOne n rest = record { order = 108; most-requests = 5; most-bytes = 100; numbers = record { written = n + 1; expected = n + 1; read = n }; outstanding = rest ++ (last ∷ []); replies = []; events = []; waiting = []; closing = [] }
 
 -- the reply to request t
 abbrev replyTo : ℕ → List ℕ
 replyTo t = packetOf 1 0 (t % wireValues)
 
 abbrev tookOne : ℕ → Client
-tookOne n = record { order = 108; most-requests = 2; most-bytes = 48; numbers = record { written = n; expected = n; read = n }; outstanding = last ∷ []; replies = record { number = n; packet = replyTo n; descriptors = [] } ∷ []; events = []; waiting = []; closing = [] }
+tookOne n = record { order = 108; most-requests = 5; most-bytes = 100; numbers = record { written = n; expected = n; read = n }; outstanding = last ∷ []; replies = record { number = n; packet = replyTo n; descriptors = [] } ∷ []; events = []; waiting = []; closing = [] }
 
 abbrev inReplies : ℕ → Filing
 inReplies n = record { place = Replies; number = n }
@@ -138,7 +140,7 @@ rounds (suc n) = took (suc n) (replyTo (suc n)) (inReplies (suc n)) ∷ sent tru
 module _ (n : ℕ) (rest : List Request) (short : length rest ≤ 1) (fewer : length rest ≤ n) (fits : n < lastNumber) where
   send-one : sendRequest (between n rest) ReplyWithoutFds ≡ gives (n + 1, sentOne n rest)
   unfolding computing
-  send-one = rw (lt-leb lastNumber n fits, lt-leb 2 (length rest) (omega arith))
+  send-one = rw (lt-leb lastNumber n fits, lt-leb 5 (length rest) (omega arith))
 
   -- the request is the one behind the rest
   way : n + 1 - (n + 1 + 1 - length (rest ++ (last ∷ []))) ≡ length rest
@@ -216,5 +218,99 @@ round n h k =
 -- ANY LENGTH: up to the last number there are rounds, far past where wire numbers begin again.
 pub any-length : (n : ℕ) → n ≤ lastNumber → Through n
 unfolding rounds
-any-length zero h = record { rest = []; short = omega arith; fewer = omega arith; run = start 108 2 48 }
+any-length zero h = record { rest = []; short = omega arith; fewer = omega arith; run = start 108 5 100 }
 any-length (suc n) h = round n h (any-length n (omega arith))
+
+-- ---- A run with every kind of call and packet past 65,536
+
+-- after as many rounds as there are wire numbers
+abbrev far : Client
+far = between wireValues (last ∷ [])
+
+far-run : Runs far (rounds wireValues)
+unfolding round
+far-run = round 65535 (omega arith) (any-length 65535 (omega arith)) .run
+
+-- the moves of the first run again: their wire numbers are the same, their true numbers 65,536 greater
+abbrev farMoves : List Move
+farMoves = does (send ReplyWithoutFds) ∷ does (send NoReply) ∷ does (send ReplyWithFds) ∷ does (send ReplyWithoutFds) ∷ does (enqueue-fds (7 ∷ [])) ∷ does (discard 65540 DiscardReply) ∷ brings 65536 (packetOf 2 0 0) ∷ does (enqueue (packetOf 11 255 65535)) ∷ brings 65537 (packetOf 1 0 1) ∷ does (poll-event 32) ∷ brings 65537 (packetOf 1 0 1) ∷ does (poll-event 32) ∷ brings 65538 (packetOf 0 3 2) ∷ does (poll 65537 32 0) ∷ does (poll-reply 65538 0) ∷ brings 65539 (packetOf 1 1 3) ∷ brings 65540 (packetOf 1 0 4) ∷ brings 65540 (packetOf 2 0 4) ∷ does (poll-event 32) ∷ brings 65540 (packetOf 2 0 4) ∷ does (check 65539 32) ∷ does (take-closed 1) ∷ does (prepare 65540) ∷ []
+
+abbrev farSays : List Said
+farSays = number 65537 ∷ number 65538 ∷ number 65539 ∷ number 65540 ∷ done ∷ done ∷ filed Events 65536 ∷ filed Events 65536 ∷ refused 5 ∷ heldAt 65536 (packetOf 2 0 0) [] ∷ filed Replies 65537 ∷ heldAt 65536 (packetOf 11 255 65535) [] ∷ filed Replies 65538 ∷ heldAt 65537 (packetOf 1 0 1) [] ∷ absent ∷ filed Replies 65539 ∷ filed Dropped 65540 ∷ refused 5 ∷ heldAt 65538 (packetOf 0 3 2) [] ∷ filed Events 65540 ∷ heldAt 65539 (packetOf 1 1 3) (7 ∷ []) ∷ closed (7 ∷ []) ∷ answer false ∷ []
+
+pub far-says : run far (made farMoves) .said ≡ farSays
+unfolding computing
+far-says = refl
+
+abbrev farSent : List Event
+farSent = sent true ∷ sent true ∷ sent false ∷ sent true ∷ rounds wireValues
+
+abbrev filedIn : Place → ℕ → Filing
+filedIn place n = record { place = place; number = n }
+
+abbrev farLog : List Event
+farLog = took 65540 (packetOf 2 0 4) (filedIn Events 65540) ∷ took 65540 (packetOf 1 0 4) (filedIn Dropped 65540) ∷ took 65539 (packetOf 1 1 3) (filedIn Replies 65539) ∷ took 65538 (packetOf 0 3 2) (filedIn Replies 65538) ∷ took 65537 (packetOf 1 0 1) (filedIn Replies 65537) ∷ took 65536 (packetOf 2 0 0) (filedIn Events 65536) ∷ farSent
+
+far-logged : logged far (rounds wireValues) farMoves ≡ farLog
+unfolding computing
+far-logged = refl
+
+pub far-witness : Runs (run far (made farMoves) .end) farLog
+far-witness = subst (λ (l : List Event). Runs (run far (made farMoves) .end) l) far-logged (moves-run farMoves far (rounds wireValues) far-run)
+
+-- all that was heard is at most top, and of what was asked all up to top was heard
+record Upto (l : List Event) (top : ℕ) : Type 0 where
+  heard : (u : ℕ) → Heard l u → u ≤ top
+  answered : (q : ℕ) → Asked l q → q ≤ top → Heard l q
+
+rounds-upto : (n : ℕ) → Upto (rounds n) n
+rounds-upto n = record { heard = rounds-heard n; answered = λ q a less. rounds-asked n q a }
+
+sent-upto : (b : Bool) (l : List Event) (top : ℕ) → top ≤ sends l → Upto l top → Upto (sent b ∷ l) top
+sent-upto true l top h k = record { heard = k .heard; answered = λ q a less. ⊎-elim (λ (e : q ≡ sends l + 1). absurd (omega arith)) (λ b. k .answered q b less) a }
+sent-upto false l top h k = record { heard = k .heard; answered = k .answered }
+
+took-upto : (l : List Event) (top t : ℕ) (p : List ℕ) (f : Filing) → top ≤ t → t ≤ top + 1 → Upto l top → Upto (took t p f ∷ l) t
+took-upto l top t p f h g k =
+    record {
+      heard = λ u a. ⊎-elim (λ (e : u ≡ t). omega arith) (λ b. omega (arith, k .heard u b)) a;
+      answered = λ q a less. elim (decLe q top) [ yes y ↦ inr (k .answered q a y) | no n ↦ inl (omega arith) ];
+    }
+
+upto-fair : (l : List Event) (top t : ℕ) (p : List ℕ) → top ≤ t → t ≤ top + 1 → t ≤ sends l → field 108 2 2 p ≡ t % wireValues → Upto l top → Fair 108 l t p
+upto-fair l top t p h g s w k =
+    record { wire = w; rises = λ u a. omega (arith, k .heard u a); known = s; answered = λ q a less. k .answered q a (omega arith) }
+
+far-sent : Upto farSent 65536
+far-sent =
+    let e : sends (rounds wireValues) ≡ wireValues = rounds-sends wireValues in
+    sent-upto true _ 65536 (omega arith) (sent-upto true _ 65536 (omega arith) (sent-upto false _ 65536 (omega arith) (sent-upto true _ 65536 (omega arith) (rounds-upto wireValues))))
+
+pub far-honest : Honest 108 farLog
+unfolding computing
+far-honest =
+    let e : sends (rounds wireValues) ≡ wireValues = rounds-sends wireValues in
+    let a = far-sent in
+    let b = took-upto _ 65536 65536 (packetOf 2 0 0) (filedIn Events 65536) (omega arith) (omega arith) a in
+    let c = took-upto _ 65536 65537 (packetOf 1 0 1) (filedIn Replies 65537) (omega arith) (omega arith) b in
+    let d = took-upto _ 65537 65538 (packetOf 0 3 2) (filedIn Replies 65538) (omega arith) (omega arith) c in
+    let f = took-upto _ 65538 65539 (packetOf 1 1 3) (filedIn Replies 65539) (omega arith) (omega arith) d in
+    let g = took-upto _ 65539 65540 (packetOf 1 0 4) (filedIn Dropped 65540) (omega arith) (omega arith) f in (
+      upto-fair _ 65540 65540 _ (omega arith) (omega arith) (omega arith) refl g,
+      (
+        upto-fair _ 65539 65540 _ (omega arith) (omega arith) (omega arith) refl f,
+        (
+          upto-fair _ 65538 65539 _ (omega arith) (omega arith) (omega arith) refl d,
+          (
+            upto-fair _ 65537 65538 _ (omega arith) (omega arith) (omega arith) refl c,
+            (
+              upto-fair _ 65536 65537 _ (omega arith) (omega arith) (omega arith) refl b,
+              (
+                upto-fair _ 65536 65536 _ (omega arith) (omega arith) (omega arith) refl a,
+                rounds-honest wireValues,
+              ),
+            ),
+          ),
+        ),
+      ),
+    )
