@@ -1,5 +1,5 @@
 # The commands of the README, and the benchmark of docs/BENCH.md.
-.PHONY: run test bench library beside
+.PHONY: run test bench library beside house
 
 # Prove the program `packets` and what it stands on, and run it on bytes that an X server sent.
 run:
@@ -32,3 +32,7 @@ $(ARCHIVE): $(wildcard crates/*/src/*.rt crates/*/specs/*.antt)
 # ARGS are a seed and how many runs of each kind, or 'long'.
 beside: $(ARCHIVE)
 	cd rust && XIENGMADO_RUST="$(abspath $(RUST))" cargo run --offline --quiet --profile beside -p beside -- $(ARGS)
+
+# The picture of docs/ARCHITECTURE.md, from crates.txt.
+house:
+	python3 docs/house.py
