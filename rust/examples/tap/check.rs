@@ -25,6 +25,9 @@ const STORE: usize = 131_072;
 const PACKET: usize = 65_536;
 const SETUP: usize = 262_148;
 
+/// Every packet has so many bytes at least.
+const LEAST: usize = 32;
+
 /// At most so many differences are told one by one.
 const TOLD: u64 = 10;
 
@@ -43,6 +46,8 @@ pub struct Counts {
     pub unclear: u64,
     /// Requests that a client may send only after a sync.
     pub late: u64,
+    /// Bytes of the server at the end that make no whole packet.
+    pub left: usize,
     pub differences: u64,
 }
 
@@ -54,6 +59,7 @@ impl fmt::Display for Counts {
         write!(f, "({} replies, {} errors, ", self.replies, self.errors)?;
         write!(f, "{} events; {} long), ", self.events, self.long)?;
         write!(f, "last number {}, ", self.last)?;
+        write!(f, "{} bytes left over, ", self.left)?;
         write!(f, "{} late syncs, {} unclear, ", self.late, self.unclear)?;
         write!(f, "{} differences", self.differences)
     }
@@ -74,7 +80,7 @@ pub struct Check {
     requests: Requests,
     reckoning: Reckoning,
     server: Option<Server>,
-    pub counts: Counts,
+    counts: Counts,
 }
 
 impl Server {
@@ -117,6 +123,15 @@ impl Server {
         self.skip = packet_length(packet[0], get32(self.order, &packet, 4)) - packet.len();
         self.reader = PacketReader::with_buffer(self.order, PACKET)?;
         Ok(packet)
+    }
+
+    /// How many bytes of a setup or a packet that is not whole are there.
+    fn left(&self) -> usize {
+        match &self.setup {
+            Some(setup) => setup.filled().len(),
+            None if self.skip > 0 => LEAST,
+            None => self.reader.filled().len(),
+        }
     }
 
     /// Files a packet and takes it back: the engine's number, and whether what came back is that packet.
@@ -239,6 +254,14 @@ impl Check {
         Ok(())
     }
 
+    /// What is said at the end.
+    pub fn counts(&self) -> Counts {
+        Counts {
+            left: self.server.as_ref().map_or(0, Server::left),
+            ..self.counts.clone()
+        }
+    }
+
     /// The engine refused what it must take; the connection can't go on.
     pub fn refused(&mut self, refusal: Refusal) {
         self.differs(&refusal.to_string());
@@ -310,7 +333,9 @@ mod test {
                 last: 180_000,
                 ..Counts::default()
             };
-            assert_eq!(check.counts, expected);
+            assert_eq!(check.counts(), expected);
+            check.server(&[1, 0, 0]).unwrap();
+            assert_eq!(check.counts().left, 3);
         }
     }
 

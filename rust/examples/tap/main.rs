@@ -85,7 +85,7 @@ impl Shared {
         let mut state = self.lock();
         state.1 = true;
         self.changed.notify_all();
-        state.0.counts.clone()
+        state.0.counts()
     }
 }
 

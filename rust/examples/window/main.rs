@@ -48,6 +48,7 @@ const QUERY_EXTENSION: u8 = 98;
 const NO_OPERATION: u8 = 127;
 
 /// Codes of events and errors.
+const ERROR: u8 = 0;
 const EXPOSE: u8 = 12;
 const NO_EXPOSURE: u8 = 14;
 const DESTROY_NOTIFY: u8 = 17;
@@ -143,14 +144,14 @@ impl Client {
         Ok((reply, number))
     }
 
-    /// Waits for an event of this code; others are passed over.
+    /// Waits for an event of this code, or an error of code 0; other events are passed over.
     fn event(&mut self, code: u8) -> io::Result<(Vec<u8>, SequenceNumber)> {
         loop {
             let (event, number) = self.display.event()?;
-            assert_ne!(event[0], 0, "no error is on the way");
             if event[0] & 0x7f == code {
                 return Ok((event, number));
             }
+            assert_ne!(event[0], ERROR, "no other error is on the way");
         }
     }
 
@@ -199,16 +200,17 @@ impl Client {
         updated.map_err(io::Error::other)
     }
 
-    /// Makes a window, names it and maps it; its id.
+    /// Makes a window, names it and maps it; its id. No window manager has a say in it.
     fn window(&mut self) -> io::Result<u32> {
         let window = self.id();
-        let background = 0x2;
-        let event_mask = 0x800;
+        let (background, override_redirect, event_mask) = (0x2, 0x200, 0x800);
         let request = self.display.request(CREATE_WINDOW, 0);
         let request = request.card32(window).card32(self.screen.root);
         let request = request.pairs(&[(20, 20), (WIDTH as i16, HEIGHT as i16), (0, 1)]);
-        let request = request.card32(0).card32(background | event_mask);
-        let request = request.card32(self.screen.white).card32(EVENT_MASK);
+        let request = request.card32(0);
+        let request = request.card32(background | override_redirect | event_mask);
+        let request = request.card32(self.screen.white);
+        let request = request.card32(1).card32(EVENT_MASK);
         let created = self.display.tell(&request.done())?;
         assert_eq!(self.display.check(created)?, None);
         println!("{created}: CreateWindow {window:#x}, checked: no error");
@@ -216,8 +218,8 @@ impl Client {
         let request = self.display.request(MAP_WINDOW, 0).card32(window);
         let mapped = self.display.tell_unchecked(&request.done())?;
         let (_, number) = self.event(MAP_NOTIFY)?;
-        assert!(number >= mapped);
-        println!("{mapped}: MapWindow; a MapNotify event came with number {number}");
+        assert_eq!(number, mapped, "the event's number is the request's");
+        println!("{mapped}: MapWindow; its MapNotify event has number {number}");
         while get16(ORDER, &self.event(EXPOSE)?.0, 16) > 0 {}
         println!("        the last Expose event came");
         Ok(window)
@@ -234,11 +236,8 @@ impl Client {
         let changed = self.display.tell_unchecked(&request.done())?;
         let (event, number) = self.event(PROPERTY_NOTIFY)?;
         assert_eq!(number, changed, "the event's number is the request's");
-        assert_eq!(
-            get32(ORDER, &event, 8),
-            name,
-            "the event names the property"
-        );
+        let named = get32(ORDER, &event, 8);
+        assert_eq!(named, name, "the event names the property");
         println!("{changed}: ChangeProperty; its PropertyNotify event has number {number}");
         Ok(())
     }
@@ -334,7 +333,7 @@ impl Client {
         is_error(&error, BAD_WINDOW, MAP_WINDOW, nothing);
         println!("{told}: MapWindow of no window, checked: a Window error");
         let told = self.display.tell_unchecked(&tell)?;
-        let (error, number) = self.display.event()?;
+        let (error, number) = self.event(ERROR)?;
         is_error(&error, BAD_WINDOW, MAP_WINDOW, nothing);
         assert_eq!(number, told);
         println!("{told}: MapWindow of no window, unchecked: the error came with the events");
@@ -351,7 +350,9 @@ impl Client {
         connection.discard_reply(failed, DiscardMode::DiscardReplyAndError);
         self.display.sync()?;
         let connection = &mut self.display.connection;
-        assert_eq!(connection.poll_for_event_with_sequence(), None);
+        while let Some((event, _)) = connection.poll_for_event_with_sequence() {
+            assert_ne!(event[0], ERROR, "the error was dropped");
+        }
         for number in [replied, failed] {
             let answer = connection.poll_for_reply_or_error(number);
             assert!(answer.is_none(), "the answer was dropped");
