@@ -32,6 +32,7 @@ use std::net::Shutdown;
 use std::os::unix::net::{UnixListener, UnixStream};
 use std::path::Path;
 use std::process::{exit, Command};
+use std::sync::mpsc::{channel, Receiver, Sender};
 use std::sync::{Arc, Condvar, Mutex, MutexGuard};
 use std::thread::{self, JoinHandle};
 
@@ -108,28 +109,41 @@ fn pass_requests(mut from: &UnixStream, mut to: &UnixStream, shared: &Shared) ->
 
 /// Passes the server's bytes on, each packet after it was compared. A client that is gone ends nothing:
 /// what the server still sends is compared too.
-fn pass_packets(mut from: &UnixStream, mut to: &UnixStream, shared: &Shared) -> io::Result<()> {
+fn pass_packets(mut from: &UnixStream, to: Sender<Vec<u8>>, shared: &Shared) -> io::Result<()> {
     let mut chunk = vec![0; CHUNK];
     loop {
         let count = from.read(&mut chunk)?;
         if count == 0 || !shared.server(&chunk[..count]) {
             return Ok(());
         }
-        let _ = to.write_all(&chunk[..count]);
+        let _ = to.send(chunk[..count].to_vec());
     }
+}
+
+/// Hands the client its bytes. They queue up while it does not read, as they would in the server, so that
+/// packets go on making room.
+fn hand_out(from: Receiver<Vec<u8>>, mut to: &UnixStream) -> io::Result<()> {
+    for bytes in from {
+        to.write_all(&bytes)?;
+    }
+    Ok(())
 }
 
 /// Serves one client until both sides are done. Streams that break off are no failure of the engine.
 fn serve(client: &UnixStream, server: &UnixStream) -> Counts {
     let shared = Shared::default();
+    let (sender, receiver) = channel();
     thread::scope(|scope| {
         scope.spawn(|| {
             let _ = pass_requests(client, server, &shared);
             let _ = server.shutdown(Shutdown::Write);
         });
-        let _ = pass_packets(server, client, &shared);
+        scope.spawn(|| {
+            let _ = hand_out(receiver, client);
+            let _ = client.shutdown(Shutdown::Both);
+        });
+        let _ = pass_packets(server, sender, &shared);
         let _ = server.shutdown(Shutdown::Both);
-        let _ = client.shutdown(Shutdown::Both);
         shared.end();
     });
     shared.end()
