@@ -1,0 +1,218 @@
+//! Stands between X clients and their server, passes every byte on unchanged, and checks on the live traffic
+//! that the engine files each packet under its true number.
+//!
+//! ```text
+//! cargo run --release --example tap -- COMMAND [ARGUMENT ..]
+//! ```
+//!
+//! The server is that of `$DISPLAY`. The tap opens a display of its own, the first free number from 100 on, and
+//! runs the command with `DISPLAY` set to it. When the command has ended it says what went through each
+//! connection. It ends with 1 if a number differed, otherwise as the command did.
+//!
+//! - `requests.rs` cuts the client's bytes into requests;
+//! - `reckoning.rs` says which number a packet truly has, without the engine;
+//! - `check.rs` tells the engine the same traffic and compares.
+//!
+//! A client of a server that wants a cookie looks for it under the new display's number; copy it there with
+//! `xauth`. Descriptors are not passed: the standard library has no way to. Clients that share memory or
+//! buffers with the server by descriptors (MIT-SHM with descriptors, DRI3) must do without.
+
+mod check;
+#[allow(dead_code)]
+#[path = "../shared/display.rs"]
+mod display;
+mod reckoning;
+mod requests;
+#[allow(dead_code)]
+#[path = "../shared/wire.rs"]
+mod wire;
+
+use std::io::{self, Read, Write};
+use std::net::Shutdown;
+use std::os::unix::net::{UnixListener, UnixStream};
+use std::path::Path;
+use std::process::{exit, Command};
+use std::sync::mpsc::{channel, Receiver, Sender};
+use std::sync::{Arc, Condvar, Mutex, MutexGuard};
+use std::thread::{self, JoinHandle};
+
+use check::{Check, Counts};
+use display::socket_path;
+
+const CHUNK: usize = 65_536;
+const FIRST_DISPLAY: u32 = 100;
+
+/// A connection's check, whether it is over, and the sign that one of the two changed.
+#[derive(Default)]
+struct Shared {
+    state: Mutex<(Check, bool)>,
+    changed: Condvar,
+}
+
+impl Shared {
+    fn lock(&self) -> MutexGuard<'_, (Check, bool)> {
+        self.state.lock().expect("no thread stopped midway")
+    }
+
+    /// How many bytes of the client may be passed on now; waits for room. None once it is over.
+    fn client(&self, bytes: &[u8]) -> Option<usize> {
+        let mut state = self.lock();
+        while !state.1 {
+            match state.0.client(bytes) {
+                Ok(0) => {}
+                Ok(count) => return Some(count),
+                Err(refusal) => {
+                    state.0.refused(refusal);
+                    return None;
+                }
+            }
+            state = self.changed.wait(state).expect("no thread stopped midway");
+        }
+        None
+    }
+
+    /// Whether the server's bytes may be passed on.
+    fn server(&self, bytes: &[u8]) -> bool {
+        let mut state = self.lock();
+        let taken = state.0.server(bytes);
+        if let Err(refusal) = taken {
+            state.0.refused(refusal);
+        }
+        self.changed.notify_all();
+        taken.is_ok()
+    }
+
+    fn end(&self) -> Counts {
+        let mut state = self.lock();
+        state.1 = true;
+        self.changed.notify_all();
+        state.0.counts()
+    }
+}
+
+/// Passes the client's bytes on, each request after it was counted.
+fn pass_requests(mut from: &UnixStream, mut to: &UnixStream, shared: &Shared) -> io::Result<()> {
+    let mut chunk = vec![0; CHUNK];
+    loop {
+        let count = from.read(&mut chunk)?;
+        if count == 0 {
+            return Ok(());
+        }
+        let mut rest = &chunk[..count];
+        while !rest.is_empty() {
+            let taken = shared.client(rest).ok_or(io::ErrorKind::Other)?;
+            to.write_all(&rest[..taken])?;
+            rest = &rest[taken..];
+        }
+    }
+}
+
+/// Passes the server's bytes on, each packet after it was compared. A client that is gone ends nothing:
+/// what the server still sends is compared too.
+fn pass_packets(mut from: &UnixStream, to: Sender<Vec<u8>>, shared: &Shared) -> io::Result<()> {
+    let mut chunk = vec![0; CHUNK];
+    loop {
+        let count = from.read(&mut chunk)?;
+        if count == 0 || !shared.server(&chunk[..count]) {
+            return Ok(());
+        }
+        let _ = to.send(chunk[..count].to_vec());
+    }
+}
+
+/// Hands the client its bytes. They queue up while it does not read, as they would in the server, so that
+/// packets go on making room.
+fn hand_out(from: Receiver<Vec<u8>>, mut to: &UnixStream) -> io::Result<()> {
+    for bytes in from {
+        to.write_all(&bytes)?;
+    }
+    Ok(())
+}
+
+/// Serves one client until both sides are done. Streams that break off are no failure of the engine.
+fn serve(client: &UnixStream, server: &UnixStream) -> Counts {
+    let shared = Shared::default();
+    let (sender, receiver) = channel();
+    thread::scope(|scope| {
+        scope.spawn(|| {
+            let _ = pass_requests(client, server, &shared);
+            let _ = server.shutdown(Shutdown::Write);
+        });
+        scope.spawn(|| {
+            let _ = hand_out(receiver, client);
+            let _ = client.shutdown(Shutdown::Both);
+        });
+        let _ = pass_packets(server, sender, &shared);
+        let _ = server.shutdown(Shutdown::Both);
+        shared.end();
+    });
+    shared.end()
+}
+
+type Served = Arc<Mutex<Vec<JoinHandle<io::Result<Counts>>>>>;
+
+/// Lets clients in, as long as the tap runs.
+fn accept(door: UnixListener, server: String, served: Served) {
+    for client in door.incoming() {
+        let path = server.clone();
+        let thread = thread::spawn(move || Ok(serve(&client?, &UnixStream::connect(path)?)));
+        served
+            .lock()
+            .expect("no thread stopped midway")
+            .push(thread);
+    }
+}
+
+/// A display of its own: its number and its socket.
+fn open_door() -> io::Result<(u32, String, UnixListener)> {
+    for number in FIRST_DISPLAY..FIRST_DISPLAY + 1_000 {
+        let path = socket_path(&format!(":{number}"));
+        let locked = Path::new(&format!("/tmp/.X{number}-lock")).exists();
+        if locked || Path::new(&path).exists() {
+            continue;
+        }
+        if let Ok(door) = UnixListener::bind(&path) {
+            return Ok((number, path, door));
+        }
+    }
+    Err(io::Error::other("no display number is free"))
+}
+
+/// Runs the command with the tap's display; whether a number differed, and how the command ended.
+fn run(words: &[String]) -> io::Result<(bool, i32)> {
+    let display = std::env::var("DISPLAY").map_err(io::Error::other)?;
+    let (number, path, door) = open_door()?;
+    let served = Served::default();
+    let threads = served.clone();
+    thread::spawn(move || accept(door, socket_path(&display), threads));
+    let mut command = Command::new(&words[0]);
+    let status = command
+        .args(&words[1..])
+        .env("DISPLAY", format!(":{number}"))
+        .status();
+    std::fs::remove_file(path)?;
+    let mut differs = false;
+    let threads = std::mem::take(&mut *served.lock().expect("no thread stopped midway"));
+    for thread in threads {
+        let counts = thread.join().expect("no thread stopped midway")?;
+        differs |= counts.differences > 0;
+        println!("tap: {counts}");
+    }
+    Ok((differs, status?.code().unwrap_or(1)))
+}
+
+fn main() {
+    let words: Vec<String> = std::env::args().skip(1).collect();
+    if words.is_empty() {
+        eprintln!("usage: tap COMMAND [ARGUMENT ..]");
+        exit(2);
+    }
+    match run(&words) {
+        Ok((true, _)) => exit(1),
+        Ok((false, status)) => exit(status),
+        Err(error) => {
+            eprintln!("tap: {error}");
+            exit(1);
+        }
+    }
+}
