@@ -20,7 +20,7 @@ use Rattle.id_allocator.specs.declared.lent.Updated.{Updated}
 use Rattle.id_allocator.specs.declared.lent.Updated.the-variants as Updated
 use Rattle.id_allocator.specs.Ids.{bits, limit, Sound, sound, lowestBit, Lowest, fresh, ranged, newIds, generated, updated, saysIds, saysGenerated}
 use Rattle.id_allocator.specs.Runs.{after, call, idOf, leaves, Run, contiguous, EveryId}
-use Rattle.id_allocator.specs.Lent.{saysNext, saysUpdated, Generates, Updates}
+use Rattle.id_allocator.specs.Lent.{saysNext, saysUpdated, takenUp, Generates, Updates}
 use Rattle.id_allocator.specs.LowestLaws.{lowest-of, lowest-is}
 use Rattle.id_allocator.specs.SoundLaws.{sound-of, sound-yes, fresh-sound, sound-with, new-of, generated-of, updated-of}
 use Rattle.id_allocator.specs.RunLaws.{call-id, call-end}
@@ -129,6 +129,21 @@ updates-one r s p q = (
   decides saysUpdated backUpdated (elim [ Updated.Done ↦ refl | Updated.Refused r ↦ ap Updated.Refused (listed r) ]) r s (p .answer ∙ sym (q .answer)),
   p .exit ∙ sym (q .exit),
 )
+
+-- A sound allocator that is lent is sound afterwards, refused or not.
+pub generates-sound : {a b : IdAllocator} {r : NextId} → Sound a → Generates a r b → Sound b
+generates-sound {a} s p = subst Sound (sym (p .exit)) (go (generated a) refl)
+  where
+    go : (x : Answer (ℕ × IdAllocator)) → generated a ≡ x → Sound (leaves a x)
+    go (gives q) e = generate-sound a e
+    go (refuses n) e = s
+
+pub updates-sound : {a b : IdAllocator} {start count : ℕ} {r : Updated} → Sound a → Updates a start count r b → Sound b
+updates-sound {a} {start = start} {count = count} s p = subst Sound (sym (p .exit)) (go (updated a start count) refl)
+  where
+    go : (x : Answer IdAllocator) → updated a start count ≡ x → Sound (takenUp a x)
+    go (gives b) e = update-sound a start count e
+    go (refuses n) e = s
 
 -- Lent calls in a row, call i from state i to the next: they find and leave the allocators that calls by value hand on,
 pub lent-state : (state : ℕ → IdAllocator) (said : ℕ → NextId) → ((i : ℕ) → Generates (state i) (said i) (state (suc i))) → (i : ℕ) → state i ≡ after i (state 0)

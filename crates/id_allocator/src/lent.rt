@@ -58,9 +58,9 @@ fn range_turn(a: IdAllocator, start: u32, count: u32) -> RangeTurn
     ensures { λ r. ⌜ Updates a start count (r .answer) (r .left) ⌝ }
 {
     match a.update_xid_range(start, count) {
-        Ids::Ready(next) => RangeTurn {
+        Ids::Ready(ranged) => RangeTurn {
             answer: Updated::Done,
-            left: next,
+            left: ranged,
         },
         Ids::Refused(r) => RangeTurn {
             answer: Updated::Refused(r),
