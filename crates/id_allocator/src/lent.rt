@@ -4,7 +4,6 @@
 // either name takes the allocator by value. Each is a thin shell: it copies the allocator out, makes
 // a turn with the copy, and puts what the turn leaves in its place. A turn leaves an allocator in
 // every case, after a refusal the one that it was given; so the shells have no branch.
-ghost use mathlib.Core.Path.{_≡_};
 ghost use Rattle.id_allocator.specs.Lent.{Generates, Updates};
 use crate::Generated;
 use crate::IdAllocator;
@@ -27,18 +26,19 @@ pub enum Updated {
     Refused(Refusal),
 }
 
-// A call for an id, by value: its answer, and the allocator that it leaves.
+// A turn for an id: the answer, and the allocator that is left.
 pub struct IdTurn {
     pub answer: NextId,
     pub left: IdAllocator,
 }
 
-// The same of a range.
+// A turn for a range.
 pub struct RangeTurn {
     pub answer: Updated,
     pub left: IdAllocator,
 }
 
+// The turn for an id, by value.
 fn id_turn(a: IdAllocator) -> IdTurn
     ensures { λ r. ⌜ Generates a (r .answer) (r .left) ⌝ }
 {
@@ -54,6 +54,7 @@ fn id_turn(a: IdAllocator) -> IdTurn
     }
 }
 
+// The turn for a range, by value.
 fn range_turn(a: IdAllocator, start: u32, count: u32) -> RangeTurn
     ensures { λ r. ⌜ Updates a start count (r .answer) (r .left) ⌝ }
 {
