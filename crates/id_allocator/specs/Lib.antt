@@ -1,5 +1,6 @@
 pub mod Ids
 pub mod Runs
+pub mod Lent
 pub mod LowestLaws
 pub mod SoundLaws
 pub mod RunLaws

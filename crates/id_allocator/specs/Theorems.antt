@@ -1,5 +1,5 @@
 -- The theorems of the crate; their lemmas are in the files of laws. Assumes nothing.
-use Prim.Native.Nat.{ℕ, suc, _+_, _-_, _*_, _^_, _<_, _≤_}
+use Prim.Native.Nat.{ℕ, zero, suc, _+_, _-_, _*_, _^_, _<_, _≤_}
 use mathlib.Core.Path.{_≡_, refl, sym, ap, _∙_, subst}
 use mathlib.Core.Logic.{_↔_}
 use mathlib.Core.Bool.{true}
@@ -14,8 +14,13 @@ use Rattle.id_allocator.specs.declared.Ids.{Ids}
 use Rattle.id_allocator.specs.declared.Ids.the-variants as Ids
 use Rattle.id_allocator.specs.declared.Generated.{Generated}
 use Rattle.id_allocator.specs.declared.Generated.the-variants as Generated
+use Rattle.id_allocator.specs.declared.lent.NextId.{NextId}
+use Rattle.id_allocator.specs.declared.lent.NextId.the-variants as NextId
+use Rattle.id_allocator.specs.declared.lent.Updated.{Updated}
+use Rattle.id_allocator.specs.declared.lent.Updated.the-variants as Updated
 use Rattle.id_allocator.specs.Ids.{bits, limit, Sound, sound, lowestBit, Lowest, fresh, ranged, newIds, generated, updated, saysIds, saysGenerated}
-use Rattle.id_allocator.specs.Runs.{Run, contiguous, EveryId}
+use Rattle.id_allocator.specs.Runs.{after, call, idOf, leaves, Run, contiguous, EveryId}
+use Rattle.id_allocator.specs.Lent.{saysNext, saysUpdated, takenUp, Generates, Updates}
 use Rattle.id_allocator.specs.LowestLaws.{lowest-of, lowest-is}
 use Rattle.id_allocator.specs.SoundLaws.{sound-of, sound-yes, fresh-sound, sound-with, new-of, generated-of, updated-of}
 use Rattle.id_allocator.specs.RunLaws.{call-id, call-end}
@@ -98,3 +103,55 @@ pub range-run : (a : IdAllocator) (start count : ℕ) {b : IdAllocator} → upda
 range-run a start count h =
     let u = updated-of a start count h in let b : IdAllocator = ranged a start count in
     subst (λ (c : IdAllocator). Run c start (a .step) count) (u .3) (run b count (sound-with a (u .0) start (b .last) (u .2) (omega arith)) (u .1) refl)
+
+-- ---- the allocator lent
+
+-- Any two answers that the lent `generate_id` may give are equal, and so are the allocators that they leave,
+backNext : Answer ℕ → NextId
+backNext (gives id) = NextId.Id id
+backNext (refuses n) = NextId.Refused (refusalOf n)
+
+pub generates-one : {a b c : IdAllocator} (r s : NextId) → Generates a r b → Generates a s c → (r ≡ s) × (b ≡ c)
+unfolding backNext
+generates-one r s p q = (
+  decides saysNext backNext (elim [ NextId.Id n ↦ refl | NextId.Refused r ↦ ap NextId.Refused (listed r) ]) r s (p .answer ∙ sym (q .answer)),
+  p .exit ∙ sym (q .exit),
+)
+
+-- and of the lent `update_xid_range` too.
+backUpdated : Answer (Unit {0}) → Updated
+backUpdated (gives u) = Updated.Done
+backUpdated (refuses n) = Updated.Refused (refusalOf n)
+
+pub updates-one : {a b c : IdAllocator} {start count : ℕ} (r s : Updated) → Updates a start count r b → Updates a start count s c → (r ≡ s) × (b ≡ c)
+unfolding backUpdated
+updates-one r s p q = (
+  decides saysUpdated backUpdated (elim [ Updated.Done ↦ refl | Updated.Refused r ↦ ap Updated.Refused (listed r) ]) r s (p .answer ∙ sym (q .answer)),
+  p .exit ∙ sym (q .exit),
+)
+
+-- A sound allocator that is lent is sound afterwards, refused or not.
+pub generates-sound : {a b : IdAllocator} {r : NextId} → Sound a → Generates a r b → Sound b
+generates-sound {a} s p = subst Sound (sym (p .exit)) (go (generated a) refl)
+  where
+    go : (x : Answer (ℕ × IdAllocator)) → generated a ≡ x → Sound (leaves a x)
+    go (gives q) e = generate-sound a e
+    go (refuses n) e = s
+
+pub updates-sound : {a b : IdAllocator} {start count : ℕ} {r : Updated} → Sound a → Updates a start count r b → Sound b
+updates-sound {a} {start = start} {count = count} s p = subst Sound (sym (p .exit)) (go (updated a start count) refl)
+  where
+    go : (x : Answer IdAllocator) → updated a start count ≡ x → Sound (takenUp a x)
+    go (gives b) e = update-sound a start count e
+    go (refuses n) e = s
+
+-- Lent calls in a row, call i from state i to the next: they find and leave the allocators that calls by value hand on,
+pub lent-state : (state : ℕ → IdAllocator) (said : ℕ → NextId) → ((i : ℕ) → Generates (state i) (said i) (state (suc i))) → (i : ℕ) → state i ≡ after i (state 0)
+unfolding after
+lent-state state said each zero = refl
+lent-state state said each (suc i) = each i .exit ∙ ap (λ (a : IdAllocator). leaves a (generated a)) (lent-state state said each i)
+
+-- and give the same ids and refusals. So what `Run` and `EveryId` say of calls in a row, they say of lent calls.
+pub lent-call : (state : ℕ → IdAllocator) (said : ℕ → NextId) → ((i : ℕ) → Generates (state i) (said i) (state (suc i))) → (i : ℕ) → saysNext (said i) ≡ call i (state 0)
+unfolding call
+lent-call state said each i = each i .answer ∙ ap (λ (a : IdAllocator). idOf (generated a)) (lent-state state said each i)

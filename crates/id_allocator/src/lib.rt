@@ -10,9 +10,20 @@
 // any three numbers, so each call first asks whether it is sound (01, Rooms). It never speaks to the
 // server: who finds the ids exhausted asks XC-MISC for a range.
 //
-// A call takes the allocator by value and hands the next one back inside its answer; after a refusal
-// the caller still has the one it gave. `specs/Ids` says what each call answers, `specs/Runs` what
-// calls in a row give, and `specs/Theorems` what follows.
+// A method takes the allocator by value and hands the next one back inside its answer; after a
+// refusal the caller still has the one it gave. `generate_id` and `update_xid_range` are there as
+// functions too, which are lent the allocator and update its three numbers where it stands (`lent`).
+//
+// `specs/Ids` says what each method answers, `specs/Lent` what that is to who lends the allocator,
+// `specs/Runs` what calls in a row give, and `specs/Theorems` what follows.
+mod lent;
+
+pub use lent::IdTurn;
+pub use lent::NextId;
+pub use lent::RangeTurn;
+pub use lent::Updated;
+pub use lent::generate_id;
+pub use lent::update_xid_range;
 use refusal::Refusal;
 ghost use mathlib.Core.Path.{_≡_};
 ghost use Prim.Native.Nat.{_≤_};

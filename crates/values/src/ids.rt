@@ -1,7 +1,11 @@
-// The ids of masks and of ranges.
-use id_allocator::Generated;
+// The ids of masks and of ranges. Each call is lent the allocator, and so runs the call by value.
+ghost use Rattle.id_allocator.specs.Lent.{Generates, Updates};
 use id_allocator::IdAllocator;
+use id_allocator::IdTurn;
 use id_allocator::Ids;
+use id_allocator::NextId;
+use id_allocator::RangeTurn;
+use id_allocator::Updated;
 
 pub(crate) fn of_masks() {
     mask(0x100, 6, 10);
@@ -17,7 +21,11 @@ fn mask(base: u32, bits: u32, most: u32) {
     say::word(b"mask");
     say::number(base as u64);
     say::number(bits as u64);
-    ready(IdAllocator::new(base, bits), most);
+    match IdAllocator::new(base, bits) {
+        Ids::Ready(a) => run(a, most),
+        Ids::Refused(r) => say::refused(r),
+    }
+    say::end();
 }
 
 pub(crate) fn of_ranges() {
@@ -38,18 +46,19 @@ fn range(start: u32, count: u32) {
             say::word(b"range");
             say::number(start as u64);
             say::number(count as u64);
-            ready(a.update_xid_range(start, count), 5);
+            ranged(lent_range(a, start, count));
         }
         Ids::Refused(r) => say::refused(r),
     }
+    say::end();
 }
 
-fn ready(answer: Ids, most: u32) {
+fn ranged(turn: RangeTurn) {
+    let answer = turn.answer;
     match answer {
-        Ids::Ready(a) => run(a, most),
-        Ids::Refused(r) => say::refused(r),
+        Updated::Done => run(turn.left, 5),
+        Updated::Refused(r) => say::refused(r),
     }
-    say::end();
 }
 
 // At most so many ids, up to the first refusal.
@@ -57,16 +66,40 @@ fn run(from: IdAllocator, most: u32) {
     let mut a = from;
     let mut done: u32 = 0;
     while done < most {
-        match a.generate_id() {
-            Generated::Id(id, next) => {
-                say::number(id as u64);
-                a = next;
-            }
-            Generated::Refused(r) => {
+        let turn = lent_id(a);
+        a = turn.left;
+        let answer = turn.answer;
+        match answer {
+            NextId::Id(id) => say::number(id as u64),
+            NextId::Refused(r) => {
                 say::refused(r);
                 return;
             }
         }
         done += 1;
+    }
+}
+
+// Lends a local for an id.
+fn lent_id(a: IdAllocator) -> IdTurn
+    ensures { λ r. ⌜ Generates a (r .answer) (r .left) ⌝ }
+{
+    let mut held = a;
+    let answer = id_allocator::generate_id(&mut held);
+    IdTurn {
+        answer: answer,
+        left: held,
+    }
+}
+
+// Lends a local for a range.
+fn lent_range(a: IdAllocator, start: u32, count: u32) -> RangeTurn
+    ensures { λ r. ⌜ Updates a start count (r .answer) (r .left) ⌝ }
+{
+    let mut held = a;
+    let answer = id_allocator::update_xid_range(&mut held, start, count);
+    RangeTurn {
+        answer: answer,
+        left: held,
     }
 }

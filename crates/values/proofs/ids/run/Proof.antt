@@ -13,11 +13,11 @@ abbrev μ-loop : tie.MeasureT-loop
 loop-holds : tie.Need-loop-holds Inv-loop μ-loop
 loop-holds c = search needs
 
-generate-id-requires : tie.Need-generate-id-requires Inv-loop μ-loop
-generate-id-requires c κs = search needs
+lent-id-requires : tie.Need-lent-id-requires Inv-loop μ-loop
+lent-id-requires c κs = search needs
 
-enum-known-id : tie.Need-enum-known-id Inv-loop μ-loop
-enum-known-id c = search needs
+enum-known-answer : tie.Need-enum-known-answer Inv-loop μ-loop
+enum-known-answer c = search needs
 
 cast-number : tie.Need-cast-number Inv-loop μ-loop
 cast-number c = search needs
@@ -25,8 +25,8 @@ cast-number c = search needs
 number-requires : tie.Need-number-requires Inv-loop μ-loop
 number-requires c κs = search needs
 
-enum-known-r : tie.Need-enum-known-r Inv-loop μ-loop
-enum-known-r c = search needs
+enum-known-answer-2 : tie.Need-enum-known-answer-2 Inv-loop μ-loop
+enum-known-answer-2 c = search needs
 
 refused-requires : tie.Need-refused-requires Inv-loop μ-loop
 refused-requires c κs = search needs
@@ -53,11 +53,11 @@ run-spec =
     Inv-loop
     μ-loop
     loop-holds
-    generate-id-requires
-    enum-known-id
+    lent-id-requires
+    enum-known-answer
     cast-number
     number-requires
-    enum-known-r
+    enum-known-answer-2
     refused-requires
     returns
     add-done
