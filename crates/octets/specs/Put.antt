@@ -49,7 +49,11 @@ put-put s at n v w e h =
     ∙ ap (λ (k : ℕ). drop k s) q in
     (λ k. t k ++ (w ++ d k)) ∙ simp append-assoc
 
--- writing on from the start
+-- writing on behind what was written
+pub put-next : (s s₁ s₂ : List ℕ) (at n : ℕ) (v w : List ℕ) → s₁ ≡ put s at v → length v ≡ n → s₂ ≡ put s₁ (at + n) w → at + n + length w ≤ length s → s₂ ≡ put s at (v ++ w)
+put-next s s₁ s₂ at n v w p l q h = q ∙ ap (λ (x : List ℕ). put x (at + n) w) p ∙ put-put s at n v w l h
+
+-- and from the start
 pub put-more : (s s₁ s₂ : List ℕ) (n : ℕ) (v w : List ℕ) → length v ≡ n → n + length w ≤ length s → s₁ ≡ put s 0 v → s₂ ≡ put s₁ n w → s₂ ≡ put s 0 (v ++ w)
 put-more s s₁ s₂ n v w e h p q =
     q ∙ (λ k. put (p k) (sym (zero-add n) k) w) ∙ put-put s 0 n v w e (omega arith)
@@ -81,6 +85,25 @@ drop-put-after s at v k h f =
     ∙ ap (λ (l : List ℕ). drop (k - (at + length v)) l) (drop-put s at v f)
     ∙ drop-drop (k - (at + length v)) (at + length v) s
     ∙ ap (λ (m : ℕ). drop m s) e
+
+-- a put that covers one before
+pub put-cover : (s : List ℕ) (at k : ℕ) (v w : List ℕ) → at ≤ k → k + length v ≤ at + length w → k + length v ≤ length s → put (put s k v) at w ≡ put s at w
+unfolding put
+put-cover s at k v w h f r =
+    λ j. take-put-before s k v at h (omega arith) j ++ (w ++ drop-put-after s k v (at + length w) f r j)
+
+-- writing on ahead of what was written
+pub put-ahead : (s : List ℕ) (at n : ℕ) (v w : List ℕ) → length v ≡ n → at + n + length w ≤ length s → put (put s (at + n) w) at v ≡ put s at (v ++ w)
+unfolding put
+put-ahead s at n v w e h =
+    let t : take at (put s (at + n) w) ≡ take at s = take-put-before s (at + n) w at (omega arith) (omega arith) in
+    let m : at + length v ≡ at + n = omega arith in
+    let q : at + n + length w ≡ at + length (v ++ w) = omega (arith, length-append v w) in
+    let d : drop (at + length v) (put s (at + n) w) ≡ w ++ drop (at + length (v ++ w)) s =
+    ap (λ (k : ℕ). drop k (take (at + n) s ++ (w ++ drop (at + n + length w) s))) m
+    ∙ drop-at (take (at + n) s) (w ++ drop (at + n + length w) s) (at + n) (length-take-le (at + n) s (omega arith))
+    ∙ ap (λ (k : ℕ). w ++ drop k s) q in
+    (λ k. t k ++ (v ++ d k)) ∙ ap (λ (l : List ℕ). take at s ++ l) (sym (append-assoc v w (drop (at + length (v ++ w)) s)))
 
 pub getD-put-before : (s : List ℕ) (at : ℕ) (v : List ℕ) (k : ℕ) → k < at → at ≤ length s → getD (put s at v) k 0 ≡ getD s k 0
 unfolding put
