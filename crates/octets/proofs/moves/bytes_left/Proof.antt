@@ -1,12 +1,11 @@
 -- `octets::moves::bytes_left` meets its contract: after i turns the first i bytes are in place. Assumes nothing.
-use mathlib.Core.Path.{_≡_, refl, sym, ap, _∙_}
-use Prim.Native.Nat.{ℕ, _+_, _-_, _≤_, _<_}
+use mathlib.Core.Path.{_≡_, refl}
+use Prim.Native.Nat.{ℕ, _-_, _≤_}
 use mathlib.Core.List.{List}
 use native.Mathlib.Omega.{arith}
-use lib.ListN.{length, set, getD, length-set}
-use Rattle.octets.specs.Put.{put, cut, length-cut}
-use Rattle.octets.specs.Put.{set-behind, cut-behind, getD-put-after}
-use Rattle.octets.specs.Moves.{none-moved}
+use lib.ListN.{length, length-set}
+use Rattle.octets.specs.Put.{put, cut}
+use Rattle.octets.specs.Moves.{copy-none, copy-turn, copy-done, left-ahead}
 use Rattle.octets.proofs.moves.bytes_left.Statement.{statement}
 use Rattle.octets.proofs.moves.bytes_left.Tie as tie
 
@@ -15,21 +14,6 @@ record Inv (s₀ : List ℕ) (from to n : ℕ) (s : List ℕ) (i : ℕ) : Type 0
   is : s ≡ put s₀ to (cut from i s₀)
   long : length s ≡ length s₀
 
--- a turn
-turn : (s₀ s : List ℕ) (from to i : ℕ) → to ≤ from → from + i < length s₀ → s ≡ put s₀ to (cut from i s₀)
-    → set s (to + i) (getD s (from + i) 0) ≡ put s₀ to (cut from (i + 1) s₀)
-turn s₀ s from to i h f e =
-    let l : length (cut from i s₀) ≡ i = length-cut from i s₀ (omega arith) in
-    let g : getD s (from + i) 0 ≡ getD s₀ (from + i) 0 =
-    ap (λ (x : List ℕ). getD x (from + i) 0) e ∙ getD-put-after s₀ to (cut from i s₀) (from + i) (omega arith) (omega arith) in
-    (λ k. set (e k) (to + i) (g k)) ∙ set-behind s₀ to i (cut from i s₀) (getD s₀ (from + i) 0) l (omega arith)
-    ∙ ap (λ (x : List ℕ). put s₀ to x) (sym (cut-behind s₀ from i f))
-
-done : (s₀ s : List ℕ) (from to n i : ℕ) → i ≤ n → n ≤ i → s ≡ put s₀ to (cut from i s₀) → s ≡ put s₀ to (cut from n s₀)
-done s₀ s from to n i h f e =
-    let q : i ≡ n = omega arith in
-    e ∙ ap (λ (m : ℕ). put s₀ to (cut from m s₀)) q
-
 abbrev Inv-loop : tie.InvT-loop
 Inv-loop s₀ from to n i₀ s i = Inv s₀ from to n s i
 
@@ -37,7 +21,7 @@ abbrev μ-loop : tie.MeasureT-loop
 μ-loop s₀ from to n i₀ s i = n - i
 
 loop-holds : tie.Need-loop-holds Inv-loop μ-loop
-loop-holds c = record { most = omega arith; is = none-moved _ _ _ _; long = refl }
+loop-holds c = record { most = omega arith; is = copy-none _ _ _ _; long = refl }
 
 add-s : tie.Need-add-s Inv-loop μ-loop
 add-s c = omega arith
@@ -58,13 +42,13 @@ loop-less : tie.Need-loop-less Inv-loop μ-loop
 loop-less c = omega arith
 
 loop-again : tie.Need-loop-again Inv-loop μ-loop
-loop-again c = record { most = omega arith; is = turn _ _ _ _ _ (omega arith) (omega arith) (c .before .before .loop .inv .is); long = simp length-set (omega arith) }
+loop-again c = record { most = omega arith; is = copy-turn _ _ _ _ _ _ (omega arith) (omega arith) (left-ahead _ _ _ _ _ (omega arith) (omega arith) (c .before .before .loop .inv .is)) (c .before .before .loop .inv .is); long = simp length-set (omega arith) }
 
 same-length : tie.Need-same-length Inv-loop μ-loop
 same-length c = c .before .loop .inv .long
 
 returns : tie.Need-returns Inv-loop μ-loop
-returns c = done _ _ _ _ _ _ (omega arith) (omega arith) (c .before .loop .inv .is)
+returns c = copy-done _ _ _ _ _ _ _ (omega arith) (omega arith) (c .before .loop .inv .is)
 
 pub bytes-left-spec : {M : Type 1} → statement M
 bytes-left-spec =

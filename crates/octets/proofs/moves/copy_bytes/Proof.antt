@@ -1,13 +1,12 @@
 -- `octets::moves::copy_bytes` meets its contract: after i turns the first i bytes of src are in place. Assumes nothing.
 use mathlib.Core.Path.{_≡_, refl, sym, ap, _∙_}
 use Prim.Native.Nat.{ℕ, _+_, _-_, _≤_, _<_}
-use mathlib.Core.List.{List, _++_, _∷_, []}
+use mathlib.Core.List.{List}
 use native.Mathlib.Omega.{arith}
 use native.Mathlib.Nat.{zero-add}
 use lib.ListN.{length, set, getD, length-set}
-use Rattle.octets.specs.Put.{put, cut, length-cut}
-use Rattle.octets.specs.Put.{set-behind, cut-behind, cut-all}
-use Rattle.octets.specs.Moves.{none-moved}
+use Rattle.octets.specs.Put.{put, cut, cut-all}
+use Rattle.octets.specs.Moves.{copy-none, copy-turn, copy-done}
 use Rattle.octets.proofs.moves.copy_bytes.Statement.{statement}
 use Rattle.octets.proofs.moves.copy_bytes.Tie as tie
 
@@ -17,16 +16,11 @@ record Inv (d₀ : List ℕ) (at : ℕ) (s d : List ℕ) (i : ℕ) : Type 0 wher
   long : length d ≡ length d₀
 
 turn : (d₀ d s : List ℕ) (at i : ℕ) → i < length s → at + i < length d₀ → d ≡ put d₀ at (cut 0 i s) → set d (at + i) (getD s i 0) ≡ put d₀ at (cut 0 (i + 1) s)
-turn d₀ d s at i h f e =
-    let g : cut 0 (i + 1) s ≡ cut 0 i s ++ (getD s i 0 ∷ []) =
-    cut-behind s 0 i (omega arith) ∙ ap (λ (m : ℕ). cut 0 i s ++ (getD s m 0 ∷ [])) (zero-add i) in
-    ap (λ (x : List ℕ). set x (at + i) (getD s i 0)) e ∙ set-behind d₀ at i (cut 0 i s) (getD s i 0) (length-cut 0 i s (omega arith)) f
-    ∙ ap (λ (x : List ℕ). put d₀ at x) (sym g)
+turn d₀ d s at i h f e = copy-turn d₀ d s at 0 i (omega arith) f (ap (λ (k : ℕ). getD s k 0) (sym (zero-add i))) e
 
 done : (d₀ d s : List ℕ) (at i : ℕ) → i ≤ length s → length s ≤ i → d ≡ put d₀ at (cut 0 i s) → d ≡ put d₀ at s
 done d₀ d s at i h f e =
-    let q : i ≡ length s = omega arith in
-    e ∙ ap (λ (m : ℕ). put d₀ at (cut 0 m s)) q ∙ ap (λ (x : List ℕ). put d₀ at x) (cut-all s)
+    copy-done d₀ d s at 0 (length s) i h f e ∙ ap (put d₀ at) (cut-all s)
 
 abbrev Inv-loop : tie.InvT-loop
 Inv-loop dst₀ at src i₀ dst i = Inv dst₀ at src dst i
@@ -37,7 +31,7 @@ abbrev μ-loop : tie.MeasureT-loop
 loop-holds : tie.Need-loop-holds Inv-loop μ-loop
 loop-holds c = record {
   most = omega arith;
-  is = none-moved _ _ _ _;
+  is = copy-none _ _ _ _;
   long = refl;
 }
 

@@ -1,8 +1,9 @@
 -- `octets::moves::copy_in` meets its contract. Assumes nothing.
-use mathlib.Core.Path.{_≡_, refl, ap, _∙_}
+use mathlib.Core.Path.{_≡_, sym, ap, _∙_}
 use Prim.Native.Nat.{ℕ, _+_, _-_, _≤_}
 use mathlib.Core.List.{List}
 use native.Mathlib.Omega.{arith}
+use native.Mathlib.Nat.{zero-add}
 use lib.ListN.{length, take, drop}
 use Rattle.octets.specs.Put.{put, cut, cut-all}
 use Rattle.octets.specs.Moves.{copy-on}
@@ -17,7 +18,7 @@ rest : (d y x s : List ℕ) (at i : ℕ) → i ≤ length s → at + length s �
 unfolding cut
 rest d y x s at i h f p q =
     let e : length s ≡ i + (length s - i) = omega arith in
-    whole d x s at (copy-on d y x s at i (length s - i) (length s) (omega arith) f e p q)
+    whole d x s at (copy-on d y x s at 0 i (length s - i) (length s) (omega arith) f e (ap (λ (k : ℕ). take (length s - i) (drop k s)) (sym (zero-add i))) p q)
 
 copy-ends-requires : tie.Need-copy-ends-requires
 copy-ends-requires c κs = search needs

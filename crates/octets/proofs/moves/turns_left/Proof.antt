@@ -1,11 +1,11 @@
 -- `octets::moves::turns_left` meets its contract: the first i bytes are in place. Assumes nothing.
 use mathlib.Core.Path.{_≡_, refl}
-use Prim.Native.Nat.{ℕ, _+_, _-_, _≤_}
+use Prim.Native.Nat.{ℕ, _-_, _≤_}
 use mathlib.Core.List.{List}
 use native.Mathlib.Omega.{arith}
 use lib.ListN.{length}
 use Rattle.octets.specs.Put.{put, cut}
-use Rattle.octets.specs.Moves.{none-moved, left-on}
+use Rattle.octets.specs.Moves.{copy-none, left-on}
 use Rattle.octets.proofs.moves.turns_left.Statement.{statement}
 use Rattle.octets.proofs.moves.turns_left.Tie as tie
 
@@ -21,7 +21,7 @@ abbrev μ-loop : tie.MeasureT-loop
 μ-loop s₀ from to n i₀ s i = n - i
 
 loop-holds : tie.Need-loop-holds Inv-loop μ-loop
-loop-holds c = record { most = omega arith; is = none-moved _ _ _ _; long = refl }
+loop-holds c = record { most = omega arith; is = copy-none _ _ _ _; long = refl }
 
 sub-loop : tie.Need-sub-loop Inv-loop μ-loop
 sub-loop c = omega arith
