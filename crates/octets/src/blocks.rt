@@ -1,6 +1,6 @@
-// 32 bytes at once: four numbers, each read and written by one instruction.
+// Blocks of 32 bytes, held as four numbers between reading and writing.
 //
-// A block is read whole before a byte of another place is written, so a move by blocks may overlap itself.
+// The compiler makes two instructions of reading a block and two of writing it.
 use super::LITTLE;
 use super::get_u64;
 use super::put_u64;

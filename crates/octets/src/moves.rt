@@ -1,6 +1,8 @@
 // Moves within one slice, and copies between two.
 //
-// 32 to 64 bytes are two blocks, its first and its last bytes, which may share some. More are moved in turns of 64, and what is left byte by byte.
+// A run of 32 to 64 bytes is its first block and its last one, which may share bytes. Both are read
+// before either is written, so it may overlap the place it goes to. A longer run goes in turns of 64
+// bytes, from the end that is safe, and what the turns leave goes byte by byte.
 use super::blocks::SIZE;
 use super::blocks::get_block;
 use super::blocks::put_block;
@@ -27,7 +29,7 @@ pub fn slide(s: &mut [u8], from: usize, to: usize, n: usize)
     }
 }
 
-// Both ends are read before either is written.
+// In two blocks.
 fn slide_ends(s: &mut [u8], from: usize, to: usize, n: usize)
     requires { ⌜ (32 ≤ n) × (n ≤ 64) × (from + n ≤ length (now s)) × (to + n ≤ length (now s)) ⌝ }
     ensures { λ _. ⌜ now (s .exit) ≡ put (now (s .entry)) to (cut from n (now (s .entry))) ⌝ }
@@ -119,7 +121,7 @@ pub fn copy_in(dst: &mut [u8], at: usize, src: &[u8])
     copy_bytes(dst, at + done, &src[done..n]);
 }
 
-// The n bytes of src from index from on.
+// The n bytes of src from index from on, in two blocks.
 fn copy_ends(dst: &mut [u8], at: usize, src: &[u8], from: usize, n: usize)
     requires { ⌜ (32 ≤ n) × (n ≤ 64) × (from + n ≤ length (now src)) × (at + n ≤ length (now dst)) ⌝ }
     ensures { λ _. ⌜ now (dst .exit) ≡ put (now (dst .entry)) at (cut from n (now (src .entry))) ⌝ }
