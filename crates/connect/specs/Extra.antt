@@ -1,27 +1,20 @@
 -- Laws over the words of `octets` that are missing there. Assumes nothing.
 use mathlib.Core.Path.{_≡_, refl, sym, ap, _∙_}
 use mathlib.Core.Bool.{Bool, true, false}
-use mathlib.Core.List.{List, _++_, append-assoc}
+use mathlib.Core.List.{List, _++_}
 use Prim.Native.Nat.{ℕ, _+_, _-_, _≤_}
 use native.Mathlib.Nat.{zero-add}
 use native.Mathlib.Omega.{arith}
-use lib.ListN.{length, take, drop, length-append}
-use lib.Seq.{take-at, drop-at, length-take-le}
+use lib.ListN.{length, take, drop}
+use lib.Seq.{take-at, drop-at}
 use Rattle.octets.specs.Logic.{both, apart}
-use Rattle.octets.specs.Put.{put, cut, cut-cut}
+use Rattle.octets.specs.Put.{cut, cut-cut}
 
 -- where the first test holds, the second decides
 pub both-rest : (a b : Bool) → a ≡ true → b ≡ both a b
 unfolding both
 both-rest true b h = refl
 both-rest false b h = apart refl (sym h)
-
--- bytes put behind the first n
-pub take-put : (s : List ℕ) (n : ℕ) (x : List ℕ) → n + length x ≤ length s → take (n + length x) (put s n x) ≡ take n s ++ x
-unfolding put
-take-put s n x h =
-    let l : length (take n s ++ x) ≡ n + length x = omega (arith, length-append (take n s) x, length-take-le n s (omega arith)) in
-    rw (← append-assoc (take n s) x (drop (n + length x) s)) (take-at (take n s ++ x) (drop (n + length x) s) (n + length x) l)
 
 -- a part between two ends is a cut
 pub part-cut : (s : List ℕ) (a n : ℕ) → take (a + n - a) (drop a s) ≡ cut a n s

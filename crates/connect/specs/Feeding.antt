@@ -9,9 +9,8 @@ use lib.Seq.{length-take-le}
 use lib.Dec.{ltb, leb, eqb}
 use borrow.Author.Tests.{ltb-true, ltb-false, le-leb, lt-leb, ne-eqb, not-false}
 use Rattle.octets.specs.Logic.{choose, both}
-use Rattle.octets.specs.Put.{put}
+use Rattle.octets.specs.Put.{put, take-put}
 use Rattle.refusal.specs.Answer.{gives, gives-past, gives-rest}
-use Rattle.connect.specs.Extra.{take-put}
 use Rattle.connect.specs.Handshake.{head, replyLength, aim, Progress, waits, complete, filledTo, reached, advanced}
 use Rattle.connect.specs.Sound.{Sound, sound-is}
 use Rattle.connect.specs.AimLaws.{aim-head, aim-reply, aim-grows, reply-held}

@@ -12,12 +12,11 @@ use borrow.Author.Tests.{leb-true, ltb-true, lt-ltb, le-ltb, eq-eqb, eqb-true, n
 use Rattle.octets.specs.Logic.{choose, both, both-left, both-right}
 use Rattle.octets.specs.Bytes.{legal}
 use Rattle.octets.specs.Field.{field}
-use Rattle.octets.specs.Put.{put, cut, length-put, take-put-before}
+use Rattle.octets.specs.Put.{put, cut, length-put, take-put, take-put-before}
 use Rattle.refusal.specs.Answer.{Answer, gives, refuses, refuse, gives-past, gives-rest}
 use Rattle.connect.specs.Handshake.{head, replyLength, aim, room, fresh, made, Progress, waits, complete, filledTo, reached, advanced}
 use Rattle.connect.specs.Sound.{Sound, is-sound}
 use Rattle.connect.specs.AimLaws.{aim-head, aim-held}
-use Rattle.connect.specs.Extra.{take-put}
 use Rattle.connect.specs.Feeding.{joined, stateOf, Feeds, isReply, Fed, moved, state-is, sound-filled, fed}
 use Rattle.connect.specs.FedLaws.{state-of-bytes, progress-one, setup-of, within-fed, text-held}
 use Rattle.connect.specs.Setup.{authenticate, authenticateOf, readReply, setup, vendorPlace, reasonPlace, textAt}

@@ -3,17 +3,16 @@ use mathlib.Core.Path.{_≡_, refl, sym, ap, _∙_, subst}
 use mathlib.Core.Bool.{Bool, true, false}
 use mathlib.Core.List.{List, [], _∷_, _++_}
 use mathlib.Core.Logic.{_⊎_, inl, inr}
-use Prim.Native.Nat.{ℕ, suc, _+_, _-_, _*_, _/_, _%_, _≤_, _<_, _^_}
+use Prim.Native.Nat.{ℕ, suc, _+_, _-_, _*_, _≤_, _<_, _^_}
 use native.Mathlib.Omega.{arith}
-use native.Mathlib.Decide.{decLt}
 use lib.Dec.{eqb}
 use lib.Pow.{pow-add}
-use lib.ListN.{length, take, drop, getD, length-take, List·getD-eq-default}
+use lib.ListN.{length, take, drop, getD}
 use lib.Seq.{take-at, drop-at, drop-drop}
 use borrow.Author.Tests.{eq-eqb, eqb-true}
 use Rattle.octets.specs.Logic.{choose, both, both-left, both-right, both-yes, apart}
-use Rattle.octets.specs.Bytes.{littleOrder, lowBytes, lowNumber, turned, bytesOf, numberIn, length-bytesOf, number-bytes}
-use Rattle.octets.specs.Put.{put, cut, put-put, take-put-before, drop-put-after, cut-cut, getD-cut, take-cut, drop-cut}
+use Rattle.octets.specs.Bytes.{littleOrder, word, Octets, lowNumber, turned, numberIn, length-bytesOf, number-bytes}
+use Rattle.octets.specs.Put.{cut, cut-cut, take-cut, drop-cut}
 use Rattle.octets.specs.Field.{field, field-one}
 
 -- ---- tests
@@ -89,16 +88,6 @@ cut-left s at m a b e h = sym (take-cut s at m (length a) h) ∙ ap (λ (l : Lis
 pub cut-right : (s : List ℕ) (at m : ℕ) (a b : List ℕ) → cut at m s ≡ a ++ b → length a ≤ m → cut (at + length a) (m - length a) s ≡ b
 cut-right s at m a b e h = sym (drop-cut s at m (length a) h) ∙ ap (λ (l : List ℕ). drop (length a) l) e ∙ drop-at a b (length a) refl
 
--- writing on behind what was written
-pub put-next : (s s₁ s₂ : List ℕ) (at n : ℕ) (v w : List ℕ) → s₁ ≡ put s at v → length v ≡ n → s₂ ≡ put s₁ (at + n) w → at + n + length w ≤ length s → s₂ ≡ put s at (v ++ w)
-put-next s s₁ s₂ at n v w p l q h = q ∙ ap (λ (x : List ℕ). put x (at + n) w) p ∙ put-put s at n v w l h
-
--- a put that covers one before
-pub put-cover : (s : List ℕ) (at k : ℕ) (v w : List ℕ) → at ≤ k → k + length v ≤ at + length w → k + length v ≤ length s → put (put s k v) at w ≡ put s at w
-unfolding put
-put-cover s at k v w h f r =
-    λ j. take-put-before s k v at h (omega arith) j ++ (w ++ drop-put-after s k v (at + length w) f r j)
-
 -- ---- fields
 
 -- a field of a cut
@@ -118,10 +107,6 @@ pub field-front : (o : ℕ) (s : List ℕ) (at m k n : ℕ) → k + n ≤ m → 
 unfolding field cut
 field-front o s at m k n h = field-cut o s at m k n h ∙ sym (field-drop o s at k n)
 
--- a number as n bytes, least significant first
-abbrev pub word : ℕ → ℕ → List ℕ
-word n x = bytesOf littleOrder n x
-
 pub field-first : (n x : ℕ) (b : List ℕ) → x < 2 ^ (8 * n) → field littleOrder 0 n (word n x ++ b) ≡ x
 unfolding field
 field-first n x b h = ap (numberIn littleOrder) (cut-first (word n x) b n (length-bytesOf littleOrder n x)) ∙ number-bytes littleOrder n x h
@@ -129,24 +114,6 @@ field-first n x b h = ap (numberIn littleOrder) (cut-first (word n x) b n (lengt
 pub field-skip : (n x k m : ℕ) (b : List ℕ) → field littleOrder (n + k) m (word n x ++ b) ≡ field littleOrder k m b
 unfolding field
 field-skip n x k m b = ap (numberIn littleOrder) (cut-skip (word n x) b n k m (length-bytesOf littleOrder n x))
-
--- every element is a byte
-abbrev pub Octets : List ℕ → Type 0
-Octets s = (i : ℕ) → getD s i 0 < 256
-
-low-read : (bs : List ℕ) → Octets bs → lowBytes (length bs) (lowNumber bs) ≡ bs
-unfolding lowBytes lowNumber
-low-read [] h = refl
-low-read (b ∷ bs) h =
-    let p : b < 256 = h 0 in
-    let q : (b + 256 * lowNumber bs) % 256 ≡ b = omega arith in
-    let r : (b + 256 * lowNumber bs) / 256 ≡ lowNumber bs = omega arith in
-    (λ k. q k ∷ lowBytes (length bs) (r k)) ∙ ap (λ (l : List ℕ). b ∷ l) (low-read bs (λ i. h (suc i)))
-
--- Write after read: bytes are what their number is written as.
-pub word-number : (bs : List ℕ) (n : ℕ) → length bs ≡ n → Octets bs → word n (numberIn littleOrder bs) ≡ bs
-unfolding bytesOf numberIn turned choose
-word-number bs n e h = ap (λ (m : ℕ). lowBytes m (lowNumber bs)) (sym e) ∙ low-read bs h
 
 low-below : (bs : List ℕ) → Octets bs → lowNumber bs < 2 ^ (8 * length bs)
 unfolding lowNumber
@@ -157,16 +124,7 @@ low-below (b ∷ bs) h =
     let q : 2 ^ (8 * suc (length bs)) ≡ 256 * 2 ^ (8 * length bs) = rw (e, pow-add 2 8 (8 * length bs)) in
     omega (arith, q, low-below bs (λ i. h (suc i)))
 
--- and their number fits as many.
+-- the number of n bytes fits n bytes
 pub number-below : (bs : List ℕ) (n : ℕ) → length bs ≡ n → Octets bs → numberIn littleOrder bs < 2 ^ (8 * n)
 unfolding numberIn turned choose
 number-below bs n e h = subst (λ (m : ℕ). lowNumber bs < 2 ^ (8 * m)) e (low-below bs h)
-
-pub octets-cut : (at n : ℕ) (s : List ℕ) → Octets s → Octets (cut at n s)
-unfolding cut
-octets-cut at n s h i = elim (decLt i n) [ yes p ↦ rw (getD-cut s at n i p) (h (at + i)) | no q ↦ past q ]
-  where
-    past : (i < n → ⊥) → getD (cut at n s) i 0 < 256
-    past q =
-        let e : getD (cut at n s) i 0 ≡ 0 = List·getD-eq-default (cut at n s) 0 (omega (arith, length-take n (drop at s))) in
-        omega arith

@@ -17,10 +17,10 @@ use lib.Dec.{leb, ltb, eqb}
 use lib.ListN.{length, set, length-append}
 use borrow.Author.Tests.{leb-true, ltb-true, le-leb, lt-ltb}
 use Rattle.octets.specs.Logic.{choose, both, both-left, both-right, both-yes}
-use Rattle.octets.specs.Bytes.{littleOrder, length-bytesOf, bytes-one}
-use Rattle.octets.specs.Put.{put, cut, cut-add, length-cut, put-parts, put-none, set-two}
-use Rattle.octets.specs.Field.{field, putField}
-use Rattle.held.specs.General.{word, Octets, octets-cut, cut-first, cut-skip, field-first, field-skip, word-number, put-next}
+use Rattle.octets.specs.Bytes.{littleOrder, word, Octets, word-number, length-bytesOf, bytes-one}
+use Rattle.octets.specs.Put.{put, cut, cut-add, length-cut, put-parts, put-none, put-next, set-two}
+use Rattle.octets.specs.Field.{field, putField, octets-cut}
+use Rattle.held.specs.General.{cut-first, cut-skip, field-first, field-skip}
 
 abbrev pub numberAt : ℕ
 numberAt = 0

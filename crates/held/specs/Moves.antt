@@ -7,8 +7,8 @@ use lib.Dec.{leb, ltb}
 use lib.ListN.{length, length-append}
 use borrow.Author.Tests.{le-leb, lt-leb, le-ltb, lt-ltb}
 use Rattle.octets.specs.Logic.{choose}
-use Rattle.octets.specs.Put.{put, cut, length-cut, length-put, cut-put-after, cut-put-inside}
-use Rattle.held.specs.General.{choose-yes, choose-no, put-cover}
+use Rattle.octets.specs.Put.{put, cut, put-cover, length-cut, length-put, cut-put-after, cut-put-inside}
+use Rattle.held.specs.General.{choose-yes, choose-no}
 use Rattle.held.specs.Head.{Held, cost, encoded, headerSize, countAt, event, mostPacket}
 use Rattle.held.specs.Reading.{inside, used}
 use Rattle.held.specs.declared.Window.{Window}

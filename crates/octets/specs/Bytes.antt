@@ -8,7 +8,7 @@ use mathlib.Core.List.{List, [], _∷_, _++_, reverse, reverse-append, reverse-r
 use lib.Dec.{eqb}
 use borrow.Author.Tests.{eq-eqb, ne-eqb}
 use lib.Pow.{field, mod-mod-pow, shr-shr, shr-lt, pow-add}
-use lib.ListN.{length, length-append, length-reverse}
+use lib.ListN.{length, getD, length-append, length-reverse}
 use Rattle.octets.specs.Logic.{choose, either}
 
 -- Core, Connection Setup: the byte `l` (154 octal) says least significant byte first, `B` (102 octal) most significant byte first.
@@ -122,6 +122,28 @@ length-bytesOf o n x = length-turned o (lowBytes n x) ∙ length-lowBytes n x
 pub number-bytes : (o n x : ℕ) → x < 2 ^ (8 * n) → numberIn o (bytesOf o n x) ≡ x
 unfolding numberIn bytesOf
 number-bytes o n x h = ap lowNumber (turned-turned o (lowBytes n x)) ∙ lowNumber-lowBytes n x h
+
+-- a number as n bytes, least significant first
+abbrev pub word : ℕ → ℕ → List ℕ
+word n x = bytesOf littleOrder n x
+
+-- every element is a byte
+abbrev pub Octets : List ℕ → Type 0
+Octets s = (i : ℕ) → getD s i 0 < 256
+
+low-read : (bs : List ℕ) → Octets bs → lowBytes (length bs) (lowNumber bs) ≡ bs
+unfolding lowBytes lowNumber
+low-read [] h = refl
+low-read (b ∷ bs) h =
+    let p : b < 256 = h 0 in
+    let q : (b + 256 * lowNumber bs) % 256 ≡ b = omega arith in
+    let r : (b + 256 * lowNumber bs) / 256 ≡ lowNumber bs = omega arith in
+    (λ k. q k ∷ lowBytes (length bs) (r k)) ∙ ap (λ (l : List ℕ). b ∷ l) (low-read bs (λ i. h (suc i)))
+
+-- Write after read: bytes are what their number is written as.
+pub word-number : (bs : List ℕ) (n : ℕ) → length bs ≡ n → Octets bs → word n (numberIn littleOrder bs) ≡ bs
+unfolding bytesOf numberIn turned choose
+word-number bs n e h = ap (λ (m : ℕ). lowBytes m (lowNumber bs)) (sym e) ∙ low-read bs h
 
 -- A field is its two halves, in either order and for each width: as it is written,
 pub bytes-halves : (o n x : ℕ) → bytesOf o n (ordered o (x % 2 ^ (8 * n)) (x / 2 ^ (8 * n))) ++ bytesOf o n (ordered o (x / 2 ^ (8 * n)) (x % 2 ^ (8 * n))) ≡ bytesOf o (n + n) x

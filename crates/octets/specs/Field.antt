@@ -4,9 +4,10 @@ use Prim.Native.Nat.{ℕ, zero, suc, _+_, _*_, _/_, _%_, _≤_, _<_, _^_}
 use native.Mathlib.Nat.{suc-add, mul-suc}
 use native.Mathlib.Omega.{arith}
 use mathlib.Core.List.{List, [], _∷_, _++_}
-use lib.ListN.{length, getD, set}
-use Rattle.octets.specs.Bytes.{bytesOf, numberIn, ordered, length-bytesOf, number-bytes, bytes-halves, number-halves, number-one, bytes-one}
-use Rattle.octets.specs.Put.{put, cut, put-put, cut-put, cut-put-before, cut-put-after, cut-add, cut-one, length-cut, set-one}
+use native.Mathlib.Decide.{decLt}
+use lib.ListN.{length, take, drop, getD, set, length-append, length-take, List·getD-eq-default}
+use Rattle.octets.specs.Bytes.{littleOrder, word, Octets, word-number, bytesOf, numberIn, ordered, length-bytesOf, number-bytes, bytes-halves, number-halves, number-one, bytes-one}
+use Rattle.octets.specs.Put.{put, cut, put-put, put-next, getD-cut, cut-put, cut-put-before, cut-put-after, cut-add, cut-one, length-cut, set-one}
 
 -- the number in the n bytes of s from index at on
 unfoldable pub field : ℕ → ℕ → ℕ → List ℕ → ℕ
@@ -78,3 +79,41 @@ fields-behind o w at zero s = let e : at ≡ at + w * 0 = omega arith in ap (λ 
 fields-behind o w at (suc n) s =
     let e : at + w + w * n ≡ at + w * suc n = omega (arith, mul-suc w n) in
     rw suc-add (ap (λ (l : List ℕ). field o at w s ∷ l) (fields-behind o w (at + w) n s ∙ ap (λ (k : ℕ). fields o w (at + w) n s ++ (field o k w s ∷ [])) e))
+
+pub octets-cut : (at n : ℕ) (s : List ℕ) → Octets s → Octets (cut at n s)
+unfolding cut
+octets-cut at n s h i = elim (decLt i n) [ yes p ↦ rw (getD-cut s at n i p) (h (at + i)) | no q ↦ past q ]
+  where
+    past : (i < n → ⊥) → getD (cut at n s) i 0 < 256
+    past q =
+        let e : getD (cut at n s) i 0 ≡ 0 = List·getD-eq-default (cut at n s) 0 (omega (arith, length-take n (drop at s))) in
+        omega arith
+
+-- four numbers of eight bytes each, least significant first, side by side
+unfoldable pub four : ℕ → ℕ → ℕ → ℕ → List ℕ
+four a b c d = word 8 a ++ word 8 b ++ word 8 c ++ word 8 d
+
+-- Read from a list they are its bytes,
+pub four-read : (s : List ℕ) (at : ℕ) {a b c d : ℕ} → Octets s → at + 32 ≤ length s → a ≡ field littleOrder at 8 s → b ≡ field littleOrder (at + 8) 8 s
+    → c ≡ field littleOrder (at + 16) 8 s → d ≡ field littleOrder (at + 24) 8 s → four a b c d ≡ cut at 32 s
+unfolding four field
+four-read s at o h p q r t =
+    (λ k. word 8 (p k) ++ word 8 (q k) ++ word 8 (r k) ++ word 8 (t k))
+    ∙ (λ k. one at (omega arith) k ++ one (at + 8) (omega arith) k ++ one (at + 16) (omega arith) k ++ one (at + 24) (omega arith) k)
+    ∙ sym (cut-add at 24 8 s ∙ ap (λ (l : List ℕ). l ++ cut (at + 24) 8 s) (cut-add at 16 8 s ∙ ap (λ (l : List ℕ). l ++ cut (at + 16) 8 s) (cut-add at 8 8 s)))
+  where
+    one : (k : ℕ) → k + 8 ≤ length s → word 8 (numberIn littleOrder (cut k 8 s)) ≡ cut k 8 s
+    one k f = word-number (cut k 8 s) 8 (length-cut k 8 s f) (octets-cut k 8 s o)
+
+-- and written one by one they are one run.
+pub four-put : (s s₁ s₂ s₃ s₄ : List ℕ) (at a b c d : ℕ) → at + 32 ≤ length s → s₁ ≡ putField littleOrder s at 8 a → s₂ ≡ putField littleOrder s₁ (at + 8) 8 b
+    → s₃ ≡ putField littleOrder s₂ (at + 16) 8 c → s₄ ≡ putField littleOrder s₃ (at + 24) 8 d → s₄ ≡ put s at (four a b c d)
+unfolding four putField
+four-put s s₁ s₂ s₃ s₄ at a b c d h p q r t =
+    let la : length (word 8 a) ≡ 8 = length-bytesOf littleOrder 8 a in
+    let lb : length (word 8 b) ≡ 8 = length-bytesOf littleOrder 8 b in
+    let lc : length (word 8 c) ≡ 8 = length-bytesOf littleOrder 8 c in
+    let ld : length (word 8 d) ≡ 8 = length-bytesOf littleOrder 8 d in
+    let q₂ : s₂ ≡ put s at (word 8 a ++ word 8 b) = put-next s s₁ s₂ at 8 _ _ p la q (omega arith) in
+    let q₃ : s₃ ≡ put s at (word 8 a ++ word 8 b ++ word 8 c) = put-next s s₂ s₃ at 16 _ _ q₂ (simp (length-append, length-bytesOf)) r (omega arith) in
+    put-next s s₃ s₄ at 24 _ _ q₃ (simp (length-append, length-bytesOf)) t (omega arith)

@@ -6,7 +6,7 @@ use native.Mathlib.Numerals.{add-one}
 use native.Mathlib.Omega.{arith}
 use mathlib.Core.List.{List, [], _∷_, _++_, append-assoc, append-nil}
 use lib.ListN.{length, take, drop, getD, set, length-append, length-drop, take-append-drop, List·getD-append}
-use lib.Seq.{take-append-le, drop-append-le, take-at, drop-at, drop-drop, take-take, length-take-le, take-nil, take-suc, drop-cons, set-split, set-at, getD-take, getD-drop, take-add, take-length}
+use lib.Seq.{take-append-le, drop-append-le, take-at, drop-at, drop-drop, take-take, length-take-le, take-nil, take-suc, drop-cons, set-split, set-at, getD-take, getD-drop, take-add, take-length, drop-nil}
 
 -- s with the elements v over those from index at on
 unfoldable pub put : List ℕ → ℕ → List ℕ → List ℕ
@@ -25,6 +25,11 @@ length-put s at v h = simp (length-append, length-take-le at s (omega arith), le
 pub put-none : (s : List ℕ) (at : ℕ) → put s at [] ≡ s
 unfolding put
 put-none s at = rw (add-zero at) (take-append-drop at s)
+
+-- into an empty list
+pub put-empty : (v : List ℕ) → put [] 0 v ≡ v
+unfolding put
+put-empty v = ap (λ (l : List ℕ). v ++ l) (drop-nil (0 + length v)) ∙ append-nil v
 
 -- over the middle of three parts
 pub put-parts : (a x c : List ℕ) (at : ℕ) (v : List ℕ) → length a ≡ at → length x ≡ length v → put (a ++ (x ++ c)) at v ≡ a ++ (v ++ c)
@@ -49,7 +54,11 @@ put-put s at n v w e h =
     ∙ ap (λ (k : ℕ). drop k s) q in
     (λ k. t k ++ (w ++ d k)) ∙ simp append-assoc
 
--- writing on from the start
+-- writing on behind what was written
+pub put-next : (s s₁ s₂ : List ℕ) (at n : ℕ) (v w : List ℕ) → s₁ ≡ put s at v → length v ≡ n → s₂ ≡ put s₁ (at + n) w → at + n + length w ≤ length s → s₂ ≡ put s at (v ++ w)
+put-next s s₁ s₂ at n v w p l q h = q ∙ ap (λ (x : List ℕ). put x (at + n) w) p ∙ put-put s at n v w l h
+
+-- and from the start
 pub put-more : (s s₁ s₂ : List ℕ) (n : ℕ) (v w : List ℕ) → length v ≡ n → n + length w ≤ length s → s₁ ≡ put s 0 v → s₂ ≡ put s₁ n w → s₂ ≡ put s 0 (v ++ w)
 put-more s s₁ s₂ n v w e h p q =
     q ∙ (λ k. put (p k) (sym (zero-add n) k) w) ∙ put-put s 0 n v w e (omega arith)
@@ -73,6 +82,13 @@ drop-put s at v f =
     rw (← append-assoc (take at s) v (drop (at + length v) s))
     (drop-at (take at s ++ v) (drop (at + length v) s) (at + length v) (length-append (take at s) v ∙ ap (λ (k : ℕ). k + length v) (length-take-le at s (omega arith))))
 
+-- up to its end
+pub take-put : (s : List ℕ) (n : ℕ) (x : List ℕ) → n + length x ≤ length s → take (n + length x) (put s n x) ≡ take n s ++ x
+unfolding put
+take-put s n x h =
+    let l : length (take n s ++ x) ≡ n + length x = omega (arith, length-append (take n s) x, length-take-le n s (omega arith)) in
+    rw (← append-assoc (take n s) x (drop (n + length x) s)) (take-at (take n s ++ x) (drop (n + length x) s) (n + length x) l)
+
 pub drop-put-after : (s : List ℕ) (at : ℕ) (v : List ℕ) (k : ℕ) → at + length v ≤ k → at + length v ≤ length s → drop k (put s at v) ≡ drop k s
 drop-put-after s at v k h f =
     let e : at + length v + (k - (at + length v)) ≡ k = omega arith in
@@ -81,6 +97,25 @@ drop-put-after s at v k h f =
     ∙ ap (λ (l : List ℕ). drop (k - (at + length v)) l) (drop-put s at v f)
     ∙ drop-drop (k - (at + length v)) (at + length v) s
     ∙ ap (λ (m : ℕ). drop m s) e
+
+-- a put that covers one before
+pub put-cover : (s : List ℕ) (at k : ℕ) (v w : List ℕ) → at ≤ k → k + length v ≤ at + length w → k + length v ≤ length s → put (put s k v) at w ≡ put s at w
+unfolding put
+put-cover s at k v w h f r =
+    λ j. take-put-before s k v at h (omega arith) j ++ (w ++ drop-put-after s k v (at + length w) f r j)
+
+-- writing on ahead of what was written
+pub put-ahead : (s : List ℕ) (at n : ℕ) (v w : List ℕ) → length v ≡ n → at + n + length w ≤ length s → put (put s (at + n) w) at v ≡ put s at (v ++ w)
+unfolding put
+put-ahead s at n v w e h =
+    let t : take at (put s (at + n) w) ≡ take at s = take-put-before s (at + n) w at (omega arith) (omega arith) in
+    let m : at + length v ≡ at + n = omega arith in
+    let q : at + n + length w ≡ at + length (v ++ w) = omega (arith, length-append v w) in
+    let d : drop (at + length v) (put s (at + n) w) ≡ w ++ drop (at + length (v ++ w)) s =
+    ap (λ (k : ℕ). drop k (take (at + n) s ++ (w ++ drop (at + n + length w) s))) m
+    ∙ drop-at (take (at + n) s) (w ++ drop (at + n + length w) s) (at + n) (length-take-le (at + n) s (omega arith))
+    ∙ ap (λ (k : ℕ). w ++ drop k s) q in
+    (λ k. t k ++ (v ++ d k)) ∙ ap (λ (l : List ℕ). take at s ++ l) (sym (append-assoc v w (drop (at + length (v ++ w)) s)))
 
 pub getD-put-before : (s : List ℕ) (at : ℕ) (v : List ℕ) (k : ℕ) → k < at → at ≤ length s → getD (put s at v) k 0 ≡ getD s k 0
 unfolding put
@@ -197,6 +232,16 @@ pub cut-put : (s : List ℕ) (at : ℕ) (v : List ℕ) (n : ℕ) → length v �
 unfolding cut put
 cut-put s at v n e f =
     ap (λ (l : List ℕ). take n l) (drop-at (take at s) (v ++ drop (at + length v) s) at (length-take-le at s (omega arith))) ∙ take-at v (drop (at + length v) s) n e
+
+-- what stands there already
+pub put-same : (s : List ℕ) (at n : ℕ) → at + n ≤ length s → put s at (cut at n s) ≡ s
+unfolding put cut
+put-same s at n h =
+    let l : at + length (take n (drop at s)) ≡ at + n = ap (λ (k : ℕ). at + k) (length-cut at n s h) in
+    ap (λ (k : ℕ). take at s ++ (take n (drop at s) ++ drop k s)) l
+    ∙ ap (λ (t : List ℕ). take at s ++ (take n (drop at s) ++ t)) (sym (drop-drop n at s))
+    ∙ ap (λ (t : List ℕ). take at s ++ t) (take-append-drop n (drop at s))
+    ∙ take-append-drop at s
 
 -- a put within a cut
 pub cut-put-inside : (s : List ℕ) (a n k : ℕ) (v : List ℕ) → k + length v ≤ n → a + n ≤ length s → cut a n (put s (a + k) v) ≡ put (cut a n s) k v

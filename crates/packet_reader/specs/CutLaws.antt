@@ -1,7 +1,7 @@
 -- Laws of the length of a packet and of cutting a run. Assumes nothing.
 use mathlib.Core.Path.{_≡_, refl, sym, ap, _∙_}
 use mathlib.Core.Bool.{Bool, true, false}
-use mathlib.Core.List.{List, [], _∷_, _++_, append-assoc}
+use mathlib.Core.List.{List, [], _∷_, _++_}
 use Prim.Native.Nat.{ℕ, zero, suc, _+_, _-_, _*_, _≤_, _<_}
 use native.Mathlib.Omega.{arith}
 use lib.ListN.{length, take, drop, getD, length-append, take-append-drop, List·getD-append}
@@ -10,7 +10,7 @@ use lib.Dec.{ltb}
 use borrow.Author.Tests.{ltb-true, ltb-false, lt-ltb, le-ltb}
 use Rattle.octets.specs.Logic.{choose}
 use Rattle.octets.specs.Bytes.{numberIn}
-use Rattle.octets.specs.Put.{put, cut, cut-append}
+use Rattle.octets.specs.Put.{cut, cut-append}
 use Rattle.octets.specs.Field.{field}
 use Rattle.packet_reader.specs.Frame.{fixed, hasLength, total, totalOf, aim, Cut, cons, cuts}
 
@@ -81,12 +81,3 @@ cut-packet o (suc n) p u R e h k =
     let q : length p ≤ length (p ++ u) = omega arith in
     let r : cuts o n u ≡ R = k n (omega arith) in
     simp (t, le-ltb _ _ q, take-at p u (length p) refl, drop-at p u (length p) refl, r)
-
--- ---- the bytes held
-
--- bytes put behind those that are filled
-pub held-more : (s : List ℕ) (f : ℕ) (x : List ℕ) → f + length x ≤ length s → take (f + length x) (put s f x) ≡ take f s ++ x
-unfolding put
-held-more s f x h =
-    let l : length (take f s ++ x) ≡ f + length x = omega (arith, length-append (take f s) x, length-take-le f s (omega arith)) in
-    rw (← append-assoc (take f s) x (drop (f + length x) s)) (take-at (take f s ++ x) (drop (f + length x) s) (f + length x) l)

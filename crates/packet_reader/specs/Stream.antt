@@ -9,12 +9,12 @@ use lib.Seq.{length-take-le}
 use lib.Dec.{ltb}
 use borrow.Author.Tests.{ltb-true, ltb-false, not-false}
 use Rattle.octets.specs.Logic.{choose}
-use Rattle.octets.specs.Put.{put, length-put, take-put-before}
+use Rattle.octets.specs.Put.{put, length-put, take-put, take-put-before}
 use Rattle.refusal.specs.Answer.{Answer, gives, refuses, refuse, gives-past, gives-rest}
 use Rattle.packet_reader.specs.Frame.{fixed, aim, Cut, cons, cuts, cutPackets}
 use Rattle.packet_reader.specs.Reader.{Progress, waits, whole, fresh, soundb, reached, advanced}
 use Rattle.packet_reader.specs.Sound.{Sound, sound-is, is-sound}
-use Rattle.packet_reader.specs.CutLaws.{aim-head, aim-held, aim-grows, held-more, cut-rest, cut-packet}
+use Rattle.packet_reader.specs.CutLaws.{aim-head, aim-held, aim-grows, cut-rest, cut-packet}
 use Rattle.packet_reader.specs.declared.PacketReader.{PacketReader}
 
 -- pieces in a row
@@ -99,7 +99,7 @@ fed o {r} {s = s} (more {r₁ = r₁} {x = x} {xs = xs} p q) e h n b =
     let f : r₁ .filled ≡ r .filled + length x = ap (λ (y : PacketReader). y .filled) (sym (m .1 .1)) in
     let c : r₁ .order ≡ o = ap (λ (y : PacketReader). y .order) (sym (m .1 .1)) ∙ e in
     let g : take (r₁ .filled) s' ≡ take (r .filled) s ++ x =
-    ap (λ (k : ℕ). take k s') f ∙ held-more s (r .filled) x (omega (arith, h .target-fits, h .not-reached, m .0 .within)) in
+    ap (λ (k : ℕ). take k s') f ∙ take-put s (r .filled) x (omega (arith, h .target-fits, h .not-reached, m .0 .within)) in
     let w : take (r .filled) s ++ (x ++ joined xs) ≡ take (r₁ .filled) s' ++ joined xs =
     sym (append-assoc (take (r .filled) s) x (joined xs)) ∙ ap (λ (y : List ℕ). y ++ joined xs) (sym g) in
     let d : Sound r₁ s' = subst (λ (y : PacketReader). Sound y s') (m .1 .1) (sound-grown r s' (length x) (m .0) (m .1 .0)) in
@@ -108,7 +108,7 @@ fed o {r} {r₂} {s} {s₂} (packet {r₁ = r₁} {x = x} {xs = xs} {ps = ps} {t
     let s' : List ℕ = put s (r .filled) x in
     let m = from-packet r s' (length x) r₁ t p in
     let g : take t s' ≡ take (r .filled) s ++ x =
-    ap (λ (k : ℕ). take k s') (sym (m .1 .0)) ∙ held-more s (r .filled) x (omega (arith, h .target-fits, h .not-reached, m .0 .within)) in
+    ap (λ (k : ℕ). take k s') (sym (m .1 .0)) ∙ take-put s (r .filled) x (omega (arith, h .target-fits, h .not-reached, m .0 .within)) in
     let w : take (r .filled) s ++ (x ++ joined xs) ≡ take t s' ++ joined xs =
     sym (append-assoc (take (r .filled) s) x (joined xs)) ∙ ap (λ (y : List ℕ). y ++ joined xs) (sym g) in
     let i : t ≤ length s' = omega (arith, m .0 .fits, m .1 .1 .0) in

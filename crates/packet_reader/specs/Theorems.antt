@@ -8,12 +8,12 @@ use lib.ListN.{length, take}
 use lib.Dec.{ltb}
 use borrow.Author.Tests.{ltb-true, ltb-false, le-ltb}
 use Rattle.octets.specs.Logic.{choose}
-use Rattle.octets.specs.Put.{put, length-put, take-put-before}
+use Rattle.octets.specs.Put.{put, length-put, take-put, take-put-before}
 use Rattle.refusal.specs.Answer.{Answer, gives, refuses, refuse}
 use Rattle.packet_reader.specs.Frame.{aim, Cut, cutPackets}
 use Rattle.packet_reader.specs.Reader.{Progress, waits, whole, fresh, reached, advanced}
 use Rattle.packet_reader.specs.Sound.{Sound, is-sound}
-use Rattle.packet_reader.specs.CutLaws.{aim-held, held-more}
+use Rattle.packet_reader.specs.CutLaws.{aim-held}
 use Rattle.packet_reader.specs.Stream.{joined, Feeds, grown, Moved, fed, sound-grown, sound-fresh}
 use Rattle.packet_reader.specs.declared.PacketReader.{PacketReader}
 
@@ -71,7 +71,7 @@ module _ (r : PacketReader) (s x : List ℕ) (h : Sound r s) (k : length x ≤ r
       let b : r .filled + length x ≤ length s = bound in
       let l : length (put s (r .filled) x) ≡ length s = size in
       let a : aim (r .order) (take (r .filled) s ++ x) (r .filled + length x) ≡ aim (r .order) (put s (r .filled) x) (r .filled + length x) =
-      ap (λ (y : List ℕ). aim (r .order) y (r .filled + length x)) (sym (held-more s (r .filled) x b))
+      ap (λ (y : List ℕ). aim (r .order) y (r .filled + length x)) (sym (take-put s (r .filled) x b))
       ∙ aim-held (r .order) (put s (r .filled) x) (r .filled + length x) (omega arith) in
       let u : length (put s (r .filled) x) < aim (r .order) (put s (r .filled) x) (r .filled + length x) = ltb-true _ _ p in
       too-long (omega arith)

@@ -4,8 +4,8 @@ use mathlib.Core.List.{List, [], _∷_, _++_}
 use Prim.Native.Nat.{ℕ, zero, suc, _+_, _-_, _≤_, _<_}
 use native.Mathlib.Omega.{arith}
 use lib.ListN.{length, take, drop, take-append-drop, length-drop}
-use lib.Seq.{take-all, drop-drop}
-use Rattle.octets.specs.Put.{put, cut, cut-none, length-cut}
+use lib.Seq.{take-all}
+use Rattle.octets.specs.Put.{put, cut, put-same, cut-none}
 use Rattle.held.specs.Head as Record
 use Rattle.held.specs.Reading as Store
 use Rattle.held.specs.Reading.{fdsIn, All, Rising}
@@ -49,15 +49,6 @@ lower-before n from (x ∷ a) it b e p R =
     below i j h d = omega arith
 
 -- closing none changes nothing
-put-same : (s : List ℕ) (at n : ℕ) → at + n ≤ length s → put s at (cut at n s) ≡ s
-unfolding put cut
-put-same s at n h =
-    let l : length (take n (drop at s)) ≡ n = length-cut at n s h in
-    ap (λ (k : ℕ). take at s ++ (take n (drop at s) ++ drop (at + k) s)) l
-    ∙ ap (λ (x : List ℕ). take at s ++ (take n (drop at s) ++ x)) (sym (drop-drop n at s))
-    ∙ ap (λ (x : List ℕ). take at s ++ x) (take-append-drop n (drop at s))
-    ∙ take-append-drop at s
-
 close-none : (at : ℕ) (d : Slots.Room) → Slots.Sound d → at ≤ d .counts .held → Slots.closeHeld at 0 d ≡ d
 unfolding Slots.closeHeld Slots.closeRun
 close-none at d S h =

@@ -5,7 +5,7 @@ use Prim.Native.Nat.{ℕ, _+_, _-_, _≤_}
 use native.Mathlib.Omega.{arith}
 use lib.Dec.{eqb}
 use lib.ListN.{length, take, drop, getD}
-use Rattle.octets.specs.Put.{cut, length-cut}
+use Rattle.octets.specs.Put.{cut, put-empty, length-cut}
 use Rattle.held.specs.Head as Record
 use Rattle.held.specs.Reading as Store
 use Rattle.held.specs.Rows.{fdsIn-append}
@@ -23,7 +23,7 @@ use Rattle.model.specs.Reading.{Rooms, rooms, slotsOf, withDescriptors, eventOf
 use Rattle.model.specs.Sound.{Sound}
 use Rattle.model.specs.declared.Connection.{Connection}
 use Rattle.polling.specs.Exact.{Ready, leftState, packetAt, eventAt, replyAt, without, turnedEvent, handingOut, closing, errorAt}
-use Rattle.polling.specs.Rows.{put-empty, events-append, heldWith, find-at, with-split, with-without}
+use Rattle.polling.specs.Rows.{events-append, heldWith, find-at, with-split, with-without}
 
 module _ (c : Connection) (r : Rooms) (S : Sound c r) where
   -- the part that a poll needs

@@ -1,15 +1,15 @@
 -- Laws of lists that the theorems cite: the oldest of a number in a row with descriptors, and the row without it. Assumes nothing.
 use mathlib.Core.Path.{_≡_, refl, sym, ap, _∙_}
 use mathlib.Core.Bool.{Bool, true, false}
-use mathlib.Core.List.{List, [], _∷_, _++_, map, append-nil}
+use mathlib.Core.List.{List, [], _∷_, _++_, map}
 use Prim.Native.Nat.{ℕ, _+_, _≤_}
 use native.Mathlib.Omega.{arith}
 use lib.Dec.{eqb}
 use lib.ListN.{length, take, drop, take-append-drop}
-use lib.Seq.{drop-nil, drop-at, drop-drop, length-take-le}
+use lib.Seq.{drop-at, drop-drop, length-take-le}
 use borrow.Author.Tests.{eq-eqb, ne-eqb}
 use Rattle.octets.specs.Logic.{choose}
-use Rattle.octets.specs.Put.{put, cut}
+use Rattle.octets.specs.Put.{cut}
 use Rattle.refusal.specs.Answer.{Answer, gives, refuse}
 use Rattle.held.specs.General.{choose-yes, choose-no}
 use Rattle.held.specs.Head as Record
@@ -35,12 +35,6 @@ pub model-choose : {A : Type 0} (b : Bool) (x y : Answer (Done A)) → modelOf (
 unfolding choose
 model-choose true x y = refl
 model-choose false x y = refl
-
--- ---- what an empty output shows
-
-pub put-empty : (v : List ℕ) → put [] 0 v ≡ v
-unfolding put
-put-empty v = ap (λ (l : List ℕ). v ++ l) (drop-nil (0 + length v)) ∙ append-nil v
 
 -- ---- events
 

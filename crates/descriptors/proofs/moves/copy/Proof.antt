@@ -5,7 +5,7 @@ use native.Mathlib.Omega.{arith}
 use mathlib.Core.List.{List}
 use lib.ListN.{length, length-set}
 use Rattle.octets.specs.Put.{put, cut}
-use Rattle.descriptors.specs.Runs.{copy-none, copy-turn, copy-done}
+use Rattle.octets.specs.Moves.{copy-none, copy-turn, copy-done}
 use Rattle.descriptors.proofs.moves.copy.Statement.{statement}
 use Rattle.descriptors.proofs.moves.copy.Tie as tie
 

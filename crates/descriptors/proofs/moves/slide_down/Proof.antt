@@ -1,11 +1,11 @@
 -- `descriptors::moves::slide_down` meets its contract. Assumes nothing.
-use mathlib.Core.Path.{_≡_, refl, ap, _∙_}
-use Prim.Native.Nat.{ℕ, _+_, _-_, _≤_, _<_}
+use mathlib.Core.Path.{_≡_, refl}
+use Prim.Native.Nat.{ℕ, _-_, _≤_}
 use native.Mathlib.Omega.{arith}
 use mathlib.Core.List.{List}
-use lib.ListN.{length, getD, length-set}
-use Rattle.octets.specs.Put.{put, cut, length-cut, getD-put-after}
-use Rattle.descriptors.specs.Runs.{copy-none, copy-turn, copy-done}
+use lib.ListN.{length, length-set}
+use Rattle.octets.specs.Put.{put, cut}
+use Rattle.octets.specs.Moves.{copy-none, copy-turn, copy-done, left-ahead}
 use Rattle.descriptors.proofs.moves.slide_down.Statement.{statement}
 use Rattle.descriptors.proofs.moves.slide_down.Tie as tie
 
@@ -13,12 +13,6 @@ record Inv (s₀ : List ℕ) (from to n : ℕ) (s : List ℕ) (i : ℕ) : Type 0
   most : i ≤ n
   is : s ≡ put s₀ to (cut from i s₀)
   long : length s ≡ length s₀
-
--- an element that is still to be moved is as it was
-ahead : (s₀ s : List ℕ) (from to i : ℕ) → to ≤ from → from + i < length s₀ → s ≡ put s₀ to (cut from i s₀) → getD s (from + i) 0 ≡ getD s₀ (from + i) 0
-ahead s₀ s from to i h f e =
-    let l : length (cut from i s₀) ≡ i = length-cut from i s₀ (omega arith) in
-    ap (λ (x : List ℕ). getD x (from + i) 0) e ∙ getD-put-after s₀ to (cut from i s₀) (from + i) (omega arith) (omega arith)
 
 abbrev Inv-loop : tie.InvT-loop
 Inv-loop s₀ from to n i₀ s i = Inv s₀ from to n s i
@@ -54,7 +48,7 @@ loop-less : tie.Need-loop-less Inv-loop μ-loop
 loop-less c = omega arith
 
 loop-again : tie.Need-loop-again Inv-loop μ-loop
-loop-again c = record { most = omega arith; is = copy-turn _ _ _ _ _ _ (omega arith) (omega arith) (ahead _ _ _ _ _ (omega arith) (omega arith) (c .before .before .loop .inv .is)) (c .before .before .loop .inv .is); long = simp length-set (omega arith) }
+loop-again c = record { most = omega arith; is = copy-turn _ _ _ _ _ _ (omega arith) (omega arith) (left-ahead _ _ _ _ _ (omega arith) (omega arith) (c .before .before .loop .inv .is)) (c .before .before .loop .inv .is); long = simp length-set (omega arith) }
 
 same-length : tie.Need-same-length Inv-loop μ-loop
 same-length c = c .before .loop .inv .long

@@ -1,81 +1,70 @@
--- `octets::moves::copy_in` meets its contract: after i turns the first i bytes of src are in place. Assumes nothing.
-use mathlib.Core.Path.{_≡_, refl, sym, ap, _∙_}
-use Prim.Native.Nat.{ℕ, _+_, _-_, _≤_, _<_}
-use mathlib.Core.List.{List, _++_, _∷_, []}
+-- `octets::moves::copy_in` meets its contract. Assumes nothing.
+use mathlib.Core.Path.{_≡_, sym, ap, _∙_}
+use Prim.Native.Nat.{ℕ, _+_, _-_, _≤_}
+use mathlib.Core.List.{List}
 use native.Mathlib.Omega.{arith}
 use native.Mathlib.Nat.{zero-add}
-use lib.ListN.{length, set, getD, length-set}
-use Rattle.octets.specs.Put.{put, cut, length-cut}
-use Rattle.octets.specs.Put.{set-behind, cut-behind, cut-none, put-none, cut-all}
+use lib.ListN.{length, take, drop}
+use Rattle.octets.specs.Put.{put, cut, cut-all}
+use Rattle.octets.specs.Moves.{copy-on}
+use borrow.Author.Needs.{needs}
 use Rattle.octets.proofs.moves.copy_in.Statement.{statement}
 use Rattle.octets.proofs.moves.copy_in.Tie as tie
 
-record Inv (d₀ : List ℕ) (at : ℕ) (s d : List ℕ) (i : ℕ) : Type 0 where
-  most : i ≤ length s
-  is : d ≡ put d₀ at (cut 0 i s)
-  long : length d ≡ length d₀
+whole : (d x s : List ℕ) (at : ℕ) → x ≡ put d at (cut 0 (length s) s) → x ≡ put d at s
+whole d x s at e = e ∙ ap (put d at) (cut-all s)
 
-turn : (d₀ d s : List ℕ) (at i : ℕ) → i < length s → at + i < length d₀ → d ≡ put d₀ at (cut 0 i s) → set d (at + i) (getD s i 0) ≡ put d₀ at (cut 0 (i + 1) s)
-turn d₀ d s at i h f e =
-    let g : cut 0 (i + 1) s ≡ cut 0 i s ++ (getD s i 0 ∷ []) =
-    cut-behind s 0 i (omega arith) ∙ ap (λ (m : ℕ). cut 0 i s ++ (getD s m 0 ∷ [])) (zero-add i) in
-    ap (λ (x : List ℕ). set x (at + i) (getD s i 0)) e ∙ set-behind d₀ at i (cut 0 i s) (getD s i 0) (length-cut 0 i s (omega arith)) f
-    ∙ ap (λ (x : List ℕ). put d₀ at x) (sym g)
+rest : (d y x s : List ℕ) (at i : ℕ) → i ≤ length s → at + length s ≤ length d → y ≡ put d at (cut 0 i s) → x ≡ put y (at + i) (take (length s - i) (drop i s)) → x ≡ put d at s
+unfolding cut
+rest d y x s at i h f p q =
+    let e : length s ≡ i + (length s - i) = omega arith in
+    whole d x s at (copy-on d y x s at 0 i (length s - i) (length s) (omega arith) f e (ap (λ (k : ℕ). take (length s - i) (drop k s)) (sym (zero-add i))) p q)
 
-done : (d₀ d s : List ℕ) (at i : ℕ) → i ≤ length s → length s ≤ i → d ≡ put d₀ at (cut 0 i s) → d ≡ put d₀ at s
-done d₀ d s at i h f e =
-    let q : i ≡ length s = omega arith in
-    e ∙ ap (λ (m : ℕ). put d₀ at (cut 0 m s)) q ∙ ap (λ (x : List ℕ). put d₀ at x) (cut-all s)
+copy-ends-requires : tie.Need-copy-ends-requires
+copy-ends-requires c κs = search needs
 
-abbrev Inv-loop : tie.InvT-loop
-Inv-loop dst₀ at src i₀ dst i = Inv dst₀ at src dst i
+same-length : tie.Need-same-length
+same-length c = search needs
 
-abbrev μ-loop : tie.MeasureT-loop
-μ-loop dst₀ at src i₀ dst i = length src - i
+returns : tie.Need-returns
+returns c = whole _ _ _ _ (c .before .before .copy-ends .ensures)
 
-loop-holds : tie.Need-loop-holds Inv-loop μ-loop
-loop-holds c = record {
-  most = omega arith;
-  is = sym (ap (λ (x : List ℕ). put (c .args .dst .now) (c .args .at) x) (cut-none _ _) ∙ put-none _ _);
-  long = refl;
-}
+copy-turns-requires : tie.Need-copy-turns-requires
+copy-turns-requires c κs = search needs
 
-shared-slice-read-dst : tie.Need-shared-slice-read-dst Inv-loop μ-loop
-shared-slice-read-dst c = omega arith
+add-copy-bytes : tie.Need-add-copy-bytes
+add-copy-bytes c = search needs
 
-add-dst : tie.Need-add-dst Inv-loop μ-loop
-add-dst c = omega arith
+sub-copy-bytes : tie.Need-sub-copy-bytes
+sub-copy-bytes c = search needs
 
-slice-write-dst : tie.Need-slice-write-dst Inv-loop μ-loop
-slice-write-dst c = omega arith
+part-copy-bytes-start : tie.Need-part-copy-bytes-start
+part-copy-bytes-start c = search needs
 
-add-i : tie.Need-add-i Inv-loop μ-loop
-add-i c = omega arith
+part-copy-bytes-end : tie.Need-part-copy-bytes-end
+part-copy-bytes-end c = search needs
 
-loop-less : tie.Need-loop-less Inv-loop μ-loop
-loop-less c = omega arith
+copy-bytes-requires : tie.Need-copy-bytes-requires
+copy-bytes-requires c κs = search needs
 
-loop-again : tie.Need-loop-again Inv-loop μ-loop
-loop-again c = record { most = omega arith; is = turn _ _ _ _ _ (omega arith) (omega arith) (c .before .before .loop .inv .is); long = simp length-set (omega arith) }
+same-length-2 : tie.Need-same-length-2
+same-length-2 c = search needs
 
-same-length : tie.Need-same-length Inv-loop μ-loop
-same-length c = c .before .loop .inv .long
-
-returns : tie.Need-returns Inv-loop μ-loop
-returns c = done _ _ _ _ _ (omega arith) (omega arith) (c .before .loop .inv .is)
+returns-2 : tie.Need-returns-2
+returns-2 c = rest _ _ _ _ _ _ (omega arith) (omega arith) (c .before .before .before .before .before .before .before .copy-turns .ensures .1) (c .before .before .copy-bytes .ensures)
 
 pub copy-in-spec : {M : Type 1} → statement M
 copy-in-spec =
     tie.close
     (tie.spec
-    Inv-loop
-    μ-loop
-    loop-holds
-    shared-slice-read-dst
-    add-dst
-    slice-write-dst
-    add-i
-    loop-less
-    loop-again
+    copy-ends-requires
     same-length
-    returns)
+    returns
+    copy-turns-requires
+    add-copy-bytes
+    sub-copy-bytes
+    part-copy-bytes-start
+    part-copy-bytes-end
+    copy-bytes-requires
+    same-length-2
+    returns-2)

@@ -1,83 +1,39 @@
--- `octets::moves::slide_left` meets its contract: after i turns the first i bytes are in place. Assumes nothing.
-use mathlib.Core.Path.{_≡_, refl, sym, ap, _∙_}
-use Prim.Native.Nat.{ℕ, _+_, _-_, _≤_, _<_}
-use mathlib.Core.List.{List}
+-- `octets::moves::slide_left` meets its contract. Assumes nothing.
 use native.Mathlib.Omega.{arith}
-use lib.ListN.{length, set, getD, length-set}
-use Rattle.octets.specs.Put.{put, cut, length-cut}
-use Rattle.octets.specs.Put.{set-behind, cut-behind, getD-put-after, cut-none, put-none}
+use Rattle.octets.specs.Moves.{left-on}
+use borrow.Author.Needs.{needs}
 use Rattle.octets.proofs.moves.slide_left.Statement.{statement}
 use Rattle.octets.proofs.moves.slide_left.Tie as tie
 
-record Inv (s₀ : List ℕ) (from to n : ℕ) (s : List ℕ) (i : ℕ) : Type 0 where
-  most : i ≤ n
-  is : s ≡ put s₀ to (cut from i s₀)
-  long : length s ≡ length s₀
+turns-left-requires : tie.Need-turns-left-requires
+turns-left-requires c κs = search needs
 
--- a turn
-turn : (s₀ s : List ℕ) (from to i : ℕ) → to ≤ from → from + i < length s₀ → s ≡ put s₀ to (cut from i s₀)
-    → set s (to + i) (getD s (from + i) 0) ≡ put s₀ to (cut from (i + 1) s₀)
-turn s₀ s from to i h f e =
-    let l : length (cut from i s₀) ≡ i = length-cut from i s₀ (omega arith) in
-    let g : getD s (from + i) 0 ≡ getD s₀ (from + i) 0 =
-    ap (λ (x : List ℕ). getD x (from + i) 0) e ∙ getD-put-after s₀ to (cut from i s₀) (from + i) (omega arith) (omega arith) in
-    (λ k. set (e k) (to + i) (g k)) ∙ set-behind s₀ to i (cut from i s₀) (getD s₀ (from + i) 0) l (omega arith)
-    ∙ ap (λ (x : List ℕ). put s₀ to x) (sym (cut-behind s₀ from i f))
+add-bytes-left : tie.Need-add-bytes-left
+add-bytes-left c = search needs
 
-done : (s₀ s : List ℕ) (from to n i : ℕ) → i ≤ n → n ≤ i → s ≡ put s₀ to (cut from i s₀) → s ≡ put s₀ to (cut from n s₀)
-done s₀ s from to n i h f e =
-    let q : i ≡ n = omega arith in
-    e ∙ ap (λ (m : ℕ). put s₀ to (cut from m s₀)) q
+add-bytes-left-2 : tie.Need-add-bytes-left-2
+add-bytes-left-2 c = search needs
 
-abbrev Inv-loop : tie.InvT-loop
-Inv-loop s₀ from to n i₀ s i = Inv s₀ from to n s i
+sub-bytes-left : tie.Need-sub-bytes-left
+sub-bytes-left c = search needs
 
-abbrev μ-loop : tie.MeasureT-loop
-μ-loop s₀ from to n i₀ s i = n - i
+bytes-left-requires : tie.Need-bytes-left-requires
+bytes-left-requires c κs = search needs
 
-loop-holds : tie.Need-loop-holds Inv-loop μ-loop
-loop-holds c = record { most = omega arith; is = sym (ap (λ (x : List ℕ). put (c .args .s .now) (c .args .to) x) (cut-none _ _) ∙ put-none _ _); long = refl }
+same-length : tie.Need-same-length
+same-length c = search needs
 
-add-s : tie.Need-add-s Inv-loop μ-loop
-add-s c = omega arith
-
-slice-read-s : tie.Need-slice-read-s Inv-loop μ-loop
-slice-read-s c = omega arith
-
-add-s-2 : tie.Need-add-s-2 Inv-loop μ-loop
-add-s-2 c = omega arith
-
-slice-write-s : tie.Need-slice-write-s Inv-loop μ-loop
-slice-write-s c = omega arith
-
-add-i : tie.Need-add-i Inv-loop μ-loop
-add-i c = omega arith
-
-loop-less : tie.Need-loop-less Inv-loop μ-loop
-loop-less c = omega arith
-
-loop-again : tie.Need-loop-again Inv-loop μ-loop
-loop-again c = record { most = omega arith; is = turn _ _ _ _ _ (omega arith) (omega arith) (c .before .before .loop .inv .is); long = simp length-set (omega arith) }
-
-same-length : tie.Need-same-length Inv-loop μ-loop
-same-length c = c .before .loop .inv .long
-
-returns : tie.Need-returns Inv-loop μ-loop
-returns c = done _ _ _ _ _ _ (omega arith) (omega arith) (c .before .loop .inv .is)
+returns : tie.Need-returns
+returns c = left-on _ _ _ _ _ _ _ _ (omega arith) (omega arith) (omega arith) (c .before .before .before .before .before .before .turns-left .ensures .1) (c .before .before .bytes-left .ensures)
 
 pub slide-left-spec : {M : Type 1} → statement M
 slide-left-spec =
     tie.close
     (tie.spec
-    Inv-loop
-    μ-loop
-    loop-holds
-    add-s
-    slice-read-s
-    add-s-2
-    slice-write-s
-    add-i
-    loop-less
-    loop-again
+    turns-left-requires
+    add-bytes-left
+    add-bytes-left-2
+    sub-bytes-left
+    bytes-left-requires
     same-length
     returns)
