@@ -110,12 +110,12 @@ impl Script {
 
     /// Descriptors come; none where many are inside already.
     fn fds(&mut self, count: u32) {
-        if self.state().waiting.len() > 40 {
+        if count == 0 || self.state().waiting.len() > 40 {
             return;
         }
         let list: Vec<String> = (0..count).map(|i| (self.next_fd + i).to_string()).collect();
         self.next_fd += count;
-        self.op(format!("fds {}", list.join(" ")).trim_end());
+        self.op(&format!("fds {}", list.join(" ")));
     }
 
     /// A packet of a code and a number. One that takes descriptors claims no more than wait.
@@ -376,7 +376,9 @@ fn filled(s: &mut Script, stream: &[u8]) {
             1 => s.chance.below(room as u64 + 1) as usize,
             _ => room.min(5),
         };
-        s.op(&format!("fill {}", hex(&rest[..n])));
+        if n > 0 {
+            s.op(&format!("fill {}", hex(&rest[..n])));
+        }
         s.op(&format!("advance {n}"));
         rest = &rest[n..];
     }
