@@ -1,5 +1,5 @@
 # The commands of the README, and the benchmark of docs/BENCH.md.
-.PHONY: run test bench library beside house
+.PHONY: run test bench library beside record fuzz house
 
 # Prove the program `packets` and what it stands on, and run it on bytes that an X server sent.
 run:
@@ -32,6 +32,20 @@ $(ARCHIVE): $(wildcard crates/*/src/*.rt crates/*/specs/*.antt)
 # ARGS are a seed and how many runs of each kind, or 'long'.
 beside: $(ARCHIVE)
 	cd rust && XIENGMADO_RUST="$(abspath $(RUST))" cargo run --offline --quiet --profile beside -p beside -- $(ARGS)
+
+# What the published Rust in the folder RUST answers to the fixed runs of tests/recorded, which the tests replay.
+record: $(ARCHIVE)
+	cd rust && XIENGMADO_RUST="$(abspath $(RUST))" cargo run --offline --quiet --profile beside -p beside -- record ../tests/recorded
+
+# libFuzzer over the exports, by hand: the calls and checks of the fuzz test with its bytes as the choices. SECONDS says for
+# how long; what it finds interesting is kept in target/fuzz/corpus.
+FUZZ = $(addprefix tests/fuzz/,source.c lent.c sound.c report.c world.c client.c leaves.c readers.c exports.c libfuzzer.c)
+SECONDS = 60
+
+fuzz: $(ARCHIVE)
+	mkdir -p target/fuzz/corpus
+	clang -std=c11 -O2 -g -Wall -Wextra -Werror -DLIBFUZZER -fsanitize=fuzzer,address,undefined -Iinclude $(FUZZ) $(ARCHIVE) -o target/fuzz/libfuzzer
+	target/fuzz/libfuzzer -max_len=4096 -max_total_time=$(SECONDS) -print_final_stats=1 target/fuzz/corpus
 
 # The picture of docs/ARCHITECTURE.md, from crates.txt.
 house:

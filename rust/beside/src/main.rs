@@ -8,6 +8,8 @@
 //! ```text
 //! beside [SEED [RUNS]]       seeded runs of every kind
 //! beside long                more than 2^32 requests in one run
+//! beside answer SCRIPT       what the Rust answers to a script of the recorded runs' language
+//! beside record FOLDER       writes the recorded runs and their answers
 //! ```
 
 #[cfg(published)]
@@ -25,14 +27,24 @@ mod client;
 #[cfg(published)]
 mod leaves;
 #[cfg(published)]
+mod oracle;
+#[cfg(published)]
+mod record;
+#[cfg(published)]
+#[path = "../../tests/replay/mod.rs"]
+mod replay;
+#[cfg(published)]
 mod sessions;
 
 #[cfg(published)]
 fn main() {
     let words: Vec<String> = std::env::args().skip(1).collect();
     std::panic::set_hook(Box::new(|_| {}));
-    if words.first().is_some_and(|word| word == "long") {
-        return sessions::long();
+    match words.iter().map(String::as_str).collect::<Vec<_>>()[..] {
+        ["long"] => return sessions::long(),
+        ["answer", script] => return record::answer(script),
+        ["record", folder] => return record::record(folder),
+        _ => {}
     }
     let number = |i: usize, other| words.get(i).and_then(|w| w.parse().ok()).unwrap_or(other);
     let (seed, runs) = (number(0, 1), number(1, 200));

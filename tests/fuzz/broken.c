@@ -1,0 +1,64 @@
+/*
+ * The fuzz test's own test: calls that break a promise, put before those of the library by the
+ * linker's --wrap. The environment variable BROKEN says which; the fuzz test must see each of them.
+ */
+#include <stdlib.h>
+
+#include "xiengmado.h"
+
+static int broken(void) {
+    static int which = -1;
+    if (which < 0) which = atoi(getenv("BROKEN"));
+    return which;
+}
+
+#define STATE uint64_t *state, size_t state_len
+#define REQUESTS uint8_t *requests, size_t requests_len
+#define STORE uint8_t *store, size_t store_len
+#define SLOTS uint32_t *slots, size_t slots_len
+#define LENT state, state_len, requests, requests_len, store, store_len, slots, slots_len
+
+uint32_t __real_xm_send_request(STATE, REQUESTS, STORE, SLOTS, uint8_t kind, uint64_t *number);
+uint32_t __wrap_xm_send_request(STATE, REQUESTS, STORE, SLOTS, uint8_t kind, uint64_t *number) {
+    uint32_t answer = __real_xm_send_request(LENT, kind, number);
+    if (broken() == 1) requests[requests_len] ^= 1;                  /* a byte behind a slice */
+    if (broken() == 2) requests[-1] ^= 1;                            /* a byte in front of one */
+    if (broken() == 3) store[store_len - 1] ^= 1;                    /* a byte lent to be read */
+    if (broken() == 4 && answer != 0 && slots_len > 9) slots[9]++;   /* a change by a refusal */
+    if (broken() == 5 && answer == XM_SYNC_FIRST) return XM_NO_ROOM; /* a refusal never given */
+    if (broken() == 6 && answer == XM_NO_ROOM) return XM_BAD_ROOM;   /* 9 for a sound state */
+    if (broken() == 7 && answer == XM_NO_ROOM) return XM_OUT_SHORT;  /* a refusal not listed */
+    return answer;
+}
+
+uint32_t __real_xm_poll_for_reply(STATE, REQUESTS, STORE, SLOTS, uint64_t number, uint8_t *out,
+                                  size_t out_len, uint8_t *result, size_t *size);
+uint32_t __wrap_xm_poll_for_reply(STATE, REQUESTS, STORE, SLOTS, uint64_t number, uint8_t *out,
+                                  size_t out_len, uint8_t *result, size_t *size) {
+    uint32_t answer = __real_xm_poll_for_reply(LENT, number, out, out_len, result, size);
+    if (broken() == 8 && answer == XM_BAD_ROOM) return XM_OUT_SHORT;               /* 9 was due */
+    if (broken() == 9 && answer == 0 && *size < out_len) out[*size] ^= 1;          /* behind the packet */
+    if (broken() == 10 && answer == 0 && *result == 2) state[XM_STATE_WAITING]--;  /* unsound, at times */
+    if (broken() == 11 && answer == 0) *result = 0;                                /* outcomes missed */
+    if (broken() == 12 && answer != 0) *size = 0;                                  /* a number changed */
+    if (broken() == 13 && answer == 0) result[1] = 0;                              /* beside a number */
+    return answer;
+}
+
+uint32_t __real_xm_connect_advance(uint64_t *row, size_t row_len, const uint8_t *buf,
+                                   size_t buf_len, size_t amount, uint8_t *complete);
+uint32_t __wrap_xm_connect_advance(uint64_t *row, size_t row_len, const uint8_t *buf,
+                                   size_t buf_len, size_t amount, uint8_t *complete) {
+    uint32_t answer = __real_xm_connect_advance(row, row_len, buf, buf_len, amount, complete);
+    if (broken() == 14 && answer == 0) row[XM_READER_TARGET] |= 1; /* a target that the bytes don't give */
+    if (broken() == 15 && answer == XM_OVER_ADVANCE) row[XM_READER_FILLED]++;
+    return answer;
+}
+
+uint32_t __real_xm_ids_generate_id(uint64_t *ids, size_t ids_len, uint32_t *id);
+uint32_t __wrap_xm_ids_generate_id(uint64_t *ids, size_t ids_len, uint32_t *id) {
+    uint32_t answer = __real_xm_ids_generate_id(ids, ids_len, id);
+    if (broken() == 16 && answer == 0) ids[XM_IDS_NEXT] += ids[XM_IDS_STEP]; /* past the last, at times */
+    if (broken() == 17 && answer == 0) ids[ids_len] = 0;
+    return answer;
+}
