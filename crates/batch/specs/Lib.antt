@@ -1,0 +1,3 @@
+pub mod Send
+pub mod SendLaws
+pub mod Theorems

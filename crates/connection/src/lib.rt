@@ -19,6 +19,7 @@ use model::Polled;
 use model::Prepared;
 use model::ReplyFdKind;
 use model::Sent;
+use model::SentMany;
 use refusal::Refusal;
 ghost use mathlib.Core.Path.{_≡_};
 ghost use mathlib.Core.List.{List};
@@ -26,7 +27,8 @@ ghost use lib.ListN.{length};
 ghost use Rattle.model.specs.Model.{roomy};
 ghost use Rattle.model.specs.Reading.{rooms};
 ghost use Rattle.model.specs.Says.{saysNext, saysSent, saysEnqueued, saysPolled, saysPollReply, saysEvent, saysClosed, saysPrepared};
-ghost use Rattle.connection.specs.Calls.{Opens, Sends, EnqueuesFds, Enqueues, Discards, Polls, Checks, PollsReply, PollsEvent, Closes, Prepares, freshState as Calls·freshState};
+ghost use Rattle.model.specs.SaysBatch.{saysSentMany};
+ghost use Rattle.connection.specs.Calls.{Opens, Sends, EnqueuesFds, Enqueues, Discards, Polls, Checks, PollsReply, PollsEvent, Closes, Prepares, SendsMany, freshState as Calls·freshState};
 
 // A fresh connection in these rooms: its request room and its packet store have the lengths that
 // they are lent with from then on. Refused by 9 for a room out of range or other than 256 slots for
@@ -62,6 +64,24 @@ pub fn send_request(
         return Sent::Refused(Refusal::BadRoom);
     }
     sending::send_request(c, requests, kind)
+}
+
+// Requests were written, one for each byte: 0 without a reply, 1 with one, 2 with one that has
+// descriptors. Does as `send_request` for one after the other, up to the first that is refused or
+// to another byte, behind one test. Refused by 9 alone.
+pub fn send_requests(
+    c: Connection,
+    requests: &mut [u8],
+    store: &[u8],
+    slots: &[u32],
+    kinds: &[u8],
+) -> SentMany
+    ensures { λ r. ⌜ SendsMany c (rooms (now (requests .entry)) (now (store .entry)) (now (slots .entry))) (now (kinds .entry)) (saysSentMany r) (rooms (now (requests .exit)) (now (store .entry)) (now (slots .entry))) ⌝ }
+{
+    if !model::is_sound(c, requests, store, slots) {
+        return SentMany::Refused(Refusal::BadRoom);
+    }
+    batch::send_requests(c, requests, kinds)
 }
 
 // Descriptors came with bytes of the server: they wait for the replies that they belong to. Refused

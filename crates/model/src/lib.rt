@@ -114,3 +114,15 @@ pub enum Stop {
     Refused(Refusal),
     NoKind,
 }
+
+// `send_requests`: how many were sent, the last number written, and what stopped it.
+pub enum SentMany {
+    Sent(usize, SequenceNumber, Stop, Connection),
+    Refused(Refusal),
+}
+
+// `poll_for_events`: how many events are in the outputs, and how many bytes their packets are.
+pub enum Events {
+    Handed(usize, usize, Stop, Connection),
+    Refused(Refusal),
+}
