@@ -3,6 +3,8 @@
 //
 // What such a call comes to is a row of single calls (`model`, specs/Batch.antt): the law there
 // says once for all that a row of exact steps is the model's row and leaves a sound state.
+mod events;
 mod send;
 
+pub use events::poll_for_events;
 pub use send::send_requests;
