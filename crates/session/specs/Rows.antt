@@ -97,10 +97,8 @@ module _ (P : Connection → Rooms → Type 1)
   -- and so through `poll_for_events`.
   pub events-row : (c : Connection) (r : Rooms) → Sound c r → P c r → (out marks : List ℕ) (a : Answer (ShownHandings × Connection)) (r' : Rooms) (out' marks' : List ℕ) → PollsEvents c r out marks a r' out' marks' → P (stateOf a c) r'
   unfolding answerOf roomsOf eventsExact stateOf
-  events-row c r S p out marks a r' out' marks' h = go (eventsExact c r (length out) (length marks)) refl (k .answers ∙ ap (answerOf shownHandings) g) (k .leaves ∙ ap (λ y. roomsOf y r) g)
+  events-row c r S p out marks a r' out' marks' h = go (eventsExact c r (length out) (length marks)) refl (h .packets .promise .exact .answers ∙ ap (answerOf shownHandings) g) (h .packets .promise .exact .leaves ∙ ap (λ y. roomsOf y r) g)
     where
-      k = h .packets .promise .exact
-
       g : guarded c r (eventsExact c r (length out) (length marks)) ≡ eventsExact c r (length out) (length marks)
       g = guarded-on c r (eventsExact c r (length out) (length marks)) (is-sound c r S)
 
