@@ -13,12 +13,14 @@ use model::Connection;
 use model::DiscardMode;
 use model::Enqueued;
 use model::Event;
+use model::Events;
 use model::Next;
 use model::PollReply;
 use model::Polled;
 use model::Prepared;
 use model::ReplyFdKind;
 use model::Sent;
+use model::SentMany;
 use refusal::Refusal;
 ghost use mathlib.Core.Path.{_≡_};
 ghost use mathlib.Core.List.{List};
@@ -26,7 +28,8 @@ ghost use lib.ListN.{length};
 ghost use Rattle.model.specs.Model.{roomy};
 ghost use Rattle.model.specs.Reading.{rooms};
 ghost use Rattle.model.specs.Says.{saysNext, saysSent, saysEnqueued, saysPolled, saysPollReply, saysEvent, saysClosed, saysPrepared};
-ghost use Rattle.connection.specs.Calls.{Opens, Sends, EnqueuesFds, Enqueues, Discards, Polls, Checks, PollsReply, PollsEvent, Closes, Prepares, freshState as Calls·freshState};
+ghost use Rattle.model.specs.SaysBatch.{saysSentMany, saysEvents};
+ghost use Rattle.connection.specs.Calls.{Opens, Sends, EnqueuesFds, Enqueues, Discards, Polls, Checks, PollsReply, PollsEvent, Closes, Prepares, SendsMany, PollsEvents, freshState as Calls·freshState};
 
 // A fresh connection in these rooms: its request room and its packet store have the lengths that
 // they are lent with from then on. Refused by 9 for a room out of range or other than 256 slots for
@@ -62,6 +65,24 @@ pub fn send_request(
         return Sent::Refused(Refusal::BadRoom);
     }
     sending::send_request(c, requests, kind)
+}
+
+// Requests were written, one for each byte: 0 without a reply, 1 with one, 2 with one that has
+// descriptors. Does as `send_request` for one after the other, up to the first that is refused or
+// to another byte, behind one test. Refused by 9 alone.
+pub fn send_requests(
+    c: Connection,
+    requests: &mut [u8],
+    store: &[u8],
+    slots: &[u32],
+    kinds: &[u8],
+) -> SentMany
+    ensures { λ r. ⌜ SendsMany c (rooms (now (requests .entry)) (now (store .entry)) (now (slots .entry))) (now (kinds .entry)) (saysSentMany r) (rooms (now (requests .exit)) (now (store .entry)) (now (slots .entry))) ⌝ }
+{
+    if !model::is_sound(c, requests, store, slots) {
+        return SentMany::Refused(Refusal::BadRoom);
+    }
+    batch::send_requests(c, requests, kinds)
 }
 
 // Descriptors came with bytes of the server: they wait for the replies that they belong to. Refused
@@ -197,6 +218,26 @@ pub fn poll_for_event_with_sequence(
         return Event::Refused(Refusal::BadRoom);
     }
     polling::poll_for_event(c, store, out)
+}
+
+// As many events as fit, oldest first: their packets one behind the other in out, and two marks for
+// each, its number and the length of its packet. Does as `poll_for_event_with_sequence` for one
+// after the other, behind one test, and says whether an event is left that has no room. Refused by
+// 9, and 8 where there is an event and not even one fits.
+pub fn poll_for_events(
+    c: Connection,
+    requests: &[u8],
+    store: &mut [u8],
+    slots: &[u32],
+    out: &mut [u8],
+    marks: &mut [u64],
+) -> Events
+    ensures { λ r. ⌜ PollsEvents c (rooms (now (requests .entry)) (now (store .entry)) (now (slots .entry))) (now (out .entry)) (now (marks .entry)) (saysEvents r) (rooms (now (requests .entry)) (now (store .exit)) (now (slots .entry))) (now (out .exit)) (now (marks .exit)) ⌝ }
+{
+    if !model::is_sound(c, requests, store, slots) {
+        return Events::Refused(Refusal::BadRoom);
+    }
+    batch::poll_for_events(c, store, out, marks)
 }
 
 // The descriptors to be closed, whole and in their order. Refused by 9, and 8 where out has too few

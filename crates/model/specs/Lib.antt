@@ -7,3 +7,8 @@ pub mod Sound
 pub mod Promise
 pub mod Says
 pub mod ReadingLaws
+pub mod Batch
+pub mod BatchLaws
+pub mod SendRequests
+pub mod PollForEvents
+pub mod SaysBatch

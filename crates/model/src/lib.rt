@@ -104,3 +104,25 @@ pub enum Prepared {
     Answer(bool),
     Refused(Refusal),
 }
+
+// ---- what calls that make many steps answer: how far they came, what stopped them, and the state
+
+// What stopped it: the end of what it was given, the refusal of the next step, or an input that is
+// the byte of no kind.
+pub enum Stop {
+    End,
+    Refused(Refusal),
+    NoKind,
+}
+
+// `send_requests`: how many were sent, the last number written, and what stopped it.
+pub enum SentMany {
+    Sent(usize, SequenceNumber, Stop, Connection),
+    Refused(Refusal),
+}
+
+// `poll_for_events`: how many events are in the outputs, and how many bytes their packets are.
+pub enum Events {
+    Handed(usize, usize, Stop, Connection),
+    Refused(Refusal),
+}

@@ -1,3 +1,4 @@
 pub mod Session
+pub mod Rows
 pub mod Theorems
 pub mod Engines
