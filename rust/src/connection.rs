@@ -321,7 +321,9 @@ mod test {
     fn events_stop_where_an_output_ends() {
         let mut engine = Engine::new(ByteOrder::NATIVE, 8, 1024).unwrap();
         let short = Stop::Refused(Refusal::OutShort);
-        (1..=4).for_each(|n| drop(engine.enqueue_packet(&packet(2, n, n.into())).unwrap()));
+        for n in 1..=4 {
+            engine.enqueue_packet(&packet(2, n, n.into())).unwrap();
+        }
         let (mut out, mut marks) = ([7; 100], [9; 8]);
         assert_eq!(
             engine.poll_for_events(&mut out[..31], &mut marks),
