@@ -7,3 +7,6 @@ pub mod Sound
 pub mod Promise
 pub mod Says
 pub mod ReadingLaws
+pub mod Batch
+pub mod BatchLaws
+pub mod SaysBatch

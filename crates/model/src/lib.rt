@@ -104,3 +104,13 @@ pub enum Prepared {
     Answer(bool),
     Refused(Refusal),
 }
+
+// ---- what calls that make many steps answer: how far they came, what stopped them, and the state
+
+// What stopped it: the end of what it was given, the refusal of the next step, or an input that is
+// the byte of no kind.
+pub enum Stop {
+    End,
+    Refused(Refusal),
+    NoKind,
+}
