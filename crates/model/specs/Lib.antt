@@ -10,3 +10,4 @@ pub mod ReadingLaws
 pub mod Batch
 pub mod BatchLaws
 pub mod SaysBatch
+pub mod Feed
