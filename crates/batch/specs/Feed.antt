@@ -45,12 +45,12 @@ packetTurn s p = exactTook (length p) (enqueueExact (s .state) (s .left) p)
 abbrev pub row : ℕ → Site → Cut → Many Took Stopped Site
 row o s cut = many packetTurn (stopAt o (cut .left)) s (cut .packets)
 
-unfoldable pub feedExact : Connection → Rooms → List ℕ → Done Feeding
-feedExact c r bytes = exactMany feeding (row (c .order) (site c r) (cutPackets (c .order) bytes))
+unfoldable pub feedExact : Connection → Rooms → List ℕ → Answer (Done Feeding)
+feedExact c r bytes = gives (exactMany feeding (row (c .order) (site c r) (cutPackets (c .order) bytes)))
 
 -- THE STEP is exact.
 pub record FeedStep (c : Connection) (q s f bytes : List ℕ) (a : Fed) (s' f' : List ℕ) : Type 0 where
-  pub exact : Exact shownFed (gives (feedExact c (rooms q s f) bytes)) (rooms q s f) (saysFed a) (rooms q s' f')
+  pub exact : Exact shownFed (feedExact c (rooms q s f) bytes) (rooms q s f) (saysFed a) (rooms q s' f')
 
 -- ---- a turn of the loop, over the bytes ahead
 

@@ -21,7 +21,7 @@ use Rattle.intake.specs.Theorems.{enqueue-model, enqueue-sound}
 use Rattle.model.specs.Client.{Client}
 use Rattle.model.specs.Model.{Filing, enqueuePacket}
 use Rattle.model.specs.Reading.{Rooms, rooms, reads}
-use Rattle.model.specs.Promise.{Done, modelOf}
+use Rattle.model.specs.Promise.{Done, modelOf, gives-same}
 use Rattle.model.specs.Sound.{Sound}
 use Rattle.model.specs.Batch.{Turn, goes, stops, Many, onward, onTurn, many, Site, site, readSite, readTurn, Each}
 use Rattle.model.specs.BatchLaws.{goes-one, row-model, row-sound, row-goes, row-stops, row-ends}
@@ -180,15 +180,16 @@ turn-sound c r S p h v s q = enqueue-sound c r S p h _ (took-goes (length p) (en
 
 module _ (c : Connection) (r : Rooms) (S : Sound c r) (bytes : List ℕ) (h : (i : ℕ) → getD bytes i 0 < 256) where
   -- TAKING THE PACKETS OF A RUN IN is the model's,
-  pub feed-model : modelOf (gives (feedExact c r bytes)) ≡ enqueuePackets (reads c r) bytes
+  pub feed-model : modelOf (feedExact c r bytes) ≡ enqueuePackets (reads c r) bytes
   unfolding feedExact enqueuePackets reads
   feed-model =
       row-model packetTurn (λ m p. modelTook (length p) (enqueuePacket m p)) Byte turn-model turn-sound feeding (stopAt (c .order) (cutPackets (c .order) bytes .left)) c r S (cutPackets (c .order) bytes .packets)
       (packets-bytes (c .order) bytes h)
 
   -- and the state that it leaves is sound.
-  pub feed-sound : Sound (feedExact c r bytes .state) (feedExact c r bytes .left)
+  pub feed-sound : (d : Done Feeding) → gives d ≡ feedExact c r bytes → Sound (d .state) (d .left)
   unfolding feedExact
-  feed-sound =
-      row-sound packetTurn (λ m p. modelTook (length p) (enqueuePacket m p)) Byte turn-model turn-sound feeding (stopAt (c .order) (cutPackets (c .order) bytes .left)) c r S (cutPackets (c .order) bytes .packets)
-      (packets-bytes (c .order) bytes h)
+  feed-sound d e =
+      subst (λ (y : Done Feeding). Sound (y .state) (y .left)) (gives-same (sym e))
+      (row-sound packetTurn (λ m p. modelTook (length p) (enqueuePacket m p)) Byte turn-model turn-sound feeding (stopAt (c .order) (cutPackets (c .order) bytes .left)) c r S (cutPackets (c .order) bytes .packets)
+      (packets-bytes (c .order) bytes h))

@@ -143,13 +143,12 @@ module _ (c₀ : Connection) (q s₀ f₀ bytes : List ℕ) where
   unfolding feedExact answerOf roomsOf
   done vs h w c s f at packets e t k z =
       let v : vs ++ [] ≡ vs = append-nil vs in
-      let D : feedExact c₀ (rooms q s₀ f₀) bytes ≡ record { value = record { packets = vs; stopped = w }; state = c; left = rooms q s f } =
-      ap (exactMany feeding) z ∙ (λ i. record { value = record { packets = v i; stopped = w }; state = c; left = rooms q s f }) in
+      let D : feedExact c₀ (rooms q s₀ f₀) bytes ≡ gives (record { value = record { packets = vs; stopped = w }; state = c; left = rooms q s f }) =
+      ap (λ y. gives (exactMany feeding y)) z ∙ (λ i. gives (record { value = record { packets = v i; stopped = w }; state = c; left = rooms q s f })) in
       record {
         exact = record {
-          answers =
-              (λ i. gives (record { bytes = sym t i; packets = sym k i; stopped = e i }, c)) ∙ ap (λ (d : Done Feeding). gives (shownFed (d .value), d .state)) (sym D);
-          leaves = ap (λ (d : Done Feeding). d .left) (sym D);
+          answers = (λ i. gives (record { bytes = sym t i; packets = sym k i; stopped = e i }, c)) ∙ ap (answerOf shownFed) (sym D);
+          leaves = ap (λ y. roomsOf y (rooms q s₀ f₀)) (sym D);
         };
       }
 

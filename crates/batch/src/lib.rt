@@ -7,3 +7,4 @@ mod feed;
 mod send;
 
 pub use feed::enqueue_packets;
+pub use send::send_requests;

@@ -1,18 +1,57 @@
-// Many requests are sent.
+// Many requests are sent, one for each byte.
+use model::Connection;
 use model::ReplyFdKind;
+use model::Sent;
+use model::SentMany;
+use model::Stop;
+use sequence::SequenceNumber;
+ghost use mathlib.Core.Path.{_≡_};
+ghost use mathlib.Core.List.{List};
+ghost use Rattle.model.specs.SendRequests.{kindOf};
+ghost use Rattle.batch.specs.Send.{Ready, SendsStep, answered};
 
-// What a byte means.
-pub(crate) enum Meant {
-    Kind(ReplyFdKind),
-    NoKind,
+// The bytes below this one mean a kind.
+const KINDS: u8 = 3;
+
+// Requests of the kinds are sent up to the first that is refused, or to a byte that is no kind.
+pub fn send_requests(c: Connection, requests: &mut [u8], kinds: &[u8]) -> SentMany
+    requires { ⌜ Ready c (now requests) ⌝ }
+    ensures { λ r. ⌜ SendsStep c (now (kinds .entry)) (now (requests .entry)) r (now (requests .exit)) ⌝ }
+{
+    let mut state = c;
+    let mut i = 0;
+    while i < kinds.len() {
+        let byte = kinds[i];
+        if KINDS <= byte {
+            return sent(i, Stop::NoKind, state);
+        }
+        let a = sending::send_request(state, requests, kind_of(byte));
+        match a {
+            Sent::Number(_, next) => {
+                state = next;
+            }
+            Sent::Refused(refusal) => {
+                return sent(i, Stop::Refused(refusal), state);
+            }
+        }
+        i += 1;
+    }
+    sent(i, Stop::End, state)
 }
 
-// The kind of a byte: 0, 1 and 2 are kinds.
-pub(crate) fn kind_of(byte: u8) -> Meant {
+fn sent(count: usize, stop: Stop, state: Connection) -> SentMany
+    ensures { λ r. ⌜ r ≡ answered count stop state ⌝ }
+{
+    SentMany::Sent(count, SequenceNumber(state.written), stop, state)
+}
+
+// The kind of a byte: 0 without a reply, 1 with one, 2 with one and descriptors.
+fn kind_of(byte: u8) -> ReplyFdKind
+    ensures { λ r. ⌜ r ≡ kindOf byte ⌝ }
+{
     match byte {
-        0 => Meant::Kind(ReplyFdKind::NoReply),
-        1 => Meant::Kind(ReplyFdKind::ReplyWithoutFds),
-        2 => Meant::Kind(ReplyFdKind::ReplyWithFds),
-        _ => Meant::NoKind,
+        0 => ReplyFdKind::NoReply,
+        1 => ReplyFdKind::ReplyWithoutFds,
+        _ => ReplyFdKind::ReplyWithFds,
     }
 }

@@ -12,6 +12,8 @@ use Rattle.model.specs.Model.{mostDescriptors, roomy, fresh, new, sendRequest, 
 use Rattle.model.specs.Reading.{Rooms, rooms, reads}
 use Rattle.model.specs.Promise.{Done, Exact, Promise, outputOf, modelOf, guarded}
 use Rattle.model.specs.Says.{Shown, shownTaken, ShownEvent, shownEvent, ShownPoll, shownPoll, bytesOfTaken, descriptorsOfTaken, bytesOfPoll}
+use Rattle.model.specs.SendRequests.{ShownSendings, shownSendings, sendRequests}
+use Rattle.model.specs.Feed.{ShownFed, shownFed}
 use Rattle.model.specs.declared.Connection.{Connection}
 use Rattle.model.specs.declared.ReplyFdKind.{ReplyFdKind}
 use Rattle.model.specs.declared.DiscardMode.{DiscardMode}
@@ -21,6 +23,8 @@ use Rattle.sending.specs.Fds.{closeExact}
 use Rattle.intake.specs.Exact.{enqueueExact, shown}
 use Rattle.polling.specs.Discard.{discardExact}
 use Rattle.polling.specs.Exact.{eventExact, takenExact, checkedExact, repliedExact}
+use Rattle.batch.specs.Send.{sendsExact}
+use Rattle.batch.specs.Feed.{enqueuePackets, feedExact}
 
 -- a state with nothing sent, read or held
 abbrev pub freshState : ℕ → ℕ → ℕ → Connection
@@ -89,6 +93,14 @@ PollsReply c r n out = Hands shownPoll bytesOfPoll (repliedExact c r n (length o
 pub record Polls (c : Connection) (r : Rooms) (n : ℕ) (out fds : List ℕ) (a : Answer (Shown × Connection)) (r' : Rooms) (out' fds' : List ℕ) : Type 0 where
   pub packet : Hands shownTaken bytesOfTaken (takenExact c r n (length out) (length fds)) (λ m. pollForReplyOrError m n (length out) (length fds)) c r out a r' out'
   pub descriptors : fds' ≡ outputOf descriptorsOfTaken (guarded c r (takenExact c r n (length out) (length fds))) fds
+
+-- ---- calls that make many steps: each is exactly its row of steps, and that is the model's row of single calls
+
+abbrev pub SendsMany : Connection → Rooms → List ℕ → Answer (ShownSendings × Connection) → Rooms → Type 0
+SendsMany c r bytes = Promise shownSendings (sendsExact c r bytes) (λ m. sendRequests m bytes) c r
+
+abbrev pub EnqueuesMany : Connection → Rooms → List ℕ → Answer (ShownFed × Connection) → Rooms → Type 0
+EnqueuesMany c r bytes = Promise shownFed (feedExact c r bytes) (λ m. enqueuePackets m bytes) c r
 
 -- `prepare_check_for_reply_or_error`: 9, or the model's word; state and rooms are not even lent to be written.
 abbrev pub Prepares : Connection → Rooms → ℕ → Answer Bool → Type 0

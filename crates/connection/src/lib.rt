@@ -13,12 +13,14 @@ use model::Connection;
 use model::DiscardMode;
 use model::Enqueued;
 use model::Event;
+use model::Fed;
 use model::Next;
 use model::PollReply;
 use model::Polled;
 use model::Prepared;
 use model::ReplyFdKind;
 use model::Sent;
+use model::SentMany;
 use refusal::Refusal;
 ghost use mathlib.Core.Path.{_≡_};
 ghost use mathlib.Core.List.{List};
@@ -26,7 +28,9 @@ ghost use lib.ListN.{length};
 ghost use Rattle.model.specs.Model.{roomy};
 ghost use Rattle.model.specs.Reading.{rooms};
 ghost use Rattle.model.specs.Says.{saysNext, saysSent, saysEnqueued, saysPolled, saysPollReply, saysEvent, saysClosed, saysPrepared};
-ghost use Rattle.connection.specs.Calls.{Opens, Sends, EnqueuesFds, Enqueues, Discards, Polls, Checks, PollsReply, PollsEvent, Closes, Prepares, freshState as Calls·freshState};
+ghost use Rattle.model.specs.SaysBatch.{saysSentMany};
+ghost use Rattle.model.specs.Feed.{saysFed};
+ghost use Rattle.connection.specs.Calls.{Opens, Sends, EnqueuesFds, Enqueues, Discards, Polls, Checks, PollsReply, PollsEvent, Closes, Prepares, SendsMany, EnqueuesMany, freshState as Calls·freshState};
 
 // A fresh connection in these rooms: its request room and its packet store have the lengths that
 // they are lent with from then on. Refused by 9 for a room out of range or other than 256 slots for
@@ -64,6 +68,24 @@ pub fn send_request(
     sending::send_request(c, requests, kind)
 }
 
+// Requests were written, one for each byte: 0 without a reply, 1 with one, 2 with one that has
+// descriptors. Does as `send_request` for one after the other, up to the first that is refused or
+// to another byte, behind one test. Refused by 9 alone.
+pub fn send_requests(
+    c: Connection,
+    requests: &mut [u8],
+    store: &[u8],
+    slots: &[u32],
+    kinds: &[u8],
+) -> SentMany
+    ensures { λ r. ⌜ SendsMany c (rooms (now (requests .entry)) (now (store .entry)) (now (slots .entry))) (now (kinds .entry)) (saysSentMany r) (rooms (now (requests .exit)) (now (store .entry)) (now (slots .entry))) ⌝ }
+{
+    if !model::is_sound(c, requests, store, slots) {
+        return SentMany::Refused(Refusal::BadRoom);
+    }
+    batch::send_requests(c, requests, kinds)
+}
+
 // Descriptors came with bytes of the server: they wait for the replies that they belong to. Refused
 // by 9, and 5 for over 256 inside.
 pub fn enqueue_fds(
@@ -97,6 +119,25 @@ pub fn enqueue_packet(
         return Enqueued::Refused(Refusal::BadRoom);
     }
     intake::enqueue_packet(c, requests, store, slots, packet)
+}
+
+// Bytes came from the server: each whole packet that they begin with is taken in as
+// `enqueue_packet` does, one after the other, up to the first that is refused, behind one test.
+// Answers how many bytes and packets were taken, and what stopped it: no byte is left, part of a
+// packet is left, or the next packet is refused by 2, 3, 4 or 5. Refused by 9 alone.
+pub fn enqueue_packets(
+    c: Connection,
+    requests: &[u8],
+    store: &mut [u8],
+    slots: &mut [u32],
+    bytes: &[u8],
+) -> Fed
+    ensures { λ r. ⌜ EnqueuesMany c (rooms (now (requests .entry)) (now (store .entry)) (now (slots .entry))) (now (bytes .entry)) (saysFed r) (rooms (now (requests .entry)) (now (store .exit)) (now (slots .exit))) ⌝ }
+{
+    if !model::is_sound(c, requests, store, slots) {
+        return Fed::Refused(Refusal::BadRoom);
+    }
+    batch::enqueue_packets(c, requests, store, slots, bytes)
 }
 
 // The answers to a request are not wanted: neither those to come nor those held, whose descriptors

@@ -6,7 +6,7 @@ use native.Mathlib.Omega.{arith}
 use Rattle.refusal.specs.Answer.{Answer, gives, refuses}
 use Rattle.model.specs.Client.{Client}
 use Rattle.model.specs.Reading.{Rooms, reads}
-use Rattle.model.specs.Promise.{Done, modelOf}
+use Rattle.model.specs.Promise.{Done, Exact, answerOf, roomsOf, modelOf, gives-same}
 use Rattle.model.specs.Sound.{Sound}
 use Rattle.model.specs.Batch.{Turn, goes, stops, Many, onward, onTurn, many, Stop, refused, modelTurn, Site, site, readSite, exactTurn, modelMany, exactMany, readTurn, readMany, Each, notes}
 use Rattle.model.specs.declared.Connection.{Connection}
@@ -29,6 +29,29 @@ turn-gives (gives d) a s q =
     let z = goes-one q in
     (λ k. gives (record { value = z .0 k; state = z .1 k .state; left = z .1 k .left }))
 turn-gives (refuses n) a s q = absurd (let z : _≡_ {A = ℕ} 0 1 = cc in omega arith)
+
+-- ---- an exact outcome whose answer is known
+
+module _ {A B : Type 0} (f : A → B) (e : Answer (Done A)) (r r' : Rooms) where
+  -- something was given, and f shows it,
+  pub exact-gave : (y : B) (c : Connection) → Exact f e r (gives (y, c)) r' → (d : Done A) × (gives d ≡ e) × (y ≡ f (d .value)) × (c ≡ d .state) × (r' ≡ d .left)
+  unfolding answerOf roomsOf
+  exact-gave y c x = go e refl (x .answers) (x .leaves)
+    where
+      go : (k : Answer (Done A)) → k ≡ e → gives (y, c) ≡ answerOf f k → r' ≡ roomsOf k r → (d : Done A) × (gives d ≡ e) × (y ≡ f (d .value)) × (c ≡ d .state) × (r' ≡ d .left)
+      go (gives d) i a l =
+          let z : _≡_ {A = B × Connection} (y, c) (f (d .value), d .state) = gives-same a in
+          (d, i, ap (λ (v : B × Connection). v .0) z, ap (λ (v : B × Connection). v .1) z, l)
+      go (refuses n) i a l = absurd (let z : _≡_ {A = ℕ} 0 1 = cc in omega arith)
+
+  -- or it was refused, and the rooms are as found.
+  pub exact-stayed : (n : ℕ) → Exact f e r (refuses n) r' → (refuses n ≡ e) × (r' ≡ r)
+  unfolding answerOf roomsOf
+  exact-stayed n x = go e refl (x .answers) (x .leaves)
+    where
+      go : (k : Answer (Done A)) → k ≡ e → refuses n ≡ answerOf f k → r' ≡ roomsOf k r → (refuses n ≡ e) × (r' ≡ r)
+      go (gives d) i a l = absurd (let z : _≡_ {A = ℕ} 0 1 = cc in omega arith)
+      go (refuses k) i a l = (let z : n ≡ k = cc in ap refuses z ∙ i, l)
 
 -- ---- THE LAW
 

@@ -9,5 +9,7 @@ pub mod Says
 pub mod ReadingLaws
 pub mod Batch
 pub mod BatchLaws
+pub mod SendRequests
+pub mod PollForEvents
 pub mod SaysBatch
 pub mod Feed

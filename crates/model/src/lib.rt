@@ -115,6 +115,18 @@ pub enum Stop {
     NoKind,
 }
 
+// `send_requests`: how many were sent, the last number written, and what stopped it.
+pub enum SentMany {
+    Sent(usize, SequenceNumber, Stop, Connection),
+    Refused(Refusal),
+}
+
+// `poll_for_events`: how many events are in the outputs, and how many bytes their packets are.
+pub enum Events {
+    Handed(usize, usize, Stop, Connection),
+    Refused(Refusal),
+}
+
 // What stopped a row of packets: no byte is left, part of a packet is left, or the next packet is
 // refused.
 pub enum Halt {
