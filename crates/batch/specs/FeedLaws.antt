@@ -37,7 +37,7 @@ unfolding enqueueExact planOf refuse pass
 enqueue-long c r p h = simp (le-ltb (length p) leastPacket (omega arith), lt-ltb mostPacket (length p) h)
 
 -- what a turn that goes on tells
-took-goes : (n : ℕ) (e : Answer (Done Filing)) (v : Took) (s : Site) → goes v s ≡ exactTook n e → (v .bytes ≡ n) × (gives (record { value = v .filing; state = s .state; left = s .left }) ≡ e)
+pub took-goes : (n : ℕ) (e : Answer (Done Filing)) (v : Took) (s : Site) → goes v s ≡ exactTook n e → (v .bytes ≡ n) × (gives (record { value = v .filing; state = s .state; left = s .left }) ≡ e)
 unfolding exactTook
 took-goes n (gives d) v s q =
     let z = goes-one q in

@@ -4,3 +4,4 @@ pub mod Theorems
 pub mod Feed
 pub mod FeedLaws
 pub mod FeedLoop
+pub mod FeedTheorems
