@@ -1,3 +1,5 @@
+pub mod Noting
 pub mod Session
 pub mod Theorems
 pub mod Engines
+pub mod FeedRow
