@@ -1,5 +1,8 @@
 pub mod Send
 pub mod SendLaws
+pub mod Events
+pub mod EventsLaws
+pub mod EventsLoop
 pub mod Theorems
 pub mod Feed
 pub mod FeedLaws

@@ -14,6 +14,7 @@ use Rattle.model.specs.Promise.{Done, Exact, Promise, outputOf, modelOf, guarde
 use Rattle.model.specs.Says.{Shown, shownTaken, ShownEvent, shownEvent, ShownPoll, shownPoll, bytesOfTaken, descriptorsOfTaken, bytesOfPoll}
 use Rattle.model.specs.SendRequests.{ShownSendings, shownSendings, sendRequests}
 use Rattle.model.specs.Feed.{ShownFed, shownFed}
+use Rattle.model.specs.PollForEvents.{ShownHandings, shownHandings, packetsOfHandings, marksOfHandings, pollForEvents}
 use Rattle.model.specs.declared.Connection.{Connection}
 use Rattle.model.specs.declared.ReplyFdKind.{ReplyFdKind}
 use Rattle.model.specs.declared.DiscardMode.{DiscardMode}
@@ -25,6 +26,7 @@ use Rattle.polling.specs.Discard.{discardExact}
 use Rattle.polling.specs.Exact.{eventExact, takenExact, checkedExact, repliedExact}
 use Rattle.batch.specs.Send.{sendsExact}
 use Rattle.batch.specs.Feed.{enqueuePackets, feedExact}
+use Rattle.batch.specs.Events.{eventsExact}
 
 -- a state with nothing sent, read or held
 abbrev pub freshState : ℕ → ℕ → ℕ → Connection
@@ -101,6 +103,11 @@ SendsMany c r bytes = Promise shownSendings (sendsExact c r bytes) (λ m. sendRe
 
 abbrev pub EnqueuesMany : Connection → Rooms → List ℕ → Answer (ShownFed × Connection) → Rooms → Type 0
 EnqueuesMany c r bytes = Promise shownFed (feedExact c r bytes) (λ m. enqueuePackets m bytes) c r
+
+-- `poll_for_events` has two outputs, for the packets and for their marks.
+pub record PollsEvents (c : Connection) (r : Rooms) (out marks : List ℕ) (a : Answer (ShownHandings × Connection)) (r' : Rooms) (out' marks' : List ℕ) : Type 0 where
+  pub packets : Hands shownHandings packetsOfHandings (eventsExact c r (length out) (length marks)) (λ m. pollForEvents m (length out) (length marks)) c r out a r' out'
+  pub marked : marks' ≡ outputOf marksOfHandings (guarded c r (eventsExact c r (length out) (length marks))) marks
 
 -- `prepare_check_for_reply_or_error`: 9, or the model's word; state and rooms are not even lent to be written.
 abbrev pub Prepares : Connection → Rooms → ℕ → Answer Bool → Type 0

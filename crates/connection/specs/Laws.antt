@@ -12,8 +12,10 @@ use Rattle.model.specs.Promise.{Done, Exact, outputOf, modelOf, guarded, guarde
 use Rattle.model.specs.Says.{Shown, shownTaken, bytesOfTaken, descriptorsOfTaken}
 use Rattle.model.specs.Sound.{Sound, soundb}
 use Rattle.model.specs.declared.Connection.{Connection}
+use Rattle.model.specs.PollForEvents.{ShownHandings, shownHandings, packetsOfHandings, marksOfHandings, pollForEvents}
 use Rattle.polling.specs.Exact.{takenExact}
-use Rattle.connection.specs.Calls.{Hands, Polls}
+use Rattle.batch.specs.Events.{eventsExact}
+use Rattle.connection.specs.Calls.{Hands, Polls, PollsEvents}
 
 -- an output after 9, and after a step
 output-unsound : {A : Type 0} (g : A → List ℕ) (e : Answer (Done A)) (c : Connection) (r : Rooms) (out : List ℕ) → soundb c r ≡ false → out ≡ outputOf g (guarded c r e) out
@@ -39,3 +41,13 @@ module _ (c : Connection) (r : Rooms) (n : ℕ) (out fds : List ℕ) (law : Soun
       → Polls c r n out fds a r' out' fds'
   polls-sound a r' out' fds' h x o p =
       record { packet = hands-sound shownTaken bytesOfTaken _ _ c r out law a r' out' h x o; descriptors = output-sound descriptorsOfTaken _ c r fds fds' h p }
+
+module _ (c : Connection) (r : Rooms) (out marks : List ℕ) (law : Sound c r → modelOf (eventsExact c r (length out) (length marks)) ≡ pollForEvents (reads c r) (length out) (length marks)) where
+  pub events-unsound : soundb c r ≡ false → PollsEvents c r out marks (refuses 9) r out marks
+  events-unsound h = record { packets = hands-unsound shownHandings packetsOfHandings _ _ c r out law h; marked = output-unsound marksOfHandings _ c r marks h }
+
+  pub events-sound : (a : Answer (ShownHandings × Connection)) (r' : Rooms) (out' marks' : List ℕ) → soundb c r ≡ true → Exact shownHandings (eventsExact c r (length out) (length marks)) r a r'
+      → out' ≡ outputOf packetsOfHandings (eventsExact c r (length out) (length marks)) out → marks' ≡ outputOf marksOfHandings (eventsExact c r (length out) (length marks)) marks
+      → PollsEvents c r out marks a r' out' marks'
+  events-sound a r' out' marks' h x o p =
+      record { packets = hands-sound shownHandings packetsOfHandings _ _ c r out law a r' out' h x o; marked = output-sound marksOfHandings _ c r marks marks' h p }

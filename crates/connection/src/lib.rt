@@ -13,6 +13,7 @@ use model::Connection;
 use model::DiscardMode;
 use model::Enqueued;
 use model::Event;
+use model::Events;
 use model::Fed;
 use model::Next;
 use model::PollReply;
@@ -28,9 +29,9 @@ ghost use lib.ListN.{length};
 ghost use Rattle.model.specs.Model.{roomy};
 ghost use Rattle.model.specs.Reading.{rooms};
 ghost use Rattle.model.specs.Says.{saysNext, saysSent, saysEnqueued, saysPolled, saysPollReply, saysEvent, saysClosed, saysPrepared};
-ghost use Rattle.model.specs.SaysBatch.{saysSentMany};
+ghost use Rattle.model.specs.SaysBatch.{saysSentMany, saysEvents};
 ghost use Rattle.model.specs.Feed.{saysFed};
-ghost use Rattle.connection.specs.Calls.{Opens, Sends, EnqueuesFds, Enqueues, Discards, Polls, Checks, PollsReply, PollsEvent, Closes, Prepares, SendsMany, EnqueuesMany, freshState as Calls·freshState};
+ghost use Rattle.connection.specs.Calls.{Opens, Sends, EnqueuesFds, Enqueues, Discards, Polls, Checks, PollsReply, PollsEvent, Closes, Prepares, SendsMany, EnqueuesMany, PollsEvents, freshState as Calls·freshState};
 
 // A fresh connection in these rooms: its request room and its packet store have the lengths that
 // they are lent with from then on. Refused by 9 for a room out of range or other than 256 slots for
@@ -238,6 +239,26 @@ pub fn poll_for_event_with_sequence(
         return Event::Refused(Refusal::BadRoom);
     }
     polling::poll_for_event(c, store, out)
+}
+
+// As many events as fit, oldest first: their packets one behind the other in out, and two marks for
+// each, its number and the length of its packet. Does as `poll_for_event_with_sequence` for one
+// after the other, behind one test, and says whether an event is left that has no room. Refused by
+// 9, and 8 where there is an event and not even one fits.
+pub fn poll_for_events(
+    c: Connection,
+    requests: &[u8],
+    store: &mut [u8],
+    slots: &[u32],
+    out: &mut [u8],
+    marks: &mut [u64],
+) -> Events
+    ensures { λ r. ⌜ PollsEvents c (rooms (now (requests .entry)) (now (store .entry)) (now (slots .entry))) (now (out .entry)) (now (marks .entry)) (saysEvents r) (rooms (now (requests .entry)) (now (store .exit)) (now (slots .entry))) (now (out .exit)) (now (marks .exit)) ⌝ }
+{
+    if !model::is_sound(c, requests, store, slots) {
+        return Events::Refused(Refusal::BadRoom);
+    }
+    batch::poll_for_events(c, store, out, marks)
 }
 
 // The descriptors to be closed, whole and in their order. Refused by 9, and 8 where out has too few

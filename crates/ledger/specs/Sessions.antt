@@ -1,17 +1,17 @@
 -- Sessions balance: each public call does, as it is read, what the model does, and leaves in the outputs what the model hands out. Assumes nothing.
 use mathlib.Core.List.{List, []}
 use mathlib.Core.Path.{_≡_, refl, sym, ap, _∙_}
-use Prim.Native.Nat.{ℕ, _+_}
+use Prim.Native.Nat.{ℕ, _+_, _<_}
 use native.Mathlib.Omega.{arith}
-use lib.ListN.{length, take, drop}
+use lib.ListN.{length, take, drop, getD}
 use lib.Seq.{take-append-le, take-length}
 use Rattle.octets.specs.Put.{put}
 use Rattle.refusal.specs.Answer.{Answer, gives, refuses, gives-rest}
 use Rattle.descriptors.specs.Room.{count}
 use Rattle.descriptors.specs.Room as Slots
 use Rattle.descriptors.specs.Counting.{count-append, count-inside}
-use Rattle.model.specs.Client.{Client, descriptorsOf}
-use Rattle.model.specs.Model.{fresh, Taken, enqueueFds, pollForReplyOrError}
+use Rattle.model.specs.Client.{Held, Client, descriptorsOf}
+use Rattle.model.specs.Model.{fresh, Taken, Filing, enqueueFds, pollForReplyOrError, pollForEvent}
 use Rattle.model.specs.Model as Model
 use Rattle.model.specs.Calls.{Call, send, enqueue-fds, enqueue, discard, poll, check, poll-reply, prepare, poll-event, take-closed, step}
 use Rattle.model.specs.Promise.{Done, answerOf, roomsOf, outputOf, modelOf, guarded, Promise, gives-same}
@@ -19,13 +19,20 @@ use Rattle.model.specs.Reading.{Rooms, slotsOf, reads}
 use Rattle.model.specs.ReadingLaws.{descriptors-read}
 use Rattle.model.specs.Says.{Shown, shownTaken, shownEvent, shownPoll, descriptorsOfTaken}
 use Rattle.model.specs.Sound.{Sound}
+use Rattle.model.specs.SendRequests.{kindOf, ShownSendings}
+use Rattle.model.specs.PollForEvents.{ShownHandings}
+use Rattle.model.specs.Feed.{ShownFed}
 use Rattle.model.specs.declared.Connection.{Connection}
 use Rattle.sending.specs.Send.{same}
-use Rattle.connection.specs.Calls.{EnqueuesFds, Polls, Closes}
+use Rattle.polling.specs.Exact.{eventExact}
+use Rattle.connection.specs.Calls.{Sends, EnqueuesFds, Enqueues, Polls, Closes, SendsMany, EnqueuesMany, PollsEvents}
 use Rattle.connection.specs.Opening.{opens-fresh}
 use Rattle.honest.specs.Run.{Event}
 use Rattle.honest.specs.Public.{stateOf, Given, modelled, Came, gave, kept, came}
-use Rattle.session.specs.Session.{Session, new, send-request, enqueue-packet, discard-reply, poll-for-reply-or-error, poll-check-for-reply-or-error, poll-for-reply, poll-for-event, take-closed-fds, prepare-check}
+use Rattle.session.specs.Session.{Session, new, send-request, enqueue-packet, discard-reply, poll-for-reply-or-error, poll-check-for-reply-or-error, poll-for-reply, poll-for-event, take-closed-fds, send-requests, enqueue-packets, poll-for-events, prepare-check}
+use Rattle.session.specs.Rows.{sends-row, events-row}
+use Rattle.session.specs.FeedRow.{feed-row}
+use Rattle.session.specs.Theorems.{session-sound}
 use Rattle.session.specs.Session as Public
 use Rattle.ledger.specs.Descriptors.{within, accepted, unlessRefused, handedOut, tookWith, closedBy, Neither, brought, foundWith, foundClosed, sessionAccepted, sessionHanded}
 use Rattle.ledger.specs.Balance.{count-within, balances}
@@ -99,6 +106,12 @@ module _ (c : Connection) (r : Rooms) (d : ℕ) where
       → count d (within (reads (stateOf a c) r')) ≡ count d (within (reads c r))
   still-within x o f e a r' h = neither-came x o f a r' (came f e (modelled x) c r a r' h)
 
+  -- and gave something
+  pub still-gave : (x : Call) → Neither x → {B : Type 0} (f : Given x → B) (e : Answer (Done (Given x))) (y : B) (c' : Connection) (r' : Rooms) → Promise f e (modelled x) c r (gives (y, c')) r'
+      → count d (within (reads c' r')) ≡ count d (within (reads c r))
+  unfolding stateOf
+  still-gave x o f e y c' r' h = still-within x o f e (gives (y, c')) r' h
+
   -- one that brings a list
   more-came : (list : List ℕ) (a : Answer (Unit × Connection)) (r' : Rooms) → Came same (enqueueFds (reads c r) list) r a r'
       → count d (within (reads (stateOf a c) r')) ≡ count d (within (reads c r)) + count d (brought list a)
@@ -150,6 +163,37 @@ module _ (c : Connection) (r : Rooms) (d : ℕ) where
       less-within c r d length same _ (modelled (take-closed (length out))) foundClosed out a r' out' (h .promise) (h .output) (closed-found out) (λ i. refl)
       (λ v k' q. balance-to (take-closed (length out)) _ v k' q d)
 
+-- ---- a call that makes many steps: each of its single calls leaves as many inside
+
+record Within (d n : ℕ) (c : Connection) (r : Rooms) : Type 1 where
+  pub is : count d (within (reads c r)) ≡ n
+
+module _ (c : Connection) (r : Rooms) (S : Sound c r) (d : ℕ) where
+  pub sends-within : (bytes : List ℕ) (a : Answer (ShownSendings × Connection)) (r' : Rooms) → SendsMany c r bytes a r' → count d (within (reads (stateOf a c) r')) ≡ count d (within (reads c r))
+  sends-within bytes a r' h =
+      sends-row (λ c' r'' l. Within d (count d (within (reads c r))) c' r'') on c r [] S (record { is = refl }) bytes a r' h .is
+    where
+      on : (c₁ : Connection) (r₁ : Rooms) (l : List Event) → Sound c₁ r₁ → Within d (count d (within (reads c r))) c₁ r₁ → (byte n : ℕ) (c₂ : Connection) (r₂ : Rooms) → Sends c₁ r₁ (kindOf byte) (gives (n, c₂)) r₂
+          → Within d (count d (within (reads c r))) c₂ r₂
+      on c₁ r₁ l T w byte n c₂ r₂ q = record { is = still-gave c₁ r₁ d (send (kindOf byte)) tt same _ n c₂ r₂ q ∙ w .is }
+
+  pub packets-within : (bytes : List ℕ) → ((i : ℕ) → getD bytes i 0 < 256) → (a : Answer (ShownFed × Connection)) (r' : Rooms) → EnqueuesMany c r bytes a r' → count d (within (reads (stateOf a c) r')) ≡ count d (within (reads c r))
+  packets-within bytes b a r' h =
+      feed-row (λ c' r'' l. Within d (count d (within (reads c r))) c' r'') on c r [] S (record { is = refl }) [] bytes b a r' h .is
+    where
+      on : (c₁ : Connection) (r₁ : Rooms) (l : List Event) → Sound c₁ r₁ → Within d (count d (within (reads c r))) c₁ r₁ → (t : ℕ) (p : List ℕ) → getD p 1 0 < 256 → (f : Filing) (c₂ : Connection) (r₂ : Rooms)
+          → Enqueues c₁ r₁ p (gives (f, c₂)) r₂ → Within d (count d (within (reads c r))) c₂ r₂
+      on c₁ r₁ l T w t p u f c₂ r₂ q = record { is = still-gave c₁ r₁ d (enqueue p) tt (λ x. x) _ f c₂ r₂ q ∙ w .is }
+
+  pub events-within : (out marks : List ℕ) (a : Answer (ShownHandings × Connection)) (r' : Rooms) (out' marks' : List ℕ) → PollsEvents c r out marks a r' out' marks'
+      → count d (within (reads (stateOf a c) r')) ≡ count d (within (reads c r))
+  events-within out marks a r' out' marks' h =
+      events-row (Within d (count d (within (reads c r)))) on c r S (record { is = refl }) out marks a r' out' marks' h .is
+    where
+      on : (c₁ : Connection) (r₁ : Rooms) → Sound c₁ r₁ → Within d (count d (within (reads c r))) c₁ r₁ → (bytes : ℕ) (x : Held) (c₂ : Connection) (r₂ : Rooms)
+          → Promise shownEvent (eventExact c₁ r₁ bytes) (λ m. pollForEvent m bytes) c₁ r₁ (gives (shownEvent (Model.packet x), c₂)) r₂ → Within d (count d (within (reads c r))) c₂ r₂
+      on c₁ r₁ T w bytes x c₂ r₂ q = record { is = still-gave c₁ r₁ d (poll-event bytes) tt shownEvent _ (shownEvent (Model.packet x)) c₂ r₂ q ∙ w .is }
+
 -- ---- the session
 
 none-within : (d o k s : ℕ) → count d (within (fresh o k s)) ≡ 0
@@ -168,6 +212,9 @@ session-balances (poll-check-for-reply-or-error {c = c} {r = r} n out a r' out' 
 session-balances (poll-for-reply {c = c} {r = r} n out a r' out' h k) d = omega (arith, session-balances k d, still-within c r d (poll-reply n (length out)) tt shownPoll _ a r' (h .promise))
 session-balances (poll-for-event {c = c} {r = r} out a r' out' h k) d = omega (arith, session-balances k d, still-within c r d (poll-event (length out)) tt shownEvent _ a r' (h .promise))
 session-balances (take-closed-fds {c = c} {r = r} out a r' out' h k) d = omega (arith, session-balances k d, closed-within c r d out a r' out' h, count-append d (foundClosed a out') (sessionHanded k))
+session-balances (send-requests {c = c} {r = r} bytes a r' h k) d = omega (arith, session-balances k d, sends-within c r (session-sound k) d bytes a r' h)
+session-balances (enqueue-packets {c = c} {r = r} ts bytes b a r' h k) d = omega (arith, session-balances k d, packets-within c r (session-sound k) d bytes b a r' h)
+session-balances (poll-for-events {c = c} {r = r} out marks a r' out' marks' h k) d = omega (arith, session-balances k d, events-within c r (session-sound k) d out marks a r' out' marks' h)
 session-balances (prepare-check n a h k) d = session-balances k d
 
 -- in the slots of a sound state there stands what is inside

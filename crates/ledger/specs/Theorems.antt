@@ -17,6 +17,10 @@ use Rattle.model.specs.Reading.{Rooms, slotsOf, reads}
 use Rattle.model.specs.ReadingLaws.{used-read}
 use Rattle.model.specs.Says.{Shown, ShownEvent, ShownPoll, saysNext, saysSent, saysEnqueued, saysPolled, saysPollReply, saysEvent, saysClosed, saysPrepared}
 use Rattle.model.specs.Sound.{Sound, soundb}
+use Rattle.model.specs.SendRequests.{ShownSendings}
+use Rattle.model.specs.PollForEvents.{ShownHandings}
+use Rattle.model.specs.SaysBatch.{saysSentMany, saysEvents}
+use Rattle.model.specs.Feed.{ShownFed, saysFed}
 use Rattle.model.specs.declared.Connection.{Connection}
 use Rattle.model.specs.declared.DiscardMode.{DiscardMode}
 use Rattle.model.specs.declared.ReplyFdKind.{ReplyFdKind}
@@ -29,8 +33,11 @@ use Rattle.model.specs.declared.PollReply.{PollReply}
 use Rattle.model.specs.declared.Event.{Event}
 use Rattle.model.specs.declared.Closed.{Closed}
 use Rattle.model.specs.declared.Prepared.{Prepared}
+use Rattle.model.specs.declared.SentMany.{SentMany}
+use Rattle.model.specs.declared.Events.{Events}
+use Rattle.model.specs.declared.Fed.{Fed}
 use Rattle.sending.specs.Send.{same}
-use Rattle.connection.specs.Calls.{Opens, Sends, EnqueuesFds, Enqueues, Discards, Polls, Checks, PollsReply, PollsEvent, Closes, Prepares}
+use Rattle.connection.specs.Calls.{Opens, Sends, EnqueuesFds, Enqueues, Discards, Polls, Checks, PollsReply, PollsEvent, Closes, Prepares, SendsMany, EnqueuesMany, PollsEvents}
 use Rattle.connection.specs.Opening as Opening
 use Rattle.connection.specs.Theorems.{Sentence}
 use Rattle.connection.specs.Theorems as Connection
@@ -105,9 +112,21 @@ module _ (c : Connection) (r : Rooms) (c' : Connection) (r' : Rooms) where
   pub poll-for-event-with-sequence-sound : (out : List ℕ) (v : ShownEvent) (out' : List ℕ) → PollsEvent c r out (gives (v, c')) r' out' → Sound c' r'
   poll-for-event-with-sequence-sound out v out' h = Leaving.event-leaves c r c' r' out v out' h
 
-  -- and with `take_closed_fds`.
+  -- with `take_closed_fds`,
   pub take-closed-fds-sound : (out : List ℕ) (v : ℕ) (out' : List ℕ) → Closes c r out (gives (v, c')) r' out' → Sound c' r'
   take-closed-fds-sound out v out' h = Leaving.closed-leaves c r c' r' out v out' h
+
+  -- and with the calls that make many steps, however far they came: `send_requests`,
+  pub send-requests-sound : (bytes : List ℕ) (v : ShownSendings) → SendsMany c r bytes (gives (v, c')) r' → Sound c' r'
+  send-requests-sound bytes v h = Leaving.sends-leave c r c' r' bytes v h
+
+  -- `enqueue_packets` of bytes,
+  pub enqueue-packets-sound : (bytes : List ℕ) → ((i : ℕ) → getD bytes i 0 < 256) → (v : ShownFed) → EnqueuesMany c r bytes (gives (v, c')) r' → Sound c' r'
+  enqueue-packets-sound bytes b v h = Leaving.packets-leave c r c' r' bytes b v h
+
+  -- `poll_for_events`.
+  pub poll-for-events-sound : (out marks : List ℕ) (v : ShownHandings) (out' marks' : List ℕ) → PollsEvents c r out marks (gives (v, c')) r' out' marks' → Sound c' r'
+  poll-for-events-sound out marks v out' marks' h = Leaving.events-leave c r c' r' out marks v out' marks' h
 
 -- So state and rooms are sound at any time of a session: no call of it is refused by 9.
 pub session-sound : {c : Connection} {r : Rooms} {l : List Log.Event} → Session c r l → Sound c r
@@ -173,6 +192,17 @@ module _ (c : Connection) (r : Rooms) (d : ℕ) where
   pub others-conserved : (x : Call) → Neither x → {B : Type 0} (f : Given x → B) (e : Answer (Done (Given x))) (a : Answer (B × Connection)) (r' : Rooms) → Promise f e (modelled x) c r a r'
       → count d (within (reads (stateOf a c) r')) ≡ count d (within (reads c r))
   others-conserved x o f e a r' h = Sessions.still-within c r d x o f e a r' h
+
+  -- So do those that make many steps.
+  pub send-requests-conserved : Sound c r → (bytes : List ℕ) (a : Answer (ShownSendings × Connection)) (r' : Rooms) → SendsMany c r bytes a r' → count d (within (reads (stateOf a c) r')) ≡ count d (within (reads c r))
+  send-requests-conserved S bytes a r' h = Sessions.sends-within c r S d bytes a r' h
+
+  pub enqueue-packets-conserved : Sound c r → (bytes : List ℕ) → ((i : ℕ) → getD bytes i 0 < 256) → (a : Answer (ShownFed × Connection)) (r' : Rooms) → EnqueuesMany c r bytes a r' → count d (within (reads (stateOf a c) r')) ≡ count d (within (reads c r))
+  enqueue-packets-conserved S bytes b a r' h = Sessions.packets-within c r S d bytes b a r' h
+
+  pub poll-for-events-conserved : Sound c r → (out marks : List ℕ) (a : Answer (ShownHandings × Connection)) (r' : Rooms) (out' marks' : List ℕ) → PollsEvents c r out marks a r' out' marks'
+      → count d (within (reads (stateOf a c) r')) ≡ count d (within (reads c r))
+  poll-for-events-conserved S out marks a r' out' marks' h = Sessions.events-within c r S d out marks a r' out' marks' h
 
 -- Over a session, however long: what it accepted is inside or was found by the caller in its outputs.
 pub session-conserved : {c : Connection} {r : Rooms} {l : List Log.Event} (k : Session c r l) (d : ℕ) → count d (sessionAccepted k) ≡ count d (within (reads c r)) + count d (sessionHanded k)
@@ -250,9 +280,22 @@ module _ (c : Connection) (r : Rooms) where
   pub poll-for-event-with-sequence-one : (out : List ℕ) (a b : Event) (s t : Rooms) (x y : List ℕ) → PollsEvent c r out (saysEvent a) s x → PollsEvent c r out (saysEvent b) t y → (a ≡ b) × (s ≡ t) × (x ≡ y)
   poll-for-event-with-sequence-one out a b s t x y p q = Outcomes.poll-for-event-with-sequence-one c r out a b s t x y p q
 
-  -- with `take_closed_fds` and its output;
+  -- with `take_closed_fds` and its output,
   pub take-closed-fds-one : (out : List ℕ) (a b : Closed) (s t : Rooms) (x y : List ℕ) → Closes c r out (saysClosed a) s x → Closes c r out (saysClosed b) t y → (a ≡ b) × (s ≡ t) × (x ≡ y)
   take-closed-fds-one out a b s t x y p q = Outcomes.take-closed-fds-one c r out a b s t x y p q
+
+  -- with `send_requests`,
+  pub send-requests-one : (bytes : List ℕ) (a b : SentMany) (s t : Rooms) → SendsMany c r bytes (saysSentMany a) s → SendsMany c r bytes (saysSentMany b) t → (a ≡ b) × (s ≡ t)
+  send-requests-one bytes a b s t p q = Outcomes.send-requests-one c r bytes a b s t p q
+
+  -- with `enqueue_packets`,
+  pub enqueue-packets-one : (bytes : List ℕ) (a b : Fed) (s t : Rooms) → EnqueuesMany c r bytes (saysFed a) s → EnqueuesMany c r bytes (saysFed b) t → (a ≡ b) × (s ≡ t)
+  enqueue-packets-one bytes a b s t p q = Outcomes.enqueue-packets-one c r bytes a b s t p q
+
+  -- with `poll_for_events` and its two outputs;
+  pub poll-for-events-one : (out marks : List ℕ) (a b : Events) (s t : Rooms) (x y v w : List ℕ) → PollsEvents c r out marks (saysEvents a) s x v → PollsEvents c r out marks (saysEvents b) t y w
+      → (a ≡ b) × (s ≡ t) × (x ≡ y) × (v ≡ w)
+  poll-for-events-one out marks a b s t x y v w p q = Outcomes.poll-for-events-one c r out marks a b s t x y v w p q
 
   -- and `prepare_check_for_reply_or_error`, which can write no room, has one answer.
   pub prepare-check-for-reply-or-error-one : (n : ℕ) (a b : Prepared) → Prepares c r n (saysPrepared a) → Prepares c r n (saysPrepared b) → a ≡ b

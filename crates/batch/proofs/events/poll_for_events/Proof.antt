@@ -1,0 +1,102 @@
+-- `batch::events::poll_for_events` meets its contract. Assumes nothing.
+use Prim.Native.Nat.{_-_, _*_}
+use lib.ListN.{length}
+use native.Mathlib.Omega.{arith}
+use mathlib.Core.Path.{sym, _∙_, refl, subst}
+use borrow.Author.Needs.{needs}
+use Rattle.batch.specs.EventsLoop.{Inv, inv-start, inv-asks, inv-end, inv-stop, inv-room, inv-next}
+use Rattle.batch.proofs.events.poll_for_events.Statement.{statement}
+use Rattle.batch.proofs.events.poll_for_events.Tie as tie
+use Rattle.batch.proofs.events.poll_for_events.Reads as reads
+use Rattle.batch.proofs.events.poll_for_events.Lts as lts
+use Rattle.batch.proofs.events.stopped.Reads as stopped-reads
+use Rattle.batch.proofs.events.turn.Reads as turn-reads
+
+abbrev Inv-loop : tie.InvT-loop
+Inv-loop store₀ out₀ marks₀ state₀ used₀ count₀ store out marks state used count = Inv state₀ store₀ out₀ marks₀ state store out marks used count
+
+abbrev μ-loop : tie.MeasureT-loop
+μ-loop store₀ out₀ marks₀ state₀ used₀ count₀ store out marks state used count = length marks₀ - 2 * count
+
+loop-holds : tie.Need-loop-holds Inv-loop μ-loop
+loop-holds c = inv-start _ _ _ _ (c .before .before .before .pre)
+
+mul-turn : tie.Need-mul-turn Inv-loop μ-loop
+mul-turn c = omega (arith, c .before .before .before .loop .inv .marks-most)
+
+turn-requires : tie.Need-turn-requires Inv-loop μ-loop
+turn-requires c κs = inv-asks _ _ _ _ _ _ _ _ _ _ (c .before .before .before .loop .inv)
+
+enum-known-a : tie.Need-enum-known-a Inv-loop μ-loop
+enum-known-a c = search needs
+
+add-used : tie.Need-add-used Inv-loop μ-loop
+add-used c = omega (arith, inv-room _ _ _ _ _ _ _ _ _ _ (c .before .before .before .before .before .before .before .before .before .before .before .before .before .loop .inv) _ _ _ _ _ _ _ (c .before .a .given .1) (c .before .before .before .before .before .before .before .before .before .turn .kept .1 .0) (c .before .before .before .before .before .before .before .before .before .turn .ensures), c .before .before .before .before .before .before .before .before .before .before .before .before .before .before .before)
+
+add-count : tie.Need-add-count Inv-loop μ-loop
+add-count c = omega (arith, inv-room _ _ _ _ _ _ _ _ _ _ (c .before .before .before .before .before .before .before .before .before .before .before .before .before .loop .inv) _ _ _ _ _ _ _ (c .before .a .given .1) (c .before .before .before .before .before .before .before .before .before .turn .kept .1 .0) (c .before .before .before .before .before .before .before .before .before .turn .ensures), c .before .before .before .before .before .before .before .before .before .before .before .before .before .before)
+
+loop-less : tie.Need-loop-less Inv-loop μ-loop
+loop-less c = omega (arith, inv-room _ _ _ _ _ _ _ _ _ _ (c .before .before .before .before .before .before .before .before .before .before .before .before .before .loop .inv) _ _ _ _ _ _ _ (c .before .a .given .1) (c .before .before .before .before .before .before .before .before .before .turn .kept .1 .0) (c .before .before .before .before .before .before .before .before .before .turn .ensures))
+
+loop-again : tie.Need-loop-again Inv-loop μ-loop
+loop-again c = inv-next _ _ _ _ _ _ _ _ _ _ (c .before .before .before .before .before .before .before .before .before .before .before .before .before .loop .inv) _ _ _ _ _ _ _ (c .before .a .given .1) (c .before .before .before .before .before .before .before .before .before .turn .kept .1 .0) (c .before .before .before .before .before .before .before .before .before .turn .ensures)
+
+enum-told : tie.Need-enum-told Inv-loop μ-loop
+enum-told c = search needs
+
+same-length : tie.Need-same-length Inv-loop μ-loop
+same-length c = c .before .before .before .before .before .before .before .before .turn .kept .1 .0 ∙ c .before .before .before .before .before .before .before .before .before .before .before .before .loop .inv .long
+
+same-length-2 : tie.Need-same-length-2 Inv-loop μ-loop
+same-length-2 c = c .before .before .before .before .before .before .before .before .turn .kept .1 .1 .0 ∙ c .before .before .before .before .before .before .before .before .before .before .before .before .loop .inv .out-long
+
+same-length-3 : tie.Need-same-length-3 Inv-loop μ-loop
+same-length-3 c = c .before .before .before .before .before .before .before .before .turn .kept .1 .1 .1 .0 ∙ c .before .before .before .before .before .before .before .before .before .before .before .before .loop .inv .marks-long
+
+returns : tie.Need-returns Inv-loop μ-loop
+returns c = inv-end _ _ _ _ _ _ _ _ _ _ (c .before .before .before .before .before .before .before .before .before .before .before .before .loop .inv) _ _ _ _ _ (c .enum-told .given .1) (c .before .before .before .before .before .before .before .before .turn .ensures)
+
+enum-known-a-2 : tie.Need-enum-known-a-2 Inv-loop μ-loop
+enum-known-a-2 c = search needs
+
+stopped-requires : tie.Need-stopped-requires Inv-loop μ-loop
+stopped-requires c κs = tt
+
+same-length-4 : tie.Need-same-length-4 Inv-loop μ-loop
+same-length-4 c = c .before .before .before .before .before .before .before .before .before .before .turn .kept .1 .0 ∙ c .before .before .before .before .before .before .before .before .before .before .before .before .before .before .loop .inv .long
+
+same-length-5 : tie.Need-same-length-5 Inv-loop μ-loop
+same-length-5 c = c .before .before .before .before .before .before .before .before .before .before .turn .kept .1 .1 .0 ∙ c .before .before .before .before .before .before .before .before .before .before .before .before .before .before .loop .inv .out-long
+
+same-length-6 : tie.Need-same-length-6 Inv-loop μ-loop
+same-length-6 c = c .before .before .before .before .before .before .before .before .before .before .turn .kept .1 .1 .1 .0 ∙ c .before .before .before .before .before .before .before .before .before .before .before .before .before .before .loop .inv .marks-long
+
+returns-2 : tie.Need-returns-2 Inv-loop μ-loop
+returns-2 c = inv-stop _ _ _ _ _ _ _ _ _ _ (c .before .before .before .before .before .before .before .before .before .before .before .before .before .before .loop .inv) _ _ _ _ _ _ (c .before .before .a2 .given .1) (c .before .before .before .before .before .before .before .before .before .before .turn .ensures) (c .stopped .ensures)
+
+pub poll-for-events-spec : {M : Type 1} → statement M
+poll-for-events-spec =
+    tie.close
+    (tie.spec
+    Inv-loop
+    μ-loop
+    loop-holds
+    mul-turn
+    turn-requires
+    enum-known-a
+    add-used
+    add-count
+    loop-less
+    loop-again
+    enum-told
+    same-length
+    same-length-2
+    same-length-3
+    returns
+    enum-known-a-2
+    stopped-requires
+    same-length-4
+    same-length-5
+    same-length-6
+    returns-2)

@@ -1,0 +1,228 @@
+-- How many events come out, turn by turn. Assumes nothing.
+use mathlib.Core.Path.{_≡_, refl, sym, ap, _∙_, subst}
+use mathlib.Core.Bool.{Bool, true, false}
+use mathlib.Core.List.{List, [], _∷_, _++_, append-nil, append-assoc}
+use Prim.Native.Nat.{ℕ, zero, suc, _+_, _-_, _*_, _≤_, _<_}
+use native.Mathlib.Omega.{arith}
+use native.Mathlib.Decide.{decLe}
+use lib.Dec.{leb, ltb, eqb}
+use lib.ListN.{length, take, drop, set, length-drop, take-append-drop}
+use lib.Seq.{drop-append-le, drop-drop, length-take-le}
+use borrow.Author.Tests.{le-leb, lt-leb, leb-true, leb-false, ltb-false, lt-ltb, le-ltb, eq-eqb, ne-eqb}
+use Rattle.octets.specs.Logic.{choose}
+use Rattle.octets.specs.Put.{put, set-two}
+use Rattle.refusal.specs.Answer.{Answer, gives, refuses, refuse, gives-past, gives-rest}
+use Rattle.refusal.specs.Numbers.{numberOf}
+use Rattle.refusal.specs.declared.Refusal.{Refusal}
+use Rattle.sequence.specs.declared.SequenceNumber.{SequenceNumber}
+use Rattle.held.specs.Head as Record
+use Rattle.held.specs.Reading as Store
+use Rattle.held.specs.Rows.{all-here}
+use Rattle.held.specs.Find.{foundEvent}
+use Rattle.held.specs.Lies.{FindsEvent, FirstEvent}
+use Rattle.held.specs.Theorems as Lists
+use Rattle.held.specs.declared.Found.{Found}
+use Rattle.held.specs.declared.Found.the-variants as Found
+use Rattle.held.specs.declared.Place.{Place}
+use Rattle.model.specs.Client.{Held}
+use Rattle.model.specs.Model.{Taken, none, packet}
+use Rattle.model.specs.Reading.{Rooms, rooms, slotsOf}
+use Rattle.model.specs.Promise.{Done, Exact, answerOf, roomsOf, outputOf, gives-same}
+use Rattle.model.specs.Batch.{Turn, goes, stops, Many, onward, many, Stop, ended, refused, Site, site, exactTurn}
+use Rattle.model.specs.BatchLaws.{exact-gave, exact-stayed, row-goes, row-stops}
+use Rattle.model.specs.Says.{ShownEvent, event, noEvent, shownEvent, bytesOfTaken, saysEvent}
+use Rattle.model.specs.SaysBatch.{saysStop, saysEvents}
+use Rattle.model.specs.PollForEvents.{turns, Lent, lent, roomFor, handing, Handings, orRefused, packetsOf, marksOf, shownHandings, packetsOfHandings, marksOfHandings}
+use Rattle.model.specs.declared.Connection.{Connection}
+use Rattle.model.specs.declared.Event.{Event}
+use Rattle.model.specs.declared.Event.the-variants as Event
+use Rattle.model.specs.declared.Events.{Events}
+use Rattle.model.specs.declared.Events.the-variants as Events
+use Rattle.model.specs.declared.Stop.the-variants as Stops
+use Rattle.model.specs.declared.Stop as Declared
+use Rattle.polling.specs.Exact.{eventAt, without, stays, moved, leftState, eventFrom, eventExact, EventStep}
+use Rattle.polling.specs.Left.{event-is}
+use Rattle.polling.specs.Theorems.{ready, event-leaves}
+use Rattle.batch.specs.Events.{eventStep, handedExact, eventsExact, placed, marked, Markable, roomLeft, TurnStep, stoppedBy, Stored, EventsStep}
+
+-- ---- what is found decides a poll
+
+module _ (c : Connection) (s : List ℕ) (bytes : ℕ) where
+  from-found : (x : Found) → x ≡ foundEvent (c .window) s → (q f : List ℕ) → eventFrom c (rooms q s f) bytes x ≡ eventExact c (rooms q s f) bytes
+  unfolding eventExact
+  from-found x e q f = ap (eventFrom c (rooms q s f) bytes) e
+
+  -- an event that has room
+  from-place : (p : Place) → Found.At p ≡ foundEvent (c .window) s → ltb bytes (p .len) ≡ false → (q f : List ℕ)
+      → gives (moved (packet (eventAt (rooms q s f) p)) c (rooms q s f) (without c (rooms q s f) p) (slotsOf c (rooms q s f))) ≡ eventExact c (rooms q s f) bytes
+  unfolding refuse
+  from-place p e t q f =
+      let z : gives (moved (packet (eventAt (rooms q s f) p)) c (rooms q s f) (without c (rooms q s f) p) (slotsOf c (rooms q s f))) ≡ eventFrom c (rooms q s f) bytes (Found.At p) = simp t in
+      z ∙ from-found (Found.At p) e q f
+
+module _ (c : Connection) (s : List ℕ) (R : Stored c s) (p : Place) (F : FirstEvent (c .window) s p) where
+  -- its packet is as long as is said there, and has 32 bytes
+  place-packet : eventAt (rooms [] s []) p .packet ≡ F .it .packet
+  place-packet = ap (λ (h : Held). h .packet) (event-is c (rooms (R .requests) s (R .slots)) (R .sound) p F)
+
+  place-long : length (eventAt (rooms [] s []) p .packet) ≡ p .len
+  place-long = ap length place-packet ∙ sym (F .len)
+
+  place-least : 32 ≤ p .len
+  place-least =
+      let fit = ready c (rooms (R .requests) s (R .slots)) (R .sound) .held .readable .fit in
+      let z = all-here Record.Fits (F .lies .front) (F .it) (F .lies .back) (subst (Store.All Record.Fits) (F .lies .split) fit) in
+      omega (arith, z .least, F .len)
+
+-- ---- a turn that hands out
+
+pub record Out (c : Connection) (s : List ℕ) (bytes n len : ℕ) (next : Connection) (s' : List ℕ) : Type 0 where
+  pub it : Held
+  pub number : n ≡ it .number
+  pub long : len ≡ length (it .packet)
+  pub least : 32 ≤ len
+  pub most : len ≤ bytes
+  pub given : (q f : List ℕ) → gives (record { value = packet it; state = next; left = rooms q s' f }) ≡ eventExact c (rooms q s f) bytes
+
+event-shown : (n len m k : ℕ) → event n len ≡ event m k → (n ≡ m) × (len ≡ k)
+event-shown n len m k e = (cc, cc)
+
+no-shown : (n len : ℕ) → event n len ≡ noEvent → ⊥
+no-shown n len e = let z : _≡_ {A = ℕ} 0 1 = cc in omega arith
+
+module _ (c : Connection) (s : List ℕ) (R : Stored c s) (bytes : ℕ) where
+  pub out-is : (n : SequenceNumber) (len : ℕ) (next : Connection) (s' : List ℕ)
+      → ((q f : List ℕ) → Exact shownEvent (eventExact c (rooms q s f) bytes) (rooms q s f) (gives (event (n .0) len, next)) (rooms q s' f)) → Out c s bytes (n .0) len next s'
+  out-is n len next s' X = go (foundEvent (c .window) s) refl (Lists.find-event-law (c .window) s)
+    where
+      go : (x : Found) → x ≡ foundEvent (c .window) s → FindsEvent (c .window) s x → Out c s bytes (n .0) len next s'
+      go Found.Nothing e F =
+          let z = exact-gave shownEvent _ _ _ _ _ (X [] []) in
+          let d : z .0 ≡ stays none c (rooms [] s []) = gives-same (z .1 ∙ sym (from-found c s bytes Found.Nothing e [] [])) in
+          absurd (no-shown (n .0) len (z .2 ∙ ap (λ (y : Done Taken). shownEvent (y .value)) d))
+      go (Found.At p) e F =
+          let z = exact-gave shownEvent _ _ _ _ _ (X [] []) in
+          let w : gives (z .0) ≡ eventFrom c (rooms [] s []) bytes (Found.At p) = z .1 ∙ sym (from-found c s bytes (Found.At p) e [] []) in
+          let t : ltb bytes (p .len) ≡ false = gives-past _ _ _ w in
+          let d = gives-same (gives-rest _ _ _ w) in
+          let v = event-shown _ _ _ _ (z .2 ∙ ap (λ (y : Done Taken). shownEvent (y .value)) d) in
+          let ns : next ≡ leftState c (without c (rooms [] s []) p .window) (c .counts) = z .3 ∙ ap (λ (y : Done Taken). y .state) d in
+          let ss : s' ≡ without c (rooms [] s []) p .store = ap (λ (y : Rooms). y .store) (z .4 ∙ ap (λ (y : Done Taken). y .left) d) in
+          let l : len ≡ p .len = v .1 ∙ place-long c s R p F in
+          let m : p .len ≤ bytes = ltb-false bytes (p .len) t in
+          record {
+            it = eventAt (rooms [] s []) p;
+            number = v .0;
+            long = v .1;
+            least = omega (arith, place-least c s R p F);
+            most = omega arith;
+            given = λ q f. (λ k. gives (record { value = packet (eventAt (rooms [] s []) p); state = ns k; left = rooms q (ss k) f })) ∙ from-place c s bytes p e t q f;
+          }
+
+  -- one that finds none
+  pub none-is : (c' : Connection) (s' : List ℕ) → ((q f : List ℕ) → Exact shownEvent (eventExact c (rooms q s f) bytes) (rooms q s f) (gives (noEvent, c')) (rooms q s' f))
+      → ((q f : List ℕ) → gives (stays none c (rooms q s f)) ≡ eventExact c (rooms q s f) bytes) × (s' ≡ s)
+  none-is c' s' X = go (foundEvent (c .window) s) refl
+    where
+      go : (x : Found) → x ≡ foundEvent (c .window) s → ((q f : List ℕ) → gives (stays none c (rooms q s f)) ≡ eventExact c (rooms q s f) bytes) × (s' ≡ s)
+      go Found.Nothing e =
+          let z = exact-gave shownEvent _ _ _ _ _ (X [] []) in
+          let d : z .0 ≡ stays none c (rooms [] s []) = gives-same (z .1 ∙ sym (from-found c s bytes Found.Nothing e [] [])) in
+          (λ q f. from-found c s bytes Found.Nothing e q f, ap (λ (y : Rooms). y .store) (z .4 ∙ ap (λ (y : Done Taken). y .left) d))
+      go (Found.At p) e =
+          let z = exact-gave shownEvent _ _ _ _ _ (X [] []) in
+          let d = gives-same (gives-rest _ _ _ (z .1 ∙ sym (from-found c s bytes (Found.At p) e [] []))) in
+          absurd (no-shown _ _ (sym (z .2 ∙ ap (λ (y : Done Taken). shownEvent (y .value)) d)))
+
+  -- a packet that is given has room
+  pub given-room : (q f : List ℕ) (d : Done Taken) → gives d ≡ eventExact c (rooms q s f) bytes → length (bytesOfTaken (d .value)) ≤ bytes
+  given-room q f d g = go (foundEvent (c .window) s) refl (Lists.find-event-law (c .window) s)
+    where
+      go : (x : Found) → x ≡ foundEvent (c .window) s → FindsEvent (c .window) s x → length (bytesOfTaken (d .value)) ≤ bytes
+      go Found.Nothing e F =
+          let z : length (bytesOfTaken (d .value)) ≡ 0 = ap (λ (y : Done Taken). length (bytesOfTaken (y .value))) (gives-same (g ∙ sym (from-found c s bytes Found.Nothing e q f))) in
+          omega arith
+      go (Found.At p) e F =
+          let w : gives d ≡ eventFrom c (rooms q s f) bytes (Found.At p) = g ∙ sym (from-found c s bytes (Found.At p) e q f) in
+          let z : length (bytesOfTaken (d .value)) ≡ length (eventAt (rooms [] s []) p .packet) = ap (λ (y : Done Taken). length (bytesOfTaken (y .value))) (gives-same (gives-rest _ _ _ w)) in
+          omega (arith, ltb-false bytes (p .len) (gives-past _ _ _ w), place-long c s R p F)
+
+-- ---- the part of an output that is lent to a turn
+
+part-put : (out v : List ℕ) (used n : ℕ) → used + n ≤ length out → length v ≤ n → take used out ++ (put (take n (drop used out)) 0 v ++ drop n (drop used out)) ≡ put out used v
+unfolding put
+part-put out v used n h k =
+    let D = drop used out in
+    let l : length (take n D) ≡ n = length-take-le n D (omega (arith, length-drop used out)) in
+    let e : drop (0 + length v) (take n D) ++ drop n D ≡ drop (used + length v) out =
+    sym (drop-append-le (0 + length v) (take n D) (drop n D) (omega arith))
+    ∙ ap (drop (0 + length v)) (take-append-drop n D)
+    ∙ drop-drop (0 + length v) used out
+    ∙ (let z : used + (0 + length v) ≡ used + length v = omega arith in ap (λ (m : ℕ). drop m out) z) in
+    ap (λ (y : List ℕ). take used out ++ y) (append-assoc v (drop (0 + length v) (take n D)) (drop n D) ∙ ap (λ (y : List ℕ). v ++ y) e)
+
+part-none : (out : List ℕ) (used n : ℕ) → take used out ++ (take n (drop used out) ++ drop n (drop used out)) ≡ out
+part-none out used n = ap (λ (y : List ℕ). take used out ++ y) (take-append-drop n (drop used out)) ∙ take-append-drop used out
+
+part-placed : (g : Taken → List ℕ) (e : Answer (Done Taken)) (out : List ℕ) (used n : ℕ) → used + n ≤ length out → ((d : Done Taken) → gives d ≡ e → length (g (d .value)) ≤ n)
+    → take used out ++ (outputOf g e (take n (drop used out)) ++ drop n (drop used out)) ≡ placed g used e out
+unfolding outputOf placed
+part-placed g (gives d) out used n h k = part-put out (g (d .value)) used n h (k d refl)
+part-placed g (refuses m) out used n h k = part-none out used n
+
+-- ---- the room of a turn
+
+pub room-few : (marks room : ℕ) → marks < 2 → 0 ≡ roomFor (leb 2 marks) room
+unfolding roomFor choose
+room-few marks room h = simp (lt-leb 2 marks h)
+
+pub room-many : (marks room : ℕ) → 2 ≤ marks → room ≡ roomFor (leb 2 marks) room
+unfolding roomFor choose
+room-many marks room h = simp (le-leb 2 marks h)
+
+pub room-most : (marks room : ℕ) → roomFor (leb 2 marks) room ≤ room
+room-most marks room = go (leb 2 marks)
+  where
+    go : (b : Bool) → roomFor b room ≤ room
+    go true = omega (arith, room-many 2 room (omega arith))
+    go false = omega (arith, room-few 0 room (omega arith))
+
+-- where a packet is given there are two marks
+pub marks-there : (marks room len : ℕ) → 32 ≤ len → len ≤ roomFor (leb 2 marks) room → 2 ≤ marks
+marks-there marks room len h k =
+    elim (decLe 2 marks) [ yes p ↦ p | no q ↦ absurd (let z : ⊥ = omega (arith, room-few marks room (omega arith)) in z) ]
+
+-- A turn needs two marks where it hands a packet out,
+pub turn-markable : (c : Connection) (s part out marks : List ℕ) (used at : ℕ) (a : Event) (s' part' : List ℕ) → Stored c s → length part ≡ roomLeft out marks used at → EventStep c s part a s' part'
+    → Markable a at (length marks)
+turn-markable c s part out marks used at (Event.Packet n len next) s' part' R l x =
+    let o = out-is c s R (length part) n len next s' (x .exact) in
+    omega (arith, marks-there (length marks - at) (length out - used) len (o .least) (omega (arith, o .most)))
+turn-markable c s part out marks used at (Event.Nothing c') s' part' R l x = tt
+turn-markable c s part out marks used at (Event.Refused r) s' part' R l x = tt
+
+-- and is what the poll is, with the packet at its place.
+pub turn-is : (c : Connection) (s out marks : List ℕ) (used at n : ℕ) (a : Event) (s' part' marks' : List ℕ) → Stored c s → n ≡ roomLeft out marks used at → used + n ≤ length out
+    → EventStep c s (take n (drop used out)) a s' part' → marks' ≡ marked a at marks
+    → TurnStep c s out marks used at a s' (take used out ++ (part' ++ drop n (drop used out))) marks'
+turn-is c s out marks used at n a s' part' marks' R e h x m =
+    let l : length (take n (drop used out)) ≡ n = length-take-le n (drop used out) (omega (arith, length-drop used out)) in
+    let b : length (take n (drop used out)) ≡ roomLeft out marks used at = l ∙ e in
+    record {
+      exact = λ q f. subst (λ (y : ℕ). Exact shownEvent (eventExact c (rooms q s f) y) (rooms q s f) (saysEvent a) (rooms q s' f)) b (x .exact q f);
+      output = λ q f.
+          ap (λ (y : List ℕ). take used out ++ (y ++ drop n (drop used out))) (x .output q f)
+          ∙ ap (λ (y : ℕ). take used out ++ (outputOf bytesOfTaken (eventExact c (rooms q s f) y) (take n (drop used out)) ++ drop n (drop used out))) l
+          ∙ part-placed bytesOfTaken (eventExact c (rooms q s f) n) out used n h (given-room c s R n q f)
+          ∙ ap (λ (y : ℕ). placed bytesOfTaken used (eventExact c (rooms q s f) y) out) e;
+      marks-are = m;
+    }
+
+-- ---- marks
+
+pub markable-packet : (a : Event) (n : SequenceNumber) (len : ℕ) (next : Connection) (at m : ℕ) → a ≡ Event.Packet n len next → Markable a at m → at + 2 ≤ m
+markable-packet a n len next at m e h = subst (λ z. Markable z at m) e h
+
+pub marked-packet : (a : Event) (n : SequenceNumber) (len : ℕ) (next : Connection) (at : ℕ) (marks : List ℕ) → a ≡ Event.Packet n len next → Markable a at (length marks) → set (set marks at (n .0)) (at + 1) len ≡ marked a at marks
+marked-packet a n len next at marks e h =
+    set-two marks at (n .0) len (markable-packet a n len next at (length marks) e h) ∙ ap (λ z. marked z at marks) (sym e)

@@ -1,0 +1,97 @@
+// Many events are handed out, oldest first: their packets one behind the other, and two marks for
+// each, its number and the length of its packet.
+//
+// A turn looks for the oldest event from the oldest record on, so it walks over the replies that are
+// held before it; where there are none it moves and walks over nothing.
+use model::Connection;
+use model::Event;
+use model::Events;
+use model::Stop;
+use refusal::Refusal;
+ghost use mathlib.Core.Path.{_≡_};
+ghost use mathlib.Core.List.{List};
+ghost use Prim.Native.Nat.{_+_, _-_, _≤_};
+ghost use lib.Dec.{leb};
+ghost use lib.ListN.{length};
+ghost use Rattle.model.specs.PollForEvents.{roomFor};
+ghost use Rattle.batch.specs.Events.{Stored, EventsStep, TurnStep, marked, Markable, stoppedBy};
+
+// The marks of an event.
+const MARKS: usize = 2;
+
+// As many events as fit. Refused by 8 where there is one and not even one fits.
+pub fn poll_for_events(c: Connection, store: &mut [u8], out: &mut [u8], marks: &mut [u64]) -> Events
+    requires { ⌜ Stored c (now store) ⌝ }
+    ensures { λ r. ⌜ EventsStep c (now (store .entry)) (now (out .entry)) (now (marks .entry)) r (now (store .exit)) (now (out .exit)) (now (marks .exit)) ⌝ }
+{
+    let mut state = c;
+    let mut used = 0;
+    let mut count = 0;
+    loop {
+        let a = turn(state, store, out, marks, used, MARKS * count);
+        match a {
+            Event::Packet(_, len, next) => {
+                state = next;
+                used += len;
+                count += 1;
+            }
+            Event::Nothing(_) => {
+                return Events::Handed(count, used, Stop::End, state);
+            }
+            Event::Refused(refusal) => {
+                return stopped(count, used, refusal, state);
+            }
+        }
+    }
+}
+
+// One turn: the next event behind the bytes that are used, and its marks behind those that are
+// there. Without two marks it has no room.
+fn turn(
+    c: Connection,
+    store: &mut [u8],
+    out: &mut [u8],
+    marks: &mut [u64],
+    used: usize,
+    at: usize,
+) -> Event
+    requires { ⌜ Stored c (now store) × (used ≤ length (now out)) × (at ≤ length (now marks)) ⌝ }
+    ensures { λ r. ⌜ TurnStep c (now (store .entry)) (now (out .entry)) (now (marks .entry)) used at r (now (store .exit)) (now (out .exit)) (now (marks .exit)) ⌝ }
+{
+    let end = used + room_for(marks.len() - at, out.len() - used);
+    let a = polling::poll_for_event(c, store, &mut out[used..end]);
+    mark(marks, at, a);
+    a
+}
+
+fn room_for(marks: usize, room: usize) -> usize
+    ensures { λ r. ⌜ r ≡ roomFor (leb 2 marks) room ⌝ }
+{
+    if marks < MARKS {
+        return 0;
+    }
+    room
+}
+
+fn mark(marks: &mut [u64], at: usize, a: Event)
+    requires { ⌜ Markable a at (length (now marks)) ⌝ }
+    ensures { λ _. ⌜ now (marks .exit) ≡ marked a at (now (marks .entry)) ⌝ }
+{
+    match a {
+        Event::Packet(number, len, _) => {
+            marks[at] = number.0;
+            marks[at + 1] = len as u64;
+        }
+        Event::Nothing(_) => {}
+        Event::Refused(_) => {}
+    }
+}
+
+fn stopped(count: usize, used: usize, refusal: Refusal, state: Connection) -> Events
+    ensures { λ r. ⌜ r ≡ stoppedBy count used refusal state ⌝ }
+{
+    if count == 0 {
+        return Events::Refused(refusal);
+    }
+    Events::Handed(count, used, Stop::Refused(refusal), state)
+}
