@@ -4,3 +4,7 @@ pub mod Events
 pub mod EventsLaws
 pub mod EventsLoop
 pub mod Theorems
+pub mod Feed
+pub mod FeedLaws
+pub mod FeedLoop
+pub mod FeedTheorems

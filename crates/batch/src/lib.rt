@@ -4,7 +4,9 @@
 // What such a call comes to is a row of single calls (`model`, specs/Batch.antt): the law there
 // says once for all that a row of exact steps is the model's row and leaves a sound state.
 mod events;
+mod feed;
 mod send;
 
 pub use events::poll_for_events;
+pub use feed::enqueue_packets;
 pub use send::send_requests;

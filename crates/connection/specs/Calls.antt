@@ -13,6 +13,7 @@ use Rattle.model.specs.Reading.{Rooms, rooms, reads}
 use Rattle.model.specs.Promise.{Done, Exact, Promise, outputOf, modelOf, guarded}
 use Rattle.model.specs.Says.{Shown, shownTaken, ShownEvent, shownEvent, ShownPoll, shownPoll, bytesOfTaken, descriptorsOfTaken, bytesOfPoll}
 use Rattle.model.specs.SendRequests.{ShownSendings, shownSendings, sendRequests}
+use Rattle.model.specs.Feed.{ShownFed, shownFed}
 use Rattle.model.specs.PollForEvents.{ShownHandings, shownHandings, packetsOfHandings, marksOfHandings, pollForEvents}
 use Rattle.model.specs.declared.Connection.{Connection}
 use Rattle.model.specs.declared.ReplyFdKind.{ReplyFdKind}
@@ -24,6 +25,7 @@ use Rattle.intake.specs.Exact.{enqueueExact, shown}
 use Rattle.polling.specs.Discard.{discardExact}
 use Rattle.polling.specs.Exact.{eventExact, takenExact, checkedExact, repliedExact}
 use Rattle.batch.specs.Send.{sendsExact}
+use Rattle.batch.specs.Feed.{enqueuePackets, feedExact}
 use Rattle.batch.specs.Events.{eventsExact}
 
 -- a state with nothing sent, read or held
@@ -98,6 +100,9 @@ pub record Polls (c : Connection) (r : Rooms) (n : ℕ) (out fds : List ℕ) (a 
 
 abbrev pub SendsMany : Connection → Rooms → List ℕ → Answer (ShownSendings × Connection) → Rooms → Type 0
 SendsMany c r bytes = Promise shownSendings (sendsExact c r bytes) (λ m. sendRequests m bytes) c r
+
+abbrev pub EnqueuesMany : Connection → Rooms → List ℕ → Answer (ShownFed × Connection) → Rooms → Type 0
+EnqueuesMany c r bytes = Promise shownFed (feedExact c r bytes) (λ m. enqueuePackets m bytes) c r
 
 -- `poll_for_events` has two outputs, for the packets and for their marks.
 pub record PollsEvents (c : Connection) (r : Rooms) (out marks : List ℕ) (a : Answer (ShownHandings × Connection)) (r' : Rooms) (out' marks' : List ℕ) : Type 0 where

@@ -14,6 +14,7 @@ use model::DiscardMode;
 use model::Enqueued;
 use model::Event;
 use model::Events;
+use model::Fed;
 use model::Next;
 use model::PollReply;
 use model::Polled;
@@ -29,7 +30,8 @@ ghost use Rattle.model.specs.Model.{roomy};
 ghost use Rattle.model.specs.Reading.{rooms};
 ghost use Rattle.model.specs.Says.{saysNext, saysSent, saysEnqueued, saysPolled, saysPollReply, saysEvent, saysClosed, saysPrepared};
 ghost use Rattle.model.specs.SaysBatch.{saysSentMany, saysEvents};
-ghost use Rattle.connection.specs.Calls.{Opens, Sends, EnqueuesFds, Enqueues, Discards, Polls, Checks, PollsReply, PollsEvent, Closes, Prepares, SendsMany, PollsEvents, freshState as Calls·freshState};
+ghost use Rattle.model.specs.Feed.{saysFed};
+ghost use Rattle.connection.specs.Calls.{Opens, Sends, EnqueuesFds, Enqueues, Discards, Polls, Checks, PollsReply, PollsEvent, Closes, Prepares, SendsMany, EnqueuesMany, PollsEvents, freshState as Calls·freshState};
 
 // A fresh connection in these rooms: its request room and its packet store have the lengths that
 // they are lent with from then on. Refused by 9 for a room out of range or other than 256 slots for
@@ -118,6 +120,25 @@ pub fn enqueue_packet(
         return Enqueued::Refused(Refusal::BadRoom);
     }
     intake::enqueue_packet(c, requests, store, slots, packet)
+}
+
+// Bytes came from the server: each whole packet that they begin with is taken in as
+// `enqueue_packet` does, one after the other, up to the first that is refused, behind one test.
+// Answers how many bytes and packets were taken, and what stopped it: no byte is left, part of a
+// packet is left, or the next packet is refused by 2, 3, 4 or 5. Refused by 9 alone.
+pub fn enqueue_packets(
+    c: Connection,
+    requests: &[u8],
+    store: &mut [u8],
+    slots: &mut [u32],
+    bytes: &[u8],
+) -> Fed
+    ensures { λ r. ⌜ EnqueuesMany c (rooms (now (requests .entry)) (now (store .entry)) (now (slots .entry))) (now (bytes .entry)) (saysFed r) (rooms (now (requests .entry)) (now (store .exit)) (now (slots .exit))) ⌝ }
+{
+    if !model::is_sound(c, requests, store, slots) {
+        return Fed::Refused(Refusal::BadRoom);
+    }
+    batch::enqueue_packets(c, requests, store, slots, bytes)
 }
 
 // The answers to a request are not wanted: neither those to come nor those held, whose descriptors

@@ -11,7 +11,7 @@ use Rattle.model.specs.Reading.{Rooms}
 use Rattle.model.specs.Says.{Shown, none, packet}
 use Rattle.model.specs.declared.Connection.{Connection}
 use Rattle.honest.specs.Run.{Event}
-use Rattle.session.specs.Session.{Session, new, send-request, enqueue-packet, discard-reply, poll-for-reply-or-error, poll-check-for-reply-or-error, poll-for-reply, poll-for-event, take-closed-fds, send-requests, poll-for-events, prepare-check}
+use Rattle.session.specs.Session.{Session, new, send-request, enqueue-packet, discard-reply, poll-for-reply-or-error, poll-check-for-reply-or-error, poll-for-reply, poll-for-event, take-closed-fds, send-requests, enqueue-packets, poll-for-events, prepare-check}
 use Rattle.session.specs.Session as Public
 
 -- ---- Of a state
@@ -148,6 +148,7 @@ sessionAccepted (poll-for-reply n out a r' out' h k) = sessionAccepted k
 sessionAccepted (poll-for-event out a r' out' h k) = sessionAccepted k
 sessionAccepted (take-closed-fds out a r' out' h k) = sessionAccepted k
 sessionAccepted (send-requests bytes a r' h k) = sessionAccepted k
+sessionAccepted (enqueue-packets ts bytes b a r' h k) = sessionAccepted k
 sessionAccepted (poll-for-events out marks a r' out' marks' h k) = sessionAccepted k
 sessionAccepted (prepare-check n a h k) = sessionAccepted k
 
@@ -164,5 +165,6 @@ sessionHanded (poll-for-reply n out a r' out' h k) = sessionHanded k
 sessionHanded (poll-for-event out a r' out' h k) = sessionHanded k
 sessionHanded (take-closed-fds out a r' out' h k) = foundClosed a out' ++ sessionHanded k
 sessionHanded (send-requests bytes a r' h k) = sessionHanded k
+sessionHanded (enqueue-packets ts bytes b a r' h k) = sessionHanded k
 sessionHanded (poll-for-events out marks a r' out' marks' h k) = sessionHanded k
 sessionHanded (prepare-check n a h k) = sessionHanded k

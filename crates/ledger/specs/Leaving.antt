@@ -11,6 +11,7 @@ use Rattle.model.specs.Says.{Shown, shownTaken, ShownEvent, shownEvent, ShownPo
 use Rattle.model.specs.Sound.{Sound}
 use Rattle.model.specs.SendRequests.{ShownSendings, shownSendings}
 use Rattle.model.specs.PollForEvents.{ShownHandings, shownHandings}
+use Rattle.model.specs.Feed.{ShownFed, shownFed}
 use Rattle.model.specs.declared.Connection.{Connection}
 use Rattle.model.specs.declared.DiscardMode.{DiscardMode}
 use Rattle.model.specs.declared.ReplyFdKind.{ReplyFdKind}
@@ -20,7 +21,8 @@ use Rattle.intake.specs.Theorems as Intake
 use Rattle.polling.specs.DiscardTheorems.{discard-leaves}
 use Rattle.polling.specs.Theorems as Polling
 use Rattle.batch.specs.Theorems as Batch
-use Rattle.connection.specs.Calls.{Sends, EnqueuesFds, Enqueues, Discards, Polls, Checks, PollsReply, PollsEvent, Closes, SendsMany, PollsEvents}
+use Rattle.batch.specs.FeedLaws.{feed-sound}
+use Rattle.connection.specs.Calls.{Sends, EnqueuesFds, Enqueues, Discards, Polls, Checks, PollsReply, PollsEvent, Closes, SendsMany, EnqueuesMany, PollsEvents}
 use Rattle.connection.specs.Theorems.{state-sound}
 
 module _ (c : Connection) (r : Rooms) (c' : Connection) (r' : Rooms) where
@@ -54,6 +56,9 @@ module _ (c : Connection) (r : Rooms) (c' : Connection) (r' : Rooms) where
 
   pub sends-leave : (bytes : List ℕ) (v : ShownSendings) → SendsMany c r bytes (gives (v, c')) r' → Sound c' r'
   sends-leave bytes v h = state-sound shownSendings _ _ c r (λ S. Batch.sends-sound c r S bytes) v c' r' h
+
+  pub packets-leave : (bytes : List ℕ) → ((i : ℕ) → getD bytes i 0 < 256) → (v : ShownFed) → EnqueuesMany c r bytes (gives (v, c')) r' → Sound c' r'
+  packets-leave bytes b v h = state-sound shownFed _ _ c r (λ S. feed-sound c r S bytes b) v c' r' h
 
   pub events-leave : (out marks : List ℕ) (v : ShownHandings) (out' marks' : List ℕ) → PollsEvents c r out marks (gives (v, c')) r' out' marks' → Sound c' r'
   events-leave out marks v out' marks' h = state-sound shownHandings _ _ c r (λ S. Batch.events-sound c r S (length out) (length marks)) v c' r' (h .packets .promise)

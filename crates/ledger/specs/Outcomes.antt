@@ -7,6 +7,7 @@ use Rattle.model.specs.Client.{Client}
 use Rattle.model.specs.Promise.{Done, Promise}
 use Rattle.model.specs.Reading.{Rooms}
 use Rattle.model.specs.Says.{saysNext, saysSent, saysEnqueued, saysPolled, saysPollReply, saysEvent, saysClosed, saysPrepared, next-one, sent-one, enqueued-one, polled-one, pollReply-one, event-one, closed-one, prepared-one}
+use Rattle.model.specs.Feed.{saysFed, fed-one}
 use Rattle.model.specs.SaysBatch.{saysSentMany, saysEvents, sentMany-one, events-one}
 use Rattle.model.specs.declared.Connection.{Connection}
 use Rattle.model.specs.declared.ReplyFdKind.{ReplyFdKind}
@@ -21,7 +22,8 @@ use Rattle.model.specs.declared.Closed.{Closed}
 use Rattle.model.specs.declared.Prepared.{Prepared}
 use Rattle.model.specs.declared.SentMany.{SentMany}
 use Rattle.model.specs.declared.Events.{Events}
-use Rattle.connection.specs.Calls.{Opens, Sends, EnqueuesFds, Enqueues, Discards, Hands, Polls, Checks, PollsReply, PollsEvent, Closes, Prepares, SendsMany, PollsEvents}
+use Rattle.model.specs.declared.Fed.{Fed}
+use Rattle.connection.specs.Calls.{Opens, Sends, EnqueuesFds, Enqueues, Discards, Hands, Polls, Checks, PollsReply, PollsEvent, Closes, Prepares, SendsMany, EnqueuesMany, PollsEvents}
 use Rattle.connection.specs.Theorems.{one-outcome}
 
 -- ---- for an enum E that says as much as it holds
@@ -75,6 +77,9 @@ module _ (c : Connection) (r : Rooms) where
 
   pub send-requests-one : (bytes : List ℕ) (a b : SentMany) (s t : Rooms) → SendsMany c r bytes (saysSentMany a) s → SendsMany c r bytes (saysSentMany b) t → (a ≡ b) × (s ≡ t)
   send-requests-one bytes a b s t p q = promise-one saysSentMany sentMany-one _ _ _ c r a b s t p q
+
+  pub enqueue-packets-one : (bytes : List ℕ) (a b : Fed) (s t : Rooms) → EnqueuesMany c r bytes (saysFed a) s → EnqueuesMany c r bytes (saysFed b) t → (a ≡ b) × (s ≡ t)
+  enqueue-packets-one bytes a b s t p q = promise-one saysFed fed-one _ _ _ c r a b s t p q
 
   pub poll-for-events-one : (out marks : List ℕ) (a b : Events) (s t : Rooms) (x y v w : List ℕ) → PollsEvents c r out marks (saysEvents a) s x v → PollsEvents c r out marks (saysEvents b) t y w
       → (a ≡ b) × (s ≡ t) × (x ≡ y) × (v ≡ w)

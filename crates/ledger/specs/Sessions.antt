@@ -1,9 +1,9 @@
 -- Sessions balance: each public call does, as it is read, what the model does, and leaves in the outputs what the model hands out. Assumes nothing.
 use mathlib.Core.List.{List, []}
 use mathlib.Core.Path.{_≡_, refl, sym, ap, _∙_}
-use Prim.Native.Nat.{ℕ, _+_}
+use Prim.Native.Nat.{ℕ, _+_, _<_}
 use native.Mathlib.Omega.{arith}
-use lib.ListN.{length, take, drop}
+use lib.ListN.{length, take, drop, getD}
 use lib.Seq.{take-append-le, take-length}
 use Rattle.octets.specs.Put.{put}
 use Rattle.refusal.specs.Answer.{Answer, gives, refuses, gives-rest}
@@ -11,7 +11,7 @@ use Rattle.descriptors.specs.Room.{count}
 use Rattle.descriptors.specs.Room as Slots
 use Rattle.descriptors.specs.Counting.{count-append, count-inside}
 use Rattle.model.specs.Client.{Held, Client, descriptorsOf}
-use Rattle.model.specs.Model.{fresh, Taken, enqueueFds, pollForReplyOrError, pollForEvent}
+use Rattle.model.specs.Model.{fresh, Taken, Filing, enqueueFds, pollForReplyOrError, pollForEvent}
 use Rattle.model.specs.Model as Model
 use Rattle.model.specs.Calls.{Call, send, enqueue-fds, enqueue, discard, poll, check, poll-reply, prepare, poll-event, take-closed, step}
 use Rattle.model.specs.Promise.{Done, answerOf, roomsOf, outputOf, modelOf, guarded, Promise, gives-same}
@@ -21,15 +21,17 @@ use Rattle.model.specs.Says.{Shown, shownTaken, shownEvent, shownPoll, descript
 use Rattle.model.specs.Sound.{Sound}
 use Rattle.model.specs.SendRequests.{kindOf, ShownSendings}
 use Rattle.model.specs.PollForEvents.{ShownHandings}
+use Rattle.model.specs.Feed.{ShownFed}
 use Rattle.model.specs.declared.Connection.{Connection}
 use Rattle.sending.specs.Send.{same}
 use Rattle.polling.specs.Exact.{eventExact}
-use Rattle.connection.specs.Calls.{Sends, EnqueuesFds, Polls, Closes, SendsMany, PollsEvents}
+use Rattle.connection.specs.Calls.{Sends, EnqueuesFds, Enqueues, Polls, Closes, SendsMany, EnqueuesMany, PollsEvents}
 use Rattle.connection.specs.Opening.{opens-fresh}
 use Rattle.honest.specs.Run.{Event}
 use Rattle.honest.specs.Public.{stateOf, Given, modelled, Came, gave, kept, came}
-use Rattle.session.specs.Session.{Session, new, send-request, enqueue-packet, discard-reply, poll-for-reply-or-error, poll-check-for-reply-or-error, poll-for-reply, poll-for-event, take-closed-fds, send-requests, poll-for-events, prepare-check}
+use Rattle.session.specs.Session.{Session, new, send-request, enqueue-packet, discard-reply, poll-for-reply-or-error, poll-check-for-reply-or-error, poll-for-reply, poll-for-event, take-closed-fds, send-requests, enqueue-packets, poll-for-events, prepare-check}
 use Rattle.session.specs.Rows.{sends-row, events-row}
+use Rattle.session.specs.FeedRow.{feed-row}
 use Rattle.session.specs.Theorems.{session-sound}
 use Rattle.session.specs.Session as Public
 use Rattle.ledger.specs.Descriptors.{within, accepted, unlessRefused, handedOut, tookWith, closedBy, Neither, brought, foundWith, foundClosed, sessionAccepted, sessionHanded}
@@ -175,6 +177,14 @@ module _ (c : Connection) (r : Rooms) (S : Sound c r) (d : ℕ) where
           → Within d (count d (within (reads c r))) c₂ r₂
       on c₁ r₁ l T w byte n c₂ r₂ q = record { is = still-gave c₁ r₁ d (send (kindOf byte)) tt same _ n c₂ r₂ q ∙ w .is }
 
+  pub packets-within : (bytes : List ℕ) → ((i : ℕ) → getD bytes i 0 < 256) → (a : Answer (ShownFed × Connection)) (r' : Rooms) → EnqueuesMany c r bytes a r' → count d (within (reads (stateOf a c) r')) ≡ count d (within (reads c r))
+  packets-within bytes b a r' h =
+      feed-row (λ c' r'' l. Within d (count d (within (reads c r))) c' r'') on c r [] S (record { is = refl }) [] bytes b a r' h .is
+    where
+      on : (c₁ : Connection) (r₁ : Rooms) (l : List Event) → Sound c₁ r₁ → Within d (count d (within (reads c r))) c₁ r₁ → (t : ℕ) (p : List ℕ) → getD p 1 0 < 256 → (f : Filing) (c₂ : Connection) (r₂ : Rooms)
+          → Enqueues c₁ r₁ p (gives (f, c₂)) r₂ → Within d (count d (within (reads c r))) c₂ r₂
+      on c₁ r₁ l T w t p u f c₂ r₂ q = record { is = still-gave c₁ r₁ d (enqueue p) tt (λ x. x) _ f c₂ r₂ q ∙ w .is }
+
   pub events-within : (out marks : List ℕ) (a : Answer (ShownHandings × Connection)) (r' : Rooms) (out' marks' : List ℕ) → PollsEvents c r out marks a r' out' marks'
       → count d (within (reads (stateOf a c) r')) ≡ count d (within (reads c r))
   events-within out marks a r' out' marks' h =
@@ -203,6 +213,7 @@ session-balances (poll-for-reply {c = c} {r = r} n out a r' out' h k) d = omega 
 session-balances (poll-for-event {c = c} {r = r} out a r' out' h k) d = omega (arith, session-balances k d, still-within c r d (poll-event (length out)) tt shownEvent _ a r' (h .promise))
 session-balances (take-closed-fds {c = c} {r = r} out a r' out' h k) d = omega (arith, session-balances k d, closed-within c r d out a r' out' h, count-append d (foundClosed a out') (sessionHanded k))
 session-balances (send-requests {c = c} {r = r} bytes a r' h k) d = omega (arith, session-balances k d, sends-within c r (session-sound k) d bytes a r' h)
+session-balances (enqueue-packets {c = c} {r = r} ts bytes b a r' h k) d = omega (arith, session-balances k d, packets-within c r (session-sound k) d bytes b a r' h)
 session-balances (poll-for-events {c = c} {r = r} out marks a r' out' marks' h k) d = omega (arith, session-balances k d, events-within c r (session-sound k) d out marks a r' out' marks' h)
 session-balances (prepare-check n a h k) d = session-balances k d
 

@@ -20,6 +20,7 @@ use Rattle.model.specs.Sound.{Sound, soundb}
 use Rattle.model.specs.SendRequests.{ShownSendings}
 use Rattle.model.specs.PollForEvents.{ShownHandings}
 use Rattle.model.specs.SaysBatch.{saysSentMany, saysEvents}
+use Rattle.model.specs.Feed.{ShownFed, saysFed}
 use Rattle.model.specs.declared.Connection.{Connection}
 use Rattle.model.specs.declared.DiscardMode.{DiscardMode}
 use Rattle.model.specs.declared.ReplyFdKind.{ReplyFdKind}
@@ -34,8 +35,9 @@ use Rattle.model.specs.declared.Closed.{Closed}
 use Rattle.model.specs.declared.Prepared.{Prepared}
 use Rattle.model.specs.declared.SentMany.{SentMany}
 use Rattle.model.specs.declared.Events.{Events}
+use Rattle.model.specs.declared.Fed.{Fed}
 use Rattle.sending.specs.Send.{same}
-use Rattle.connection.specs.Calls.{Opens, Sends, EnqueuesFds, Enqueues, Discards, Polls, Checks, PollsReply, PollsEvent, Closes, Prepares, SendsMany, PollsEvents}
+use Rattle.connection.specs.Calls.{Opens, Sends, EnqueuesFds, Enqueues, Discards, Polls, Checks, PollsReply, PollsEvent, Closes, Prepares, SendsMany, EnqueuesMany, PollsEvents}
 use Rattle.connection.specs.Opening as Opening
 use Rattle.connection.specs.Theorems.{Sentence}
 use Rattle.connection.specs.Theorems as Connection
@@ -118,6 +120,10 @@ module _ (c : Connection) (r : Rooms) (c' : Connection) (r' : Rooms) where
   pub send-requests-sound : (bytes : List ℕ) (v : ShownSendings) → SendsMany c r bytes (gives (v, c')) r' → Sound c' r'
   send-requests-sound bytes v h = Leaving.sends-leave c r c' r' bytes v h
 
+  -- `enqueue_packets` of bytes,
+  pub enqueue-packets-sound : (bytes : List ℕ) → ((i : ℕ) → getD bytes i 0 < 256) → (v : ShownFed) → EnqueuesMany c r bytes (gives (v, c')) r' → Sound c' r'
+  enqueue-packets-sound bytes b v h = Leaving.packets-leave c r c' r' bytes b v h
+
   -- `poll_for_events`.
   pub poll-for-events-sound : (out marks : List ℕ) (v : ShownHandings) (out' marks' : List ℕ) → PollsEvents c r out marks (gives (v, c')) r' out' marks' → Sound c' r'
   poll-for-events-sound out marks v out' marks' h = Leaving.events-leave c r c' r' out marks v out' marks' h
@@ -190,6 +196,9 @@ module _ (c : Connection) (r : Rooms) (d : ℕ) where
   -- So do those that make many steps.
   pub send-requests-conserved : Sound c r → (bytes : List ℕ) (a : Answer (ShownSendings × Connection)) (r' : Rooms) → SendsMany c r bytes a r' → count d (within (reads (stateOf a c) r')) ≡ count d (within (reads c r))
   send-requests-conserved S bytes a r' h = Sessions.sends-within c r S d bytes a r' h
+
+  pub enqueue-packets-conserved : Sound c r → (bytes : List ℕ) → ((i : ℕ) → getD bytes i 0 < 256) → (a : Answer (ShownFed × Connection)) (r' : Rooms) → EnqueuesMany c r bytes a r' → count d (within (reads (stateOf a c) r')) ≡ count d (within (reads c r))
+  enqueue-packets-conserved S bytes b a r' h = Sessions.packets-within c r S d bytes b a r' h
 
   pub poll-for-events-conserved : Sound c r → (out marks : List ℕ) (a : Answer (ShownHandings × Connection)) (r' : Rooms) (out' marks' : List ℕ) → PollsEvents c r out marks a r' out' marks'
       → count d (within (reads (stateOf a c) r')) ≡ count d (within (reads c r))
@@ -278,6 +287,10 @@ module _ (c : Connection) (r : Rooms) where
   -- with `send_requests`,
   pub send-requests-one : (bytes : List ℕ) (a b : SentMany) (s t : Rooms) → SendsMany c r bytes (saysSentMany a) s → SendsMany c r bytes (saysSentMany b) t → (a ≡ b) × (s ≡ t)
   send-requests-one bytes a b s t p q = Outcomes.send-requests-one c r bytes a b s t p q
+
+  -- with `enqueue_packets`,
+  pub enqueue-packets-one : (bytes : List ℕ) (a b : Fed) (s t : Rooms) → EnqueuesMany c r bytes (saysFed a) s → EnqueuesMany c r bytes (saysFed b) t → (a ≡ b) × (s ≡ t)
+  enqueue-packets-one bytes a b s t p q = Outcomes.enqueue-packets-one c r bytes a b s t p q
 
   -- with `poll_for_events` and its two outputs;
   pub poll-for-events-one : (out marks : List ℕ) (a b : Events) (s t : Rooms) (x y v w : List ℕ) → PollsEvents c r out marks (saysEvents a) s x v → PollsEvents c r out marks (saysEvents b) t y w

@@ -12,3 +12,4 @@ pub mod BatchLaws
 pub mod SendRequests
 pub mod PollForEvents
 pub mod SaysBatch
+pub mod Feed

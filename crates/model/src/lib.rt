@@ -126,3 +126,17 @@ pub enum Events {
     Handed(usize, usize, Stop, Connection),
     Refused(Refusal),
 }
+
+// What stopped a row of packets: no byte is left, part of a packet is left, or the next packet is
+// refused.
+pub enum Halt {
+    End,
+    Part,
+    Refused(Refusal),
+}
+
+// `enqueue_packets`: so many bytes were taken, so many packets, and what stopped it.
+pub enum Fed {
+    Taken(usize, usize, Halt, Connection),
+    Refused(Refusal),
+}

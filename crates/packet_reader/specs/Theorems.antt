@@ -14,7 +14,7 @@ use Rattle.packet_reader.specs.Frame.{aim, Cut, cutPackets}
 use Rattle.packet_reader.specs.Reader.{Progress, waits, whole, fresh, reached, advanced}
 use Rattle.packet_reader.specs.Sound.{Sound, is-sound}
 use Rattle.packet_reader.specs.CutLaws.{aim-held}
-use Rattle.packet_reader.specs.Stream.{joined, Feeds, grown, Moved, fed, sound-grown, sound-fresh}
+use Rattle.packet_reader.specs.Stream.{joined, Feeds, done, more, packet, grown, Moved, from-more, from-packet, fed, sound-grown, sound-fresh}
 use Rattle.packet_reader.specs.declared.PacketReader.{PacketReader}
 
 -- Pieces put into the lent part one after the other, from a fresh reader and with no refusal, give the packets that their bytes in a row are cut into, and leave the bytes over filled.
@@ -29,6 +29,20 @@ pub any-pieces : (o : ℕ) {r q : PacketReader} {s s' u u' : List ℕ} {xs ys ps
 any-pieces o f g h k e =
     let z = sym (stream o f h) ∙ ap (cutPackets o) e ∙ stream o g k in
     (ap (λ (c : Cut). c .packets) z, ap (λ (c : Cut). c .left) z)
+
+-- The reader that is left is sound beside its buffer.
+pub fed-sound : {r r₂ : PacketReader} {s s₂ : List ℕ} {xs ps : List (List ℕ)} → Feeds r s xs ps r₂ s₂ → Sound r s → (r₂ .order ≡ r .order) × Sound r₂ s₂
+fed-sound done h = (refl, h)
+fed-sound {r} {s = s} (more {r₁ = r₁} {x = x} p q) h =
+    let s' : List ℕ = put s (r .filled) x in
+    let m = from-more r s' (length x) r₁ p in
+    let z = fed-sound q (subst (λ (y : PacketReader). Sound y s') (m .1 .1) (sound-grown r s' (length x) (m .0) (m .1 .0))) in
+    (z .0 ∙ ap (λ (y : PacketReader). y .order) (sym (m .1 .1)), z .1)
+fed-sound {r} {s = s} (packet {r₁ = r₁} {x = x} {t = t} p q) h =
+    let s' : List ℕ = put s (r .filled) x in
+    let m = from-packet r s' (length x) r₁ t p in
+    let z = fed-sound q (subst (λ (y : PacketReader). Sound y s') (m .1 .1 .1) (sound-fresh r s' (m .0 .was))) in
+    (z .0 ∙ ap (λ (y : PacketReader). y .order) (sym (m .1 .1 .1)), z .1)
 
 -- What a piece that fits the lent part can come to: the reader goes on, soundly, or the packet is longer than the buffer.
 pub data Comes (r : PacketReader) (s x : List ℕ) : Answer Progress → Type 0 where

@@ -3,11 +3,13 @@
 // A reader keeps how many bytes of the buffer are filled and how many the packet will have, as far
 // as the bytes so far tell: 32 at first, and once 32 are there the whole length. The caller puts
 // bytes into the part that `buffer` lends and counts them by `advance`, which says when a packet is
-// whole. Bytes past the filled ones mean nothing. The reader never writes the buffer itself.
+// whole. Bytes past the filled ones mean nothing. The reader never writes the buffer itself. Where
+// whole packets already lie side by side, `front` says what stands first, with no buffer.
 ghost use mathlib.Core.Path.{_≡_};
 ghost use Prim.Native.Nat.{_≤_};
 ghost use lib.ListN.{length};
 ghost use Rattle.packet_reader.specs.Frame.{hasLength, total, totalOf, aim};
+ghost use Rattle.packet_reader.specs.Front.{frontOf, saysBegins};
 ghost use Rattle.packet_reader.specs.Reader.{fresh as Reader·fresh, soundb, made, capacity, advanced, saysMade, saysCapacity, saysAdvanced, Lent};
 use refusal::Refusal;
 
@@ -50,6 +52,34 @@ fn aim_of(order: u8, bytes: &[u8], filled: usize) -> usize
         return FIXED;
     }
     packet_length(bytes[0], octets::get_u32(order, bytes, 4))
+}
+
+// What a run of bytes begins with: it has none, or begins with a part of a packet, with a packet
+// that is longer than any may be, or with a whole one of so many bytes.
+pub enum Begins {
+    Nothing,
+    Part,
+    Long,
+    Whole(usize),
+}
+
+pub fn front(order: u8, bytes: &[u8]) -> Begins
+    ensures { λ r. ⌜ saysBegins r ≡ frontOf order (now (bytes .entry)) ⌝ }
+{
+    if bytes.len() == 0 {
+        return Begins::Nothing;
+    }
+    if bytes.len() < FIXED {
+        return Begins::Part;
+    }
+    let target = aim_of(order, bytes, bytes.len());
+    if MOST_BUFFER < target {
+        return Begins::Long;
+    }
+    if bytes.len() < target {
+        return Begins::Part;
+    }
+    Begins::Whole(target)
 }
 
 // A reader's state: byte order, bytes filled, and the bytes that the packet will have.

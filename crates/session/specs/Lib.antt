@@ -1,4 +1,6 @@
+pub mod Noting
 pub mod Session
 pub mod Rows
+pub mod FeedRow
 pub mod Theorems
 pub mod Engines

@@ -5,16 +5,18 @@ use Prim.Native.Nat.{ℕ, _<_}
 use lib.ListN.{getD, take}
 use Rattle.refusal.specs.Answer.{Answer, gives, refuses}
 use Rattle.model.specs.Model.{hasReply, Filing}
-use Rattle.model.specs.Reading.{Rooms}
+use Rattle.model.specs.Reading.{Rooms, reads}
 use Rattle.model.specs.Says.{Shown, ShownEvent, ShownPoll}
 use Rattle.model.specs.SendRequests.{kindOf, ShownSendings}
 use Rattle.model.specs.PollForEvents.{ShownHandings}
+use Rattle.model.specs.Feed.{ShownFed}
 use Rattle.model.specs.declared.Connection.{Connection}
 use Rattle.model.specs.declared.DiscardMode.{DiscardMode}
 use Rattle.model.specs.declared.ReplyFdKind.{ReplyFdKind}
-use Rattle.connection.specs.Calls.{Opens, Sends, EnqueuesFds, Enqueues, Discards, Polls, Checks, PollsReply, PollsEvent, Closes, Prepares, SendsMany, PollsEvents}
+use Rattle.connection.specs.Calls.{Opens, Sends, EnqueuesFds, Enqueues, Discards, Polls, Checks, PollsReply, PollsEvent, Closes, Prepares, SendsMany, EnqueuesMany, PollsEvents}
 use Rattle.honest.specs.Run.{Event, sent, noteSent, noteTook}
 use Rattle.honest.specs.Public.{stateOf}
+use Rattle.session.specs.Noting.{noteFed}
 
 -- what the bytes of `send_requests` add to the log: a request for each of the first so many as were sent
 unfoldable pub sentAll : List ℕ → List Event → List Event
@@ -25,7 +27,7 @@ unfoldable pub noteSends : {A : Type 0} → List ℕ → Answer (ShownSendings �
 noteSends bytes (gives x) l = sentAll (take (x .0 .count) bytes) l
 noteSends bytes (refuses n) l = l
 
--- The log has what was accepted. The true number t of a packet is the server's: no call sees it. A packet is of bytes; that byte 1 is one is all that is asked.
+-- The log has what was accepted. The true number t of a packet, and those (ts) of the packets of a run of bytes, are the server's: no call sees them. A packet is of bytes; that byte 1 is one is all that is asked.
 pub data Session : Connection → Rooms → List Event → Type 1 where
   new : (o : ℕ) (r : Rooms) (c : Connection) → Opens o r (gives (tt, c)) → Session c r []
   send-request : {c : Connection} {r : Rooms} {l : List Event} (kind : ReplyFdKind) (a : Answer (ℕ × Connection)) (r' : Rooms) → Sends c r kind a r' → Session c r l → Session (stateOf a c) r' (noteSent (hasReply kind) a l)
@@ -38,5 +40,6 @@ pub data Session : Connection → Rooms → List Event → Type 1 where
   poll-for-event : {c : Connection} {r : Rooms} {l : List Event} (out : List ℕ) (a : Answer (ShownEvent × Connection)) (r' : Rooms) (out' : List ℕ) → PollsEvent c r out a r' out' → Session c r l → Session (stateOf a c) r' l
   take-closed-fds : {c : Connection} {r : Rooms} {l : List Event} (out : List ℕ) (a : Answer (ℕ × Connection)) (r' : Rooms) (out' : List ℕ) → Closes c r out a r' out' → Session c r l → Session (stateOf a c) r' l
   send-requests : {c : Connection} {r : Rooms} {l : List Event} (bytes : List ℕ) (a : Answer (ShownSendings × Connection)) (r' : Rooms) → SendsMany c r bytes a r' → Session c r l → Session (stateOf a c) r' (noteSends bytes a l)
+  enqueue-packets : {c : Connection} {r : Rooms} {l : List Event} (ts bytes : List ℕ) → ((i : ℕ) → getD bytes i 0 < 256) → (a : Answer (ShownFed × Connection)) (r' : Rooms) → EnqueuesMany c r bytes a r' → Session c r l → Session (stateOf a c) r' (noteFed ts (reads c r) bytes a l)
   poll-for-events : {c : Connection} {r : Rooms} {l : List Event} (out marks : List ℕ) (a : Answer (ShownHandings × Connection)) (r' : Rooms) (out' marks' : List ℕ) → PollsEvents c r out marks a r' out' marks' → Session c r l → Session (stateOf a c) r' l
   prepare-check : {c : Connection} {r : Rooms} {l : List Event} (n : ℕ) (a : Answer Bool) → Prepares c r n a → Session c r l → Session c r l

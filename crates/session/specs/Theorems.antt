@@ -15,6 +15,7 @@ use Rattle.model.specs.Says.{shownTaken, shownEvent, shownPoll}
 use Rattle.model.specs.Sound.{Sound, is-sound}
 use Rattle.model.specs.SendRequests.{kindOf, shownSendings}
 use Rattle.model.specs.PollForEvents.{shownHandings}
+use Rattle.model.specs.Feed.{shownFed}
 use Rattle.model.specs.declared.Connection.{Connection}
 use Rattle.sending.specs.Send.{same}
 use Rattle.sending.specs.Theorems as Sending
@@ -24,14 +25,16 @@ use Rattle.polling.specs.DiscardTheorems.{discard-leaves}
 use Rattle.polling.specs.Exact.{eventExact}
 use Rattle.polling.specs.Theorems as Polling
 use Rattle.batch.specs.Theorems as Batch
+use Rattle.batch.specs.FeedLaws.{feed-sound}
 use Rattle.connection.specs.Calls.{Sends, Enqueues}
 use Rattle.connection.specs.Opening.{opens-fresh, opens-sound}
 use Rattle.connection.specs.Theorems.{refusal-leaves, state-sound}
-use Rattle.honest.specs.Run.{Event, sent, noteSent, unnumbered, Fair, Honest, Right, Filed, Bears, Holds}
+use Rattle.honest.specs.Run.{Event, sent, noteSent, noteTook, unnumbered, Fair, Honest, Right, Filed, Bears, Holds}
 use Rattle.honest.specs.Public.{stateOf, Public, opens, sends, takes, others}
 use Rattle.honest.specs.Theorems as Any
-use Rattle.session.specs.Session.{Session, new, send-request, enqueue-fds, enqueue-packet, discard-reply, poll-for-reply-or-error, poll-check-for-reply-or-error, poll-for-reply, poll-for-event, take-closed-fds, send-requests, poll-for-events, prepare-check}
+use Rattle.session.specs.Session.{Session, new, send-request, enqueue-fds, enqueue-packet, discard-reply, poll-for-reply-or-error, poll-check-for-reply-or-error, poll-for-reply, poll-for-event, take-closed-fds, send-requests, enqueue-packets, poll-for-events, prepare-check}
 use Rattle.session.specs.Rows.{sends-row, events-row}
+use Rattle.session.specs.FeedRow.{feed-row}
 
 -- ---- Soundness
 
@@ -54,6 +57,7 @@ session-sound (poll-for-reply {c = c} {r = r} n out a r' out' h k) = keeps shown
 session-sound (poll-for-event {c = c} {r = r} out a r' out' h k) = keeps shownEvent _ _ c r (λ S. Polling.event-leaves c r S (length out)) (session-sound k) a r' (h .promise)
 session-sound (take-closed-fds {c = c} {r = r} out a r' out' h k) = keeps length _ _ c r (λ S. Sending.close-sound c r S (length out)) (session-sound k) a r' (h .promise)
 session-sound (send-requests {c = c} {r = r} bytes a r' h k) = keeps shownSendings _ _ c r (λ S. Batch.sends-sound c r S bytes) (session-sound k) a r' h
+session-sound (enqueue-packets {c = c} {r = r} ts bytes b a r' h k) = keeps shownFed _ _ c r (λ S. feed-sound c r S bytes b) (session-sound k) a r' h
 session-sound (poll-for-events {c = c} {r = r} out marks a r' out' marks' h k) = keeps shownHandings _ _ c r (λ S. Batch.events-sound c r S (length out) (length marks)) (session-sound k) a r' (h .packets .promise)
 session-sound (prepare-check n a h k) = session-sound k
 
@@ -63,6 +67,10 @@ session-sound (prepare-check n a h k) = session-sound k
 sends-on : (c : Connection) (r : Rooms) (l : List Event) (byte n : ℕ) (c' : Connection) (r' : Rooms) → Sends c r (kindOf byte) (gives (n, c')) r' → Public c r l → Public c' r' (sent (hasReply (kindOf byte)) ∷ l)
 unfolding stateOf noteSent
 sends-on c r l byte n c' r' q p = sends (kindOf byte) _ (gives (n, c')) r' q p
+
+packets-on : (c : Connection) (r : Rooms) (l : List Event) (t : ℕ) (p : List ℕ) (f : Filing) (c' : Connection) (r' : Rooms) → Enqueues c r p (gives (f, c')) r' → Public c r l → Public c' r' (noteTook t p (gives (f, c')) l)
+unfolding stateOf
+packets-on c r l t p f c' r' q k = takes t p _ (gives (f, c')) r' q k
 
 events-on : (c : Connection) (r : Rooms) (l : List Event) (bytes : ℕ) (h : Held) (c' : Connection) (r' : Rooms)
     → Promise shownEvent (eventExact c r bytes) (λ m. pollForEvent m bytes) c r (gives (shownEvent (packet h), c')) r' → Public c r l → Public c' r' l
@@ -82,6 +90,8 @@ session-public (poll-for-event out a r' out' h k) = others (Calls.poll-event (le
 session-public (take-closed-fds out a r' out' h k) = others (Calls.take-closed (length out)) tt length _ a r' (h .promise) (session-public k)
 session-public (send-requests {c = c} {r = r} {l = l} bytes a r' h k) =
     sends-row Public (λ c r l S p byte n c' r' q. sends-on c r l byte n c' r' q p) c r l (session-sound k) (session-public k) bytes a r' h
+session-public (enqueue-packets {c = c} {r = r} {l = l} ts bytes b a r' h k) =
+    feed-row Public (λ c r l S k t p b f c' r' q. packets-on c r l t p f c' r' q k) c r l (session-sound k) (session-public k) ts bytes b a r' h
 session-public (poll-for-events {c = c} {r = r} {l = l} out marks a r' out' marks' h k) =
     events-row (λ c r. Public c r l) (λ c r S p bytes h c' r' q. events-on c r l bytes h c' r' q p) c r (session-sound k) (session-public k) out marks a r' out' marks' h
 session-public (prepare-check n a h k) = session-public k
