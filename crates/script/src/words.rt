@@ -1,0 +1,67 @@
+// The words of a line.
+ghost use Prim.Native.Nat.{_≤_};
+ghost use lib.ListN.{length};
+
+// Where the first word ends of the line that stands from one index to another.
+pub fn name_end(input: &[u8], from: usize, last: usize) -> usize {
+    let line = cut(input, from, last);
+    after(from, end(line, 0), last)
+}
+
+// Where the word that starts at an index ends.
+pub(crate) fn end(line: &[u8], start: usize) -> usize
+    requires { ⌜ start ≤ length (now line) ⌝ }
+    ensures { λ r. ⌜ (start ≤ r) × (r ≤ length (now (line .entry))) ⌝ }
+{
+    let mut at = start;
+    while at < line.len() {
+        if line[at] == b' ' {
+            return at;
+        }
+        at += 1;
+    }
+    at
+}
+
+pub(crate) fn same(a: &[u8], b: &[u8]) -> bool {
+    if a.len() != b.len() {
+        return false;
+    }
+    let mut i = 0;
+    while i < a.len() {
+        if a[i] != b[i] {
+            return false;
+        }
+        i += 1;
+    }
+    true
+}
+
+// The part of a line from one index to another.
+pub(crate) fn part<'a>(line: &'a [u8], start: usize, end: usize) -> &'a [u8]
+    requires { ⌜ (start ≤ end) × (end ≤ length (now line)) ⌝ }
+{
+    &line[start..end]
+}
+
+// The same of an input, or none of it where it isn't there.
+pub(crate) fn cut<'a>(input: &'a [u8], from: usize, end: usize) -> &'a [u8] {
+    if input.len() < end {
+        return &input[0..0];
+    }
+    if end < from {
+        return &input[0..0];
+    }
+    &input[from..end]
+}
+
+// The index so many bytes behind another, at most an end.
+pub(crate) fn after(from: usize, n: usize, end: usize) -> usize {
+    if end < from {
+        return end;
+    }
+    if end - from < n {
+        return end;
+    }
+    from + n
+}
