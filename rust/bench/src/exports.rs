@@ -224,7 +224,9 @@ pub struct Setup {
 
 impl Handshake for Setup {
     fn fresh() -> Self {
-        Setup { buffer: room(262_148) }
+        Setup {
+            buffer: room(262_148),
+        }
     }
 
     fn whole(&mut self, mut reply: &[u8], see: &mut impl See) {
@@ -236,7 +238,14 @@ impl Handshake for Setup {
             let (mut start, mut size, mut complete) = (0, 0, 0);
             // SAFETY: whole slices.
             done(unsafe {
-                xm_connect_buffer(state, 3, buffer.as_ptr(), buffer.len(), &mut start, &mut size)
+                xm_connect_buffer(
+                    state,
+                    3,
+                    buffer.as_ptr(),
+                    buffer.len(),
+                    &mut start,
+                    &mut size,
+                )
             });
             let n = size.min(reply.len());
             buffer[start..start + n].copy_from_slice(&reply[..n]);

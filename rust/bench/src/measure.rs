@@ -97,7 +97,12 @@ pub const CRATE: &str = "crate";
 pub const EXPORTS: &str = "exports";
 
 fn fresh<C: Client>(n: usize) -> Vec<On<C>> {
-    (0..n).map(|_| On { c: C::fresh(), read: 0 }).collect()
+    (0..n)
+        .map(|_| On {
+            c: C::fresh(),
+            read: 0,
+        })
+        .collect()
 }
 
 /// A row of work on connections.

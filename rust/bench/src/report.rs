@@ -13,7 +13,12 @@ fn short(x: f64) -> String {
 }
 
 fn spread(s: &Spread) -> String {
-    format!("{} ({} to {})", short(s.median), short(s.low), short(s.high))
+    format!(
+        "{} ({} to {})",
+        short(s.median),
+        short(s.low),
+        short(s.high)
+    )
 }
 
 fn met(row: &Row, ours: &Ours) -> &'static str {
@@ -109,7 +114,13 @@ fn colour(side: &str) -> &'static str {
 
 fn bars(svg: &mut String, row: &Row, y: f64) {
     let name = row.name.replace('&', "&amp;").replace('<', "&lt;");
-    writeln!(svg, "<text x=\"{}\" y=\"{}\" text-anchor=\"end\">{name}</text>", LEFT - 8.0, y + 16.0).unwrap();
+    writeln!(
+        svg,
+        "<text x=\"{}\" y=\"{}\" text-anchor=\"end\">{name}</text>",
+        LEFT - 8.0,
+        y + 16.0
+    )
+    .unwrap();
     let thick = (STEP - 8.0) / row.ours.len() as f64;
     for (i, ours) in row.ours.iter().enumerate() {
         let (one, to) = (across(1.0), across(ours.ratio.median));

@@ -114,10 +114,7 @@ fn connections() -> Vec<(&'static str, Make)> {
             client(None, sends(0, 1, 9_999)),
         ),
         ("event in and out", client(SAME, one(2, 0, 1024))),
-        (
-            "event in and out, 16 held",
-            client(SAME, one(2, 15, 1024)),
-        ),
+        ("event in and out, 16 held", client(SAME, one(2, 15, 1024))),
         (
             "event in and out, 10,000 held",
             client(None, one(2, 9_999, 8)),
@@ -193,7 +190,11 @@ fn leaves() -> Vec<(&'static str, Make)> {
 }
 
 fn ids(ranges: bool) -> Make {
-    fn work<I: Ids>(ids: &mut I, ranges: bool, see: &mut impl crate::sides::See) -> std::time::Duration {
+    fn work<I: Ids>(
+        ids: &mut I,
+        ranges: bool,
+        see: &mut impl crate::sides::See,
+    ) -> std::time::Duration {
         match ranges {
             false => work::ids(ids, 1024, see),
             true => work::ranges(ids, 1024, see),

@@ -70,7 +70,9 @@ pub trait Work {
 fn packets<C>(on: &mut On<C>, code: u8, n: usize) -> Vec<[u8; 32]> {
     let first = on.read + 1;
     on.read += n as u64;
-    (first..=on.read).map(|number| packet(code, number)).collect()
+    (first..=on.read)
+        .map(|number| packet(code, number))
+        .collect()
 }
 
 fn drain<C: Client>(c: &mut C, see: &mut impl See) {
