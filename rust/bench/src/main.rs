@@ -8,12 +8,16 @@
 //! bench PLOT.svg [PART]      all rows, or those whose name has the part
 //! ```
 
+#[cfg(all(published, feature = "batch"))]
+mod batch;
 #[cfg(published)]
 mod chance;
 #[cfg(published)]
 mod exports;
 #[cfg(published)]
 mod measure;
+#[cfg(published)]
+mod programs;
 #[cfg(published)]
 mod report;
 #[cfg(published)]

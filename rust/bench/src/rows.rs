@@ -2,6 +2,7 @@
 
 use crate::exports;
 use crate::measure::{self, Row, CRATE, EXPORTS, RUST};
+use crate::programs;
 use crate::sides::{Blind, CrateSetup, Frames, Handshake, Ids, Log, RustSetup};
 use crate::work::{self, Burst, Held, OneByOne, RoundTrips, Sends, Soak};
 
@@ -36,10 +37,15 @@ pub fn all(part: &str) -> Vec<Row> {
     let mut rows = framing();
     rows.extend(connections());
     rows.extend(leaves());
-    rows.into_iter()
+    let mut made: Vec<Row> = rows
+        .into_iter()
         .filter(|(name, _)| name.contains(part))
         .map(|(name, make)| make(name))
-        .collect()
+        .collect();
+    #[cfg(feature = "batch")]
+    made.extend(crate::batch::rows(part));
+    made.extend(programs::rows(part));
+    made
 }
 
 fn frame(goal: Option<f64>, stream: Vec<u8>, packets: usize) -> Make {

@@ -7,7 +7,7 @@ use crate::chance::Chance;
 use crate::sides::{Client, Frames, Handshake, Ids, See};
 
 /// The time of a part of a run.
-fn timed(part: impl FnOnce()) -> Duration {
+pub fn timed(part: impl FnOnce()) -> Duration {
     let start = Instant::now();
     part();
     start.elapsed()
