@@ -1,5 +1,5 @@
 # The commands of the README, and the benchmark of docs/BENCH.md.
-.PHONY: run test bench library beside record fuzz house
+.PHONY: run test bench bench-rooms bench-beside library beside record fuzz house
 
 # Prove the program `packets` and what it stands on, and run it on bytes that an X server sent.
 run:
@@ -11,9 +11,17 @@ run:
 test:
 	tests/run
 
-# Prove the moves of the rooms, link them into a C program, and time them beside plain C. No part of the tests. Each function
-# starts at a cache line, so that what stands before it in the program changes no figure.
-bench:
+# Figures, no part of the tests: the moves of the rooms beside plain C, then the library beside the published Rust
+# if RUST is the folder of its files. Writes the tables, and the plot of the second to docs/bench.svg.
+bench: bench-rooms
+ifneq ($(strip $(RUST)),)
+bench: bench-beside
+else
+	@echo "bench: the rows beside the Rust were skipped: RUST names no folder with its files"
+endif
+
+# Each function starts at a cache line, so that what stands before it in the program changes no figure.
+bench-rooms:
 	rt staticlib bench
 	mkdir -p target/bench
 	objcopy --set-section-alignment '.text*=64' target/staticlib/libbench.a target/bench/libbench.a
@@ -50,3 +58,10 @@ fuzz: $(ARCHIVE)
 # The picture of docs/ARCHITECTURE.md, from crates.txt.
 house:
 	python3 docs/house.py
+
+# ARGS is a part of the names of rows, for some of them alone.
+bench-beside: $(ARCHIVE)
+	rt check packets
+	cd rust && XIENGMADO_RUST="$(abspath $(RUST))" cargo build --offline --quiet --release -p bench
+	rust/target/release/bench docs/bench.svg $(ARGS)
+	rust/target/release/memory

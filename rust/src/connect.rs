@@ -4,8 +4,10 @@ use crate::errors::{ConnectError, ParseError, Refusal};
 use crate::protocol::xproto::{Setup, SetupAuthenticate, SetupFailed};
 use crate::{ffi, ByteOrder};
 
-/// The buffer that `Connect::with_authorization` takes: as large as it may be.
-const BUFFER: usize = 262_148;
+/// The buffer that `Connect::with_authorization` begins with, and the most that it grows to: as large
+/// as one may be.
+const FIRST: usize = 8;
+const MOST: usize = 262_148;
 
 /// A handshake: the server's reply as far as it has come.
 ///
@@ -13,14 +15,19 @@ const BUFFER: usize = 262_148;
 #[derive(Debug, Clone)]
 pub struct Connect {
     state: [u64; ffi::SLOTS],
-    buffer: Box<[u8]>,
+    order: ByteOrder,
+    buffer: Vec<u8>,
+    most: usize,
 }
 
 impl Connect {
     /// A handshake, and the request to send. Panics for a name or data over 65,535 bytes.
     pub fn with_authorization(protocol_name: Vec<u8>, protocol_data: Vec<u8>) -> (Self, Vec<u8>) {
-        Self::with_buffer(ByteOrder::NATIVE, &protocol_name, &protocol_data, BUFFER)
-            .unwrap_or_else(|refusal| panic!("with_authorization: {refusal}"))
+        let order = ByteOrder::NATIVE;
+        let (connect, request) = Self::with_buffer(order, &protocol_name, &protocol_data, FIRST)
+            .unwrap_or_else(|refusal| panic!("with_authorization: {refusal}"));
+        let most = MOST;
+        (Connect { most, ..connect }, request)
     }
 
     /// The same for a reply of up to so many bytes (8 to 262,148). Refused by 9, 16.
@@ -32,7 +39,9 @@ impl Connect {
     ) -> Result<(Self, Vec<u8>), Refusal> {
         let mut connect = Connect {
             state: [0; ffi::SLOTS],
-            buffer: vec![0; size].into(),
+            order,
+            buffer: vec![0; size],
+            most: size,
         };
         ffi::connect_new(&mut connect.state, order.byte(), &connect.buffer)?;
         let mut request = vec![0; 18 + protocol_name.len() + protocol_data.len()];
@@ -42,10 +51,15 @@ impl Connect {
     }
 
     /// The part that is to be filled with bytes of the server; empty once the reply is complete.
+    #[inline]
     pub fn buffer(&mut self) -> &mut [u8] {
-        let (start, size) =
-            ffi::connect_buffer(&self.state, &self.buffer).expect("the handshake is whole");
-        &mut self.buffer[start..start + size]
+        // The two numbers that the engine answers for a whole handshake, without the call.
+        let (start, end) = (self.state[1] as usize, self.state[2] as usize);
+        debug_assert_eq!(
+            ffi::connect_buffer(&self.state, &self.buffer),
+            Ok((start, end - start))
+        );
+        &mut self.buffer[start..end]
     }
 
     /// How many bytes that part has.
@@ -67,8 +81,23 @@ impl Connect {
 
     /// The same. Refused by 7, 2.
     pub fn try_advance(&mut self, bytes: usize) -> Result<bool, Refusal> {
-        let complete = ffi::connect_advance(&mut self.state, &self.buffer, bytes)?;
-        Ok(complete != 0)
+        let mut answer = ffi::connect_advance(&mut self.state, &self.buffer, bytes);
+        if answer == Err(Refusal::LongPacket) && self.buffer.len() < self.most {
+            self.grow();
+            answer = ffi::connect_advance(&mut self.state, &self.buffer, bytes);
+        }
+        Ok(answer? != 0)
+    }
+
+    /// The buffer takes the whole reply, whose length in fours is at bytes 6 and 7, if it may.
+    fn grow(&mut self) {
+        let field = [self.buffer[6], self.buffer[7]];
+        let fours = match self.order {
+            ByteOrder::Little => u16::from_le_bytes(field),
+            ByteOrder::Big => u16::from_be_bytes(field),
+        };
+        let size = FIRST + 4 * usize::from(fours);
+        self.buffer.resize(size.min(self.most), 0);
     }
 
     /// The setup of a complete reply.

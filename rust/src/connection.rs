@@ -79,6 +79,7 @@ impl Connection {
 
     /// Send a request. `None` says that a sync is necessary before; panics where the requests' room
     /// is full.
+    #[inline]
     pub fn send_request(&mut self, kind: ReplyFdKind) -> Option<SequenceNumber> {
         match self.try_send_request(kind) {
             Ok(number) => Some(number),
@@ -88,6 +89,7 @@ impl Connection {
     }
 
     /// The same. Refused by 3, 6, 5.
+    #[inline]
     pub fn try_send_request(&mut self, kind: ReplyFdKind) -> Result<SequenceNumber, Refusal> {
         self.engine.send_request(kind)
     }
@@ -99,6 +101,7 @@ impl Connection {
     }
 
     /// Ignore the reply of a request that was sent before.
+    #[inline]
     pub fn discard_reply(&mut self, seqno: SequenceNumber, mode: DiscardMode) {
         self.try_discard_reply(seqno, mode)
             .unwrap_or_else(|refusal| panic!("discard_reply: {refusal}"));
@@ -106,6 +109,7 @@ impl Connection {
     }
 
     /// The same. Never refused while the connection is whole.
+    #[inline]
     pub fn try_discard_reply(
         &mut self,
         seqno: SequenceNumber,
@@ -139,14 +143,17 @@ impl Connection {
 
     /// A packet was received. Panics where it is no packet, claims more descriptors than wait or
     /// finds no room.
+    #[inline]
     pub fn enqueue_packet(&mut self, packet: Vec<u8>) {
         if let Err(refusal) = self.try_enqueue_packet(&packet) {
             panic!("enqueue_packet: {refusal}");
         }
+        self.engine.spare(packet);
         self.close();
     }
 
     /// The same: where it was filed, and under which number. Refused by 1, 2, 3, 4, 5.
+    #[inline]
     pub fn try_enqueue_packet(
         &mut self,
         packet: &[u8],
@@ -155,17 +162,20 @@ impl Connection {
     }
 
     /// The oldest answer to a request that has a reply.
+    #[inline]
     pub fn poll_for_reply_or_error(&mut self, sequence: SequenceNumber) -> Option<BufWithFds> {
         let (packet, fds) = whole(self.engine.poll_for_reply_or_error(sequence))?;
         Some((packet, fds.into_iter().map(ffi::from_number).collect()))
     }
 
     /// Whether a sync is necessary before `poll_check_for_reply_or_error` can tell.
+    #[inline]
     pub fn prepare_check_for_reply_or_error(&mut self, sequence: SequenceNumber) -> bool {
         whole(self.engine.prepare_check_for_reply_or_error(sequence))
     }
 
     /// Whether the server has handled a request, with or without a reply.
+    #[inline]
     pub fn poll_check_for_reply_or_error(&mut self, sequence: SequenceNumber) -> PollReply {
         let answer = whole(self.engine.poll_check_for_reply_or_error(sequence));
         self.close();
@@ -173,6 +183,7 @@ impl Connection {
     }
 
     /// The reply of a request; an error becomes an event.
+    #[inline]
     pub fn poll_for_reply(&mut self, sequence: SequenceNumber) -> PollReply {
         let answer = whole(self.engine.poll_for_reply(sequence));
         self.close();
@@ -180,6 +191,7 @@ impl Connection {
     }
 
     /// The oldest event.
+    #[inline]
     pub fn poll_for_event_with_sequence(&mut self) -> Option<RawEventAndSeqNumber> {
         whole(self.engine.poll_for_event_with_sequence())
     }
@@ -209,6 +221,7 @@ impl Connection {
         closed.into_iter().map(ffi::from_number).collect()
     }
 
+    #[inline]
     fn close(&mut self) {
         if !self.engine.closing().is_empty() {
             drop(self.take_closed_fds());
@@ -218,6 +231,7 @@ impl Connection {
 
 /// What the engine refuses by 9 or 8 alone, which its owner never meets: the rooms are those of the
 /// start, nobody else writes them, and the outputs take the largest packet and all descriptors.
+#[inline]
 fn whole<T>(answer: Result<T, Refusal>) -> T {
     answer.unwrap_or_else(|refusal| panic!("the connection is not whole: {refusal}"))
 }

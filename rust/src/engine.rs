@@ -85,6 +85,10 @@ fn byte(kind: ReplyFdKind) -> u8 {
     }
 }
 
+/// How many emptied buffers are kept for packets that will be handed out, and of how many bytes.
+const SPARES: usize = 16;
+const SPARE_BYTES: usize = 4096;
+
 /// A connection's state and its rooms.
 #[derive(Debug, Clone)]
 pub struct Engine {
@@ -92,6 +96,7 @@ pub struct Engine {
     rooms: Rooms,
     out: Box<[u8]>,
     fds: Box<[u32]>,
+    spares: Vec<Vec<u8>>,
 }
 
 impl Engine {
@@ -108,6 +113,7 @@ impl Engine {
             },
             out: vec![0; MOST_PACKET].into(),
             fds: vec![0; ffi::DESCRIPTORS].into(),
+            spares: Vec::with_capacity(SPARES),
         };
         ffi::connection_new(&mut engine.state, order.byte(), &engine.rooms)?;
         Ok(engine)
@@ -128,6 +134,7 @@ impl Engine {
     }
 
     /// A request was written: its number. Refused by 3, 6, 5.
+    #[inline]
     pub fn send_request(&mut self, kind: ReplyFdKind) -> Result<SequenceNumber, Refusal> {
         ffi::send_request(&mut self.state, &mut self.rooms, byte(kind))
     }
@@ -141,6 +148,7 @@ impl Engine {
     }
 
     /// The answers to a request are not wanted.
+    #[inline]
     pub fn discard_reply(
         &mut self,
         number: SequenceNumber,
@@ -159,6 +167,7 @@ impl Engine {
     }
 
     /// A packet came: where it was filed, and under which number. Refused by 1, 2, 3, 4, 5.
+    #[inline]
     pub fn enqueue_packet(&mut self, packet: &[u8]) -> Result<(Place, SequenceNumber), Refusal> {
         let (place, number) = ffi::enqueue_packet(&mut self.state, &mut self.rooms, packet)?;
         let place = match place {
@@ -170,6 +179,7 @@ impl Engine {
     }
 
     /// The oldest reply or error of a request, with its descriptors.
+    #[inline]
     pub fn poll_for_reply_or_error(
         &mut self,
         number: SequenceNumber,
@@ -184,13 +194,11 @@ impl Engine {
         if found == 0 {
             return Ok(None);
         }
-        Ok(Some((
-            self.out[..size].to_vec(),
-            self.fds[..count].to_vec(),
-        )))
+        Ok(Some((self.handed(size), self.fds[..count].to_vec())))
     }
 
     /// Whether a sync must be sent before `poll_check_for_reply_or_error` can tell.
+    #[inline]
     pub fn prepare_check_for_reply_or_error(
         &self,
         number: SequenceNumber,
@@ -200,6 +208,7 @@ impl Engine {
     }
 
     /// The oldest reply or error of a request; its descriptors are to be closed.
+    #[inline]
     pub fn poll_check_for_reply_or_error(
         &mut self,
         number: SequenceNumber,
@@ -214,20 +223,40 @@ impl Engine {
     }
 
     /// The oldest reply of a request; its descriptors are to be closed. An error becomes an event.
+    #[inline]
     pub fn poll_for_reply(&mut self, number: SequenceNumber) -> Result<PollReply, Refusal> {
         let answer = ffi::poll_for_reply(&mut self.state, &mut self.rooms, number, &mut self.out)?;
         Ok(self.polled(answer))
     }
 
-    fn polled(&self, (result, size): (u8, usize)) -> PollReply {
+    #[inline]
+    fn polled(&mut self, (result, size): (u8, usize)) -> PollReply {
         match result {
             0 => PollReply::TryAgain,
             1 => PollReply::NoReply,
-            _ => PollReply::Reply(self.out[..size].to_vec()),
+            _ => PollReply::Reply(self.handed(size)),
+        }
+    }
+
+    /// So many bytes of the output as a packet of its own.
+    #[inline]
+    fn handed(&mut self, size: usize) -> Vec<u8> {
+        let mut packet = self.spares.pop().unwrap_or_default();
+        packet.extend_from_slice(&self.out[..size]);
+        packet
+    }
+
+    /// A packet that was taken in: its buffer is kept for one that will be handed out.
+    #[inline]
+    pub(crate) fn spare(&mut self, mut packet: Vec<u8>) {
+        if self.spares.len() < SPARES && packet.capacity() <= SPARE_BYTES {
+            packet.clear();
+            self.spares.push(packet);
         }
     }
 
     /// The oldest event, with its number.
+    #[inline]
     pub fn poll_for_event_with_sequence(
         &mut self,
     ) -> Result<Option<(Vec<u8>, SequenceNumber)>, Refusal> {
@@ -236,7 +265,7 @@ impl Engine {
         if found == 0 {
             return Ok(None);
         }
-        Ok(Some((self.out[..size].to_vec(), number)))
+        Ok(Some((self.handed(size), number)))
     }
 
     /// As many events as fit, oldest first: packets into `out`, and number and length of each into
@@ -327,6 +356,7 @@ impl Engine {
     }
 
     /// The descriptors to be closed.
+    #[inline]
     pub fn closing(&self) -> &[u32] {
         &self.rooms.slots[..self.state[9] as usize]
     }

@@ -17,6 +17,7 @@ macro_rules! refusals {
 
         impl Refusal {
             /// The refusal of a number.
+            #[inline]
             pub fn from_number(number: u32) -> Option<Refusal> {
                 match number {
                     $($number => Some(Refusal::$name),)*

@@ -19,6 +19,7 @@ pub(crate) struct Rooms {
     pub(crate) slots: Box<[u32]>,
 }
 
+#[inline]
 fn answer(code: u32) -> Result<(), Refusal> {
     match code {
         0 => Ok(()),
@@ -27,12 +28,14 @@ fn answer(code: u32) -> Result<(), Refusal> {
 }
 
 /// A descriptor as the engine sees it: an opaque number.
+#[inline]
 pub(crate) fn number(fd: &OwnedFd) -> u32 {
     fd.as_raw_fd() as u32
 }
 
 /// The descriptor of a number that was given to an engine, forgotten by its owner, and has left the
 /// engine.
+#[inline]
 pub(crate) fn from_number(number: u32) -> OwnedFd {
     // SAFETY: it is open and nobody else's: the engine hands each descriptor out once.
     unsafe { OwnedFd::from_raw_fd(number as RawFd) }
@@ -403,6 +406,7 @@ extern "C" {
     ) -> u32;
 }
 
+#[inline]
 pub(crate) fn full_number(read: u64, wire: u16) -> Result<u64, Refusal> {
     let mut number = 0;
     // SAFETY: whole slices and numbers of their own.
@@ -410,6 +414,7 @@ pub(crate) fn full_number(read: u64, wire: u16) -> Result<u64, Refusal> {
     Ok(number)
 }
 
+#[inline]
 pub(crate) fn send(written: u64, expected: u64, reply: bool) -> Result<(u64, u64), Refusal> {
     let (mut number, mut next) = (0, 0);
     // SAFETY: whole slices and numbers of their own.
@@ -417,16 +422,19 @@ pub(crate) fn send(written: u64, expected: u64, reply: bool) -> Result<(u64, u64
     Ok((number, next))
 }
 
+#[inline]
 pub(crate) fn packet_length(code: u8, field: u32) -> usize {
     // SAFETY: numbers alone.
     unsafe { xm_packet_length(code, field) }
 }
 
+#[inline]
 pub(crate) fn check_packet(order: u8, packet: &[u8], first: u8) -> Result<(), Refusal> {
     // SAFETY: whole slices and numbers of their own.
     answer(unsafe { xm_check_packet(order, packet.as_ptr(), packet.len(), first) })
 }
 
+#[inline]
 pub(crate) fn error(order: u8, packet: &[u8]) -> Result<(u8, u16, u32, u16, u8), Refusal> {
     let (mut code, mut sequence, mut value, mut minor, mut major) = (0, 0, 0, 0, 0);
     // SAFETY: whole slices and numbers of their own.
@@ -445,11 +453,13 @@ pub(crate) fn error(order: u8, packet: &[u8]) -> Result<(u8, u16, u32, u16, u8),
     Ok((code, sequence, value, minor, major))
 }
 
+#[inline]
 pub(crate) fn ids_new(ids: &mut [u64], base: u32, mask: u32) -> Result<(), Refusal> {
     // SAFETY: whole slices and numbers of their own.
     answer(unsafe { xm_ids_new(ids.as_mut_ptr(), ids.len(), base, mask) })
 }
 
+#[inline]
 pub(crate) fn ids_generate_id(ids: &mut [u64]) -> Result<u32, Refusal> {
     let mut id = 0;
     // SAFETY: whole slices and numbers of their own.
@@ -457,11 +467,13 @@ pub(crate) fn ids_generate_id(ids: &mut [u64]) -> Result<u32, Refusal> {
     Ok(id)
 }
 
+#[inline]
 pub(crate) fn ids_update_xid_range(ids: &mut [u64], start: u32, count: u32) -> Result<(), Refusal> {
     // SAFETY: whole slices and numbers of their own.
     answer(unsafe { xm_ids_update_xid_range(ids.as_mut_ptr(), ids.len(), start, count) })
 }
 
+#[inline]
 pub(crate) fn xc_misc_get_version_request(
     order: u8,
     opcode: u8,
@@ -485,6 +497,7 @@ pub(crate) fn xc_misc_get_version_request(
     Ok(size)
 }
 
+#[inline]
 pub(crate) fn xc_misc_get_xid_range_request(
     order: u8,
     opcode: u8,
@@ -498,6 +511,7 @@ pub(crate) fn xc_misc_get_xid_range_request(
     Ok(size)
 }
 
+#[inline]
 pub(crate) fn xc_misc_get_xid_list_request(
     order: u8,
     opcode: u8,
@@ -519,6 +533,7 @@ pub(crate) fn xc_misc_get_xid_list_request(
     Ok(size)
 }
 
+#[inline]
 pub(crate) fn xc_misc_get_version_reply(
     order: u8,
     packet: &[u8],
@@ -539,6 +554,7 @@ pub(crate) fn xc_misc_get_version_reply(
     Ok((sequence, length, major, minor))
 }
 
+#[inline]
 pub(crate) fn xc_misc_get_xid_range_reply(
     order: u8,
     packet: &[u8],
@@ -559,6 +575,7 @@ pub(crate) fn xc_misc_get_xid_range_reply(
     Ok((sequence, length, start, count))
 }
 
+#[inline]
 pub(crate) fn xc_misc_get_xid_list_reply(
     order: u8,
     packet: &[u8],
@@ -581,6 +598,7 @@ pub(crate) fn xc_misc_get_xid_list_reply(
     Ok((sequence, length, count))
 }
 
+#[inline]
 pub(crate) fn reader_new(reader: &mut [u64], order: u8, buf: &[u8]) -> Result<(), Refusal> {
     // SAFETY: whole slices and numbers of their own.
     answer(unsafe {
@@ -594,6 +612,7 @@ pub(crate) fn reader_new(reader: &mut [u64], order: u8, buf: &[u8]) -> Result<()
     })
 }
 
+#[inline]
 pub(crate) fn reader_remaining_capacity(reader: &[u64], buf: &[u8]) -> Result<usize, Refusal> {
     let mut size = 0;
     // SAFETY: whole slices and numbers of their own.
@@ -609,6 +628,7 @@ pub(crate) fn reader_remaining_capacity(reader: &[u64], buf: &[u8]) -> Result<us
     Ok(size)
 }
 
+#[inline]
 pub(crate) fn reader_buffer(reader: &[u64], buf: &[u8]) -> Result<(usize, usize), Refusal> {
     let (mut start, mut size) = (0, 0);
     // SAFETY: whole slices and numbers of their own.
@@ -625,6 +645,7 @@ pub(crate) fn reader_buffer(reader: &[u64], buf: &[u8]) -> Result<(usize, usize)
     Ok((start, size))
 }
 
+#[inline]
 pub(crate) fn reader_advance(
     reader: &mut [u64],
     buf: &[u8],
@@ -645,6 +666,7 @@ pub(crate) fn reader_advance(
     Ok(size)
 }
 
+#[inline]
 pub(crate) fn setup_request(
     order: u8,
     name: &[u8],
@@ -668,6 +690,7 @@ pub(crate) fn setup_request(
     Ok(size)
 }
 
+#[inline]
 pub(crate) fn connect_new(connect: &mut [u64], order: u8, buf: &[u8]) -> Result<(), Refusal> {
     // SAFETY: whole slices and numbers of their own.
     answer(unsafe {
@@ -681,6 +704,7 @@ pub(crate) fn connect_new(connect: &mut [u64], order: u8, buf: &[u8]) -> Result<
     })
 }
 
+#[inline]
 pub(crate) fn connect_remaining_capacity(connect: &[u64], buf: &[u8]) -> Result<usize, Refusal> {
     let mut size = 0;
     // SAFETY: whole slices and numbers of their own.
@@ -696,6 +720,7 @@ pub(crate) fn connect_remaining_capacity(connect: &[u64], buf: &[u8]) -> Result<
     Ok(size)
 }
 
+#[inline]
 pub(crate) fn connect_buffer(connect: &[u64], buf: &[u8]) -> Result<(usize, usize), Refusal> {
     let (mut start, mut size) = (0, 0);
     // SAFETY: whole slices and numbers of their own.
@@ -712,6 +737,7 @@ pub(crate) fn connect_buffer(connect: &[u64], buf: &[u8]) -> Result<(usize, usiz
     Ok((start, size))
 }
 
+#[inline]
 pub(crate) fn connect_advance(
     connect: &mut [u64],
     buf: &[u8],
@@ -732,6 +758,7 @@ pub(crate) fn connect_advance(
     Ok(complete)
 }
 
+#[inline]
 pub(crate) fn connect_setup(
     connect: &[u64],
     buf: &[u8],
@@ -753,6 +780,7 @@ pub(crate) fn connect_setup(
     Ok(status)
 }
 
+#[inline]
 pub(crate) fn connect_vendor(connect: &[u64], buf: &[u8]) -> Result<(usize, usize), Refusal> {
     let (mut start, mut size) = (0, 0);
     // SAFETY: whole slices and numbers of their own.
@@ -769,6 +797,7 @@ pub(crate) fn connect_vendor(connect: &[u64], buf: &[u8]) -> Result<(usize, usiz
     Ok((start, size))
 }
 
+#[inline]
 pub(crate) fn connect_reason(connect: &[u64], buf: &[u8]) -> Result<(usize, usize), Refusal> {
     let (mut start, mut size) = (0, 0);
     // SAFETY: whole slices and numbers of their own.
@@ -785,6 +814,7 @@ pub(crate) fn connect_reason(connect: &[u64], buf: &[u8]) -> Result<(usize, usiz
     Ok((start, size))
 }
 
+#[inline]
 pub(crate) fn connection_new(state: &mut [u64], order: u8, rooms: &Rooms) -> Result<(), Refusal> {
     // SAFETY: whole slices and numbers of their own.
     answer(unsafe {
@@ -802,6 +832,7 @@ pub(crate) fn connection_new(state: &mut [u64], order: u8, rooms: &Rooms) -> Res
     })
 }
 
+#[inline]
 pub(crate) fn send_request(state: &mut [u64], rooms: &mut Rooms, kind: u8) -> Result<u64, Refusal> {
     let mut number = 0;
     // SAFETY: whole slices and numbers of their own.
@@ -849,6 +880,7 @@ pub(crate) fn send_requests(
     Ok((count, number, stop))
 }
 
+#[inline]
 pub(crate) fn discard_reply(
     state: &mut [u64],
     rooms: &mut Rooms,
@@ -872,6 +904,7 @@ pub(crate) fn discard_reply(
     })
 }
 
+#[inline]
 pub(crate) fn enqueue_fds(
     state: &mut [u64],
     rooms: &mut Rooms,
@@ -894,6 +927,7 @@ pub(crate) fn enqueue_fds(
     })
 }
 
+#[inline]
 pub(crate) fn enqueue_packet(
     state: &mut [u64],
     rooms: &mut Rooms,
@@ -920,6 +954,7 @@ pub(crate) fn enqueue_packet(
     Ok((place, number))
 }
 
+#[inline]
 pub(crate) fn poll_for_reply_or_error(
     state: &mut [u64],
     rooms: &mut Rooms,
@@ -952,6 +987,7 @@ pub(crate) fn poll_for_reply_or_error(
     Ok((found, size, count))
 }
 
+#[inline]
 pub(crate) fn prepare_check_for_reply_or_error(
     state: &[u64],
     rooms: &Rooms,
@@ -976,6 +1012,7 @@ pub(crate) fn prepare_check_for_reply_or_error(
     Ok(sync)
 }
 
+#[inline]
 pub(crate) fn poll_check_for_reply_or_error(
     state: &mut [u64],
     rooms: &mut Rooms,
@@ -1004,6 +1041,7 @@ pub(crate) fn poll_check_for_reply_or_error(
     Ok((result, size))
 }
 
+#[inline]
 pub(crate) fn poll_for_reply(
     state: &mut [u64],
     rooms: &mut Rooms,
@@ -1032,6 +1070,7 @@ pub(crate) fn poll_for_reply(
     Ok((result, size))
 }
 
+#[inline]
 pub(crate) fn poll_for_event_with_sequence(
     state: &mut [u64],
     rooms: &mut Rooms,
@@ -1089,6 +1128,7 @@ pub(crate) fn poll_for_events(
     Ok((count, size, stop))
 }
 
+#[inline]
 pub(crate) fn take_closed_fds(
     state: &mut [u64],
     rooms: &mut Rooms,
@@ -1114,6 +1154,7 @@ pub(crate) fn take_closed_fds(
     Ok(count)
 }
 
+#[inline]
 pub(crate) fn request_at(requests: &[u8], number: u64) -> Result<(u8, u8), Refusal> {
     let (mut descriptors, mut mode) = (0, 0);
     // SAFETY: whole slices and numbers of their own.
@@ -1129,6 +1170,7 @@ pub(crate) fn request_at(requests: &[u8], number: u64) -> Result<(u8, u8), Refus
     Ok((descriptors, mode))
 }
 
+#[inline]
 pub(crate) fn record_at(
     store: &[u8],
     at: usize,

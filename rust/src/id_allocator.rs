@@ -15,6 +15,7 @@ pub struct IdAllocator {
 
 impl IdAllocator {
     /// An allocator for the `resource_id_base` and `resource_id_mask` of a setup.
+    #[inline]
     pub fn new(id_base: u32, id_mask: u32) -> Result<Self, ConnectError> {
         let mut state = [0; ffi::SLOTS];
         match ffi::ids_new(&mut state, id_base, id_mask) {
@@ -24,6 +25,7 @@ impl IdAllocator {
     }
 
     /// Go on with the ids of a `GetXIDRangeReply`. Panics for a range that passes 2^32 - 1.
+    #[inline]
     pub fn update_xid_range(&mut self, xidrange: &GetXIDRangeReply) -> Result<(), IdsExhausted> {
         match self.try_update_xid_range(xidrange) {
             Ok(()) => Ok(()),
@@ -33,11 +35,13 @@ impl IdAllocator {
     }
 
     /// The same. Refused by 11, 12.
+    #[inline]
     pub fn try_update_xid_range(&mut self, xidrange: &GetXIDRangeReply) -> Result<(), Refusal> {
         ffi::ids_update_xid_range(&mut self.state, xidrange.start_id, xidrange.count)
     }
 
     /// The next id.
+    #[inline]
     pub fn generate_id(&mut self) -> Option<u32> {
         ffi::ids_generate_id(&mut self.state).ok()
     }

@@ -36,10 +36,15 @@ impl PacketReader {
     }
 
     /// The part that is to be filled with bytes of the server.
+    #[inline]
     pub fn buffer(&mut self) -> &mut [u8] {
-        let (start, size) =
-            ffi::reader_buffer(&self.state, &self.buffer).expect("the reader is whole");
-        &mut self.buffer[start..start + size]
+        // The two numbers that the engine answers for a whole reader, without the call.
+        let (start, end) = (self.state[1] as usize, self.state[2] as usize);
+        debug_assert_eq!(
+            ffi::reader_buffer(&self.state, &self.buffer),
+            Ok((start, end - start))
+        );
+        &mut self.buffer[start..end]
     }
 
     /// How many bytes that part has.
@@ -54,12 +59,14 @@ impl PacketReader {
 
     /// So many bytes of the part were filled. Answers the packet once it is whole; panics for more
     /// bytes than the part has, and for a packet that is longer than the buffer.
+    #[inline]
     pub fn advance(&mut self, amount: usize) -> Option<Vec<u8>> {
         self.try_advance(amount)
             .unwrap_or_else(|refusal| panic!("advance: {refusal}"))
     }
 
     /// The same. Refused by 7, 2.
+    #[inline]
     pub fn try_advance(&mut self, amount: usize) -> Result<Option<Vec<u8>>, Refusal> {
         match ffi::reader_advance(&mut self.state, &self.buffer, amount)? {
             0 => Ok(None),

@@ -16,6 +16,7 @@ use Rattle.descriptors.specs.Theorems as Fds
 use Rattle.held.specs.Reading as Store
 use Rattle.held.specs.Walk.{walked}
 use Rattle.held.specs.declared.Walked.the-variants as Walked
+use Rattle.held.specs.declared.Window.{Window}
 use Rattle.descriptors.specs.Room as Slots
 use Rattle.model.specs.Model.{leastBytes, mostBytes}
 use Rattle.model.specs.Reading.{Rooms, count, slotsOf}
@@ -43,8 +44,11 @@ numbersb c =
     (both (leb (c .first) (c .written + 1)) (leb (count c) (c .capacity))))))))
 
 -- "the store reads as held records .., reply numbers never fall, no held number is above the last read"; as many descriptors are held as the replies have
+unfoldable pub holdsb : ℕ → Window → ℕ → List ℕ → Bool
+holdsb read w held s = both (Store.soundb read w s) (eqb (Store.fdsIn (Store.replies w s)) held)
+
 unfoldable pub heldb : Connection → List ℕ → Bool
-heldb c s = both (Store.soundb (c .read) (c .window) s) (eqb (Store.fdsIn (Store.replies (c .window) s)) (c .counts .held))
+heldb c s = holdsb (c .read) (c .window) (c .counts .held) s
 
 -- "its lent lengths are those given at the start, its byte order is `l` or `B`, .. each request byte is legal, .. and descriptors number at most 256"
 unfoldable pub soundb : Connection → Rooms → Bool
@@ -95,7 +99,7 @@ is-numbers c n =
     (both-yes _ _ (le-leb (c .first) (c .written + 1) (n .first-most)) (le-leb (count c) (c .capacity) (n .count-most))))))))
 
 pub sound-is : (c : Connection) (r : Rooms) → soundb c r ≡ true → Sound c r
-unfolding soundb heldb
+unfolding soundb heldb holdsb
 sound-is c r h =
     let h₁ = both-right _ _ h in let h₂ = both-right _ _ h₁ in let h₃ = both-right _ _ h₂ in let h₄ = both-right _ _ h₃ in let h₅ = both-right _ _ h₄ in
     let g = both-right _ _ h₅ in
@@ -111,7 +115,7 @@ sound-is c r h =
     }
 
 pub is-sound : (c : Connection) (r : Rooms) → Sound c r → soundb c r ≡ true
-unfolding soundb heldb
+unfolding soundb heldb holdsb
 is-sound c r h =
     both-yes _ _ (h .order)
     (both-yes _ _ (h .requests)
@@ -121,21 +125,21 @@ is-sound c r h =
     (both-yes _ _ (h .slots) (both-yes _ _ (h .held) (eq-eqb _ _ (h .descriptors))))))))
 
 -- what a walk over the store tells
-pub walked-sound : (c : Connection) (s : List ℕ) (n : ℕ) → Walked.Sound n ≡ walked (c .read) (c .window) s → eqb n (c .counts .held) ≡ heldb c s
-unfolding walked heldb choose both
-walked-sound c s n e = go (Store.soundb (c .read) (c .window) s) e
+pub walked-sound : (read : ℕ) (w : Window) (held : ℕ) (s : List ℕ) (n : ℕ) → Walked.Sound n ≡ walked read w s → eqb n held ≡ holdsb read w held s
+unfolding walked holdsb choose both
+walked-sound read w held s n e = go (Store.soundb read w s) e
   where
-    go : (t : Bool) → Walked.Sound n ≡ choose t (Walked.Sound (Store.fdsIn (Store.replies (c .window) s))) Walked.Unsound
-        → eqb n (c .counts .held) ≡ both t (eqb (Store.fdsIn (Store.replies (c .window) s)) (c .counts .held))
-    go true q = let z : n ≡ Store.fdsIn (Store.replies (c .window) s) = cc in ap (λ (m : ℕ). eqb m (c .counts .held)) z
+    go : (t : Bool) → Walked.Sound n ≡ choose t (Walked.Sound (Store.fdsIn (Store.replies w s))) Walked.Unsound
+        → eqb n held ≡ both t (eqb (Store.fdsIn (Store.replies w s)) held)
+    go true q = let z : n ≡ Store.fdsIn (Store.replies w s) = cc in ap (λ (m : ℕ). eqb m held) z
     go false q = absurd (let z : _≡_ {A = ℕ} 0 1 = cc in omega arith)
 
-pub walked-unsound : (c : Connection) (s : List ℕ) → Walked.Unsound ≡ walked (c .read) (c .window) s → false ≡ heldb c s
-unfolding walked heldb choose both
-walked-unsound c s e = go (Store.soundb (c .read) (c .window) s) e
+pub walked-unsound : (read : ℕ) (w : Window) (held : ℕ) (s : List ℕ) → Walked.Unsound ≡ walked read w s → false ≡ holdsb read w held s
+unfolding walked holdsb choose both
+walked-unsound read w held s e = go (Store.soundb read w s) e
   where
-    go : (t : Bool) → Walked.Unsound ≡ choose t (Walked.Sound (Store.fdsIn (Store.replies (c .window) s))) Walked.Unsound
-        → false ≡ both t (eqb (Store.fdsIn (Store.replies (c .window) s)) (c .counts .held))
+    go : (t : Bool) → Walked.Unsound ≡ choose t (Walked.Sound (Store.fdsIn (Store.replies w s))) Walked.Unsound
+        → false ≡ both t (eqb (Store.fdsIn (Store.replies w s)) held)
     go true q = absurd (let z : _≡_ {A = ℕ} 0 1 = cc in omega arith)
     go false q = refl
 

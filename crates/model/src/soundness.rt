@@ -1,9 +1,10 @@
 // Whether a state is sound with its rooms (01, Rooms): whatever a caller has spoilt is seen here.
 use crate::Connection;
 use held::Walked;
+use held::Window;
 ghost use mathlib.Core.Path.{_≡_};
 ghost use Rattle.model.specs.Reading.{Rooms, rooms};
-ghost use Rattle.model.specs.Sound.{soundb, numbersb, heldb};
+ghost use Rattle.model.specs.Sound.{soundb, numbersb, holdsb};
 
 // The largest full number, and the fewest and the most bytes of a packet store.
 const LAST_NUMBER: u64 = 9223372036854775807;
@@ -35,7 +36,8 @@ pub fn is_sound(c: Connection, requests: &[u8], store: &[u8], slots: &[u32]) -> 
     if !descriptors::sound(slots, counts) {
         return false;
     }
-    held_sound(c, store)
+    let window = c.window;
+    held_sound(store, window, c.read, counts.held)
 }
 
 // The numbers are in range, and fit each other and the rooms.
@@ -66,13 +68,13 @@ fn numbers(c: Connection) -> bool
     c.written + 1 - c.first <= c.capacity as u64
 }
 
-// The store reads as held packets, whose descriptors are as many as are held.
-fn held_sound(c: Connection, store: &[u8]) -> bool
-    ensures { λ r. ⌜ r ≡ heldb c (now (store .entry)) ⌝ }
+// The store reads as held packets, whose descriptors are as many as are held. Takes numbers and not
+// the whole state, so that no copy of it is made.
+fn held_sound(store: &[u8], window: Window, read: u64, held: usize) -> bool
+    ensures { λ r. ⌜ r ≡ holdsb read window held (now (store .entry)) ⌝ }
 {
-    let window = c.window;
-    match held::walk(store, window, c.read) {
-        Walked::Sound(sum) => sum == c.counts.held,
+    match held::walk(store, window, read) {
+        Walked::Sound(sum) => sum == held,
         Walked::Unsound => false,
     }
 }

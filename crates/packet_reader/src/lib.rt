@@ -51,7 +51,11 @@ fn aim_of(order: u8, bytes: &[u8], filled: usize) -> usize
     if filled < FIXED {
         return FIXED;
     }
-    packet_length(bytes[0], octets::get_u32(order, bytes, 4))
+    let code = bytes[0];
+    if !has_length(code) {
+        return FIXED;
+    }
+    packet_length(code, octets::get_u32(order, bytes, 4))
 }
 
 // What a run of bytes begins with: it has none, or begins with a part of a packet, with a packet

@@ -109,11 +109,14 @@ fn legal_run(room: &[u8], lo: usize, hi: usize) -> bool
     good
 }
 
-// Where a number's byte is in a room of k bytes.
+// Where a number's byte is in a room of k bytes. The largest room needs no division.
 fn slot(k: usize, number: u64) -> usize
     requires { ⌜ 0 < k ⌝ }
     ensures { λ r. ⌜ (r ≡ number % k) × (r < k) ⌝ }
 {
+    if k == MOST_REQUESTS {
+        return (number % (MOST_REQUESTS as u64)) as usize;
+    }
     (number % (k as u64)) as usize
 }
 

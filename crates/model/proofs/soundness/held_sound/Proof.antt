@@ -15,10 +15,10 @@ enum-told : tie.Need-enum-told
 enum-told c = search needs
 
 returns : tie.Need-returns
-returns c = walked-sound _ _ _ (sym (c .before .before .sum .given .1) ∙ c .before .before .before .before .walk .ensures)
+returns c = walked-sound _ _ _ _ _ (sym (c .before .sum .given .1) ∙ c .before .before .before .walk .ensures)
 
 returns-2 : tie.Need-returns-2
-returns-2 c = walked-unsound _ _ (sym (c .enum-told .given .1) ∙ c .before .before .walk .ensures)
+returns-2 c = walked-unsound _ _ _ _ (sym (c .enum-told .given .1) ∙ c .before .before .walk .ensures)
 
 pub held-sound-spec : {M : Type 1} → statement M
 held-sound-spec = tie.close (tie.spec walk-requires enum-known-sum enum-told returns returns-2)

@@ -4,7 +4,7 @@ use native.Mathlib.Omega.{arith}
 use mathlib.Core.Path.{sym, _∙_}
 use Rattle.octets.specs.Logic.{both}
 use borrow.Author.Tests.{eq-eqb, ne-eqb, not-true, not-false}
-use Rattle.model.specs.Sound.{soundb, numbers-is}
+use Rattle.model.specs.Sound.{soundb, heldb, numbers-is}
 use borrow.Author.Needs.{needs}
 use Rattle.model.proofs.soundness.is_sound.Statement.{statement}
 use Rattle.model.proofs.soundness.is_sound.Tie as tie
@@ -58,8 +58,8 @@ held-sound-requires : tie.Need-held-sound-requires
 held-sound-requires c κs = search needs
 
 returns-7 : tie.Need-returns-7
-unfolding soundb both
-returns-7 c = simp (sym (c .before .before .before .before .before .before .before .before .before .before .before .before .before .before .before .is-legal .ensures) ∙ not-false _ (c .before .before .before .before .before .before .before .before .before .before .before .before .before .before .if1 .left), sym (c .before .before .before .before .before .before .before .before .before .before .before .before .before .sized .ensures) ∙ not-false _ (c .before .before .before .before .before .before .before .before .before .before .before .before .if2 .left), eq-eqb _ _ (c .before .before .before .before .before .before .before .before .before .before .if3 .left), sym (c .before .before .before .before .before .before .before .before .before .numbers .ensures) ∙ not-false _ (c .before .before .before .before .before .before .before .before .if4 .left), sym (c .before .before .before .before .before .legal .ensures) ∙ not-false _ (c .before .before .before .before .if5 .left), sym (c .before .before .sound .ensures) ∙ not-false _ (c .before .if6 .left), c .held-sound .ensures)
+unfolding soundb both heldb
+returns-7 c = simp (sym (c .before .before .before .before .before .before .before .before .before .before .before .before .before .before .before .before .is-legal .ensures) ∙ not-false _ (c .before .before .before .before .before .before .before .before .before .before .before .before .before .before .before .if1 .left), sym (c .before .before .before .before .before .before .before .before .before .before .before .before .before .before .sized .ensures) ∙ not-false _ (c .before .before .before .before .before .before .before .before .before .before .before .before .before .if2 .left), eq-eqb _ _ (c .before .before .before .before .before .before .before .before .before .before .before .if3 .left), sym (c .before .before .before .before .before .before .before .before .before .before .numbers .ensures) ∙ not-false _ (c .before .before .before .before .before .before .before .before .before .if4 .left), sym (c .before .before .before .before .before .before .legal .ensures) ∙ not-false _ (c .before .before .before .before .before .if5 .left), sym (c .before .before .before .sound .ensures) ∙ not-false _ (c .before .before .if6 .left), c .held-sound .ensures)
 
 pub is-sound-spec : {M : Type 1} → statement M
 is-sound-spec =
