@@ -78,7 +78,7 @@ handing-reads f room (goes (Model.packet h) s) = refl
 handing-reads f room (stops w) = refl
 
 -- what a turn gave was handed out by a single poll
-handing-gave : {S : Type 0} (room : ℕ) (t : Turn Taken Stop S) (h : Held) (l : Lent S) → goes h l ≡ handing room t → goes (Model.packet h) (l .at) ≡ t
+pub handing-gave : {S : Type 0} (room : ℕ) (t : Turn Taken Stop S) (h : Held) (l : Lent S) → goes h l ≡ handing room t → goes (Model.packet h) (l .at) ≡ t
 unfolding handing
 handing-gave room (goes Model.none s) h l e = absurd (let z : _≡_ {A = ℕ} 0 1 = cc in omega arith)
 handing-gave room (goes (Model.packet h') s) h l e =

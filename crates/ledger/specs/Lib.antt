@@ -12,5 +12,6 @@ pub mod Moving
 pub mod Used
 pub mod SendsLaws
 pub mod Outcomes
+pub mod Many
 pub mod EncodingLaws
 pub mod Theorems

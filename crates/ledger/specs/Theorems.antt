@@ -17,8 +17,8 @@ use Rattle.model.specs.Reading.{Rooms, slotsOf, reads}
 use Rattle.model.specs.ReadingLaws.{used-read}
 use Rattle.model.specs.Says.{Shown, ShownEvent, ShownPoll, saysNext, saysSent, saysEnqueued, saysPolled, saysPollReply, saysEvent, saysClosed, saysPrepared}
 use Rattle.model.specs.Sound.{Sound, soundb}
-use Rattle.model.specs.SendRequests.{ShownSendings}
-use Rattle.model.specs.PollForEvents.{ShownHandings}
+use Rattle.model.specs.SendRequests.{Sendings, sendRequests, ShownSendings}
+use Rattle.model.specs.PollForEvents.{Handings, pollForEvents, ShownHandings}
 use Rattle.model.specs.SaysBatch.{saysSentMany, saysEvents}
 use Rattle.model.specs.Feed.{ShownFed, saysFed}
 use Rattle.model.specs.declared.Connection.{Connection}
@@ -58,6 +58,7 @@ use Rattle.ledger.specs.Moving as Moving
 use Rattle.ledger.specs.Used as Used
 use Rattle.ledger.specs.SendsLaws as SendsLaws
 use Rattle.ledger.specs.Outcomes as Outcomes
+use Rattle.ledger.specs.Many as Many
 
 -- ---- 1. SOUND EXACTLY
 
@@ -301,7 +302,26 @@ module _ (c : Connection) (r : Rooms) where
   pub prepare-check-for-reply-or-error-one : (n : ℕ) (a b : Prepared) → Prepares c r n (saysPrepared a) → Prepares c r n (saysPrepared b) → a ≡ b
   prepare-check-for-reply-or-error-one n a b p q = Outcomes.prepare-check-for-reply-or-error-one c r n a b p q
 
--- ---- 7. A FRESH ENGINE BEHAVES AS THE VALUE TABLE SAYS
+-- ---- 7. CALLS THAT MAKE MANY STEPS
+
+-- The requests that `send_requests` sent have the numbers behind the last written, one after the other, and no others are sent.
+pub sends-next : (c : Client) (bytes : List ℕ) (x : Sendings) (c' : Client) → sendRequests c bytes ≡ gives (x, c') → Many.Next c (x .numbers) c'
+sends-next c bytes x c' e = Many.sends-next c bytes x c' e
+
+-- The public call: the last number is as far from the last written as requests were sent, and is that of the state handed back.
+pub send-requests-count : (c : Connection) (r : Rooms) (bytes : List ℕ) (v : ShownSendings) (c' : Connection) (r' : Rooms) → SendsMany c r bytes (gives (v, c')) r' → (v .last ≡ c .written + v .count) × (c' .written ≡ v .last)
+send-requests-count c r bytes v c' r' h = Many.sends-count c r bytes v c' r' h
+
+-- The events that `poll_for_events` hands out are the first of those held, in order; those behind them stay, and nothing else changes.
+pub events-first : (c : Client) (room marks : ℕ) (x : Handings) (c' : Client) → pollForEvents c room marks ≡ gives (x, c') → Many.First c (x .events) c'
+events-first c room marks x c' e = Many.events-first c room marks x c' e
+
+-- The public call: so it is as state and rooms are read, and those events stand in the outputs.
+pub poll-for-events-in-order : (c : Connection) (r : Rooms) (out marks : List ℕ) (v : ShownHandings) (c' : Connection) (r' : Rooms) (out' marks' : List ℕ) → PollsEvents c r out marks (gives (v, c')) r' out' marks'
+    → Many.InOrder c r out marks v c' r' out' marks'
+poll-for-events-in-order c r out marks v c' r' out' marks' h = Many.events-in-order c r out marks v c' r' out' marks' h
+
+-- ---- 8. A FRESH ENGINE BEHAVES AS THE VALUE TABLE SAYS
 
 -- Fresh, K 65,536: each row of up to 65,534 sends without a reply passes, numbered from 1 on.
 pub fresh-sends : (o s n : ℕ) → n ≤ syncSpan → run (fresh o mostSends s) (withoutReply n) .said ≡ numbersFrom 1 n
