@@ -273,6 +273,21 @@ uint32_t xm_send_request(uint64_t *state, size_t state_len, uint8_t *requests, s
                          size_t slots_len, uint8_t kind, uint64_t *number);
 
 /*
+ * What stopped a call that makes many steps: the end of what it was given, the number of the next
+ * step's refusal, or a byte that is no kind.
+ */
+enum { XM_STOP_END = 0, XM_STOP_NO_KIND = 255 };
+
+/*
+ * Requests were written, one for each kind, up to the first that is refused by 3, 6 or 5 or to a byte
+ * that is no kind: how many, the last number written, and what stopped it. Refused by 9.
+ */
+uint32_t xm_send_requests(uint64_t *state, size_t state_len, uint8_t *requests, size_t requests_len,
+                          const uint8_t *store, size_t store_len, const uint32_t *slots,
+                          size_t slots_len, const uint8_t *kinds, size_t kinds_len, size_t *count,
+                          uint64_t *number, uint32_t *stop);
+
+/*
  * The answers to a request are not wanted, neither those to come nor those held. Under
  * XM_DISCARD_REPLY held errors become events. Refused by 9.
  */
@@ -337,6 +352,18 @@ uint32_t xm_poll_for_event_with_sequence(uint64_t *state, size_t state_len,
                                          uint8_t *store, size_t store_len, const uint32_t *slots,
                                          size_t slots_len, uint8_t *out, size_t out_len,
                                          uint8_t *found, uint64_t *number, size_t *size);
+
+/*
+ * As many events as fit, oldest first: count events, whose packets, size bytes in all, are one behind
+ * the other at the start of out, and for each two marks, its number and the length of its packet.
+ * What stopped it is XM_STOP_END where no event is left, otherwise 8. Refused by 9, and 8 where there
+ * is an event and not even one fits.
+ */
+uint32_t xm_poll_for_events(uint64_t *state, size_t state_len, const uint8_t *requests,
+                            size_t requests_len, uint8_t *store, size_t store_len,
+                            const uint32_t *slots, size_t slots_len, uint8_t *out, size_t out_len,
+                            uint64_t *marks, size_t marks_len, size_t *count, size_t *size,
+                            uint32_t *stop);
 
 /*
  * The descriptors to be closed, whole and in their order, at the start of out. Refused by 9, and 8

@@ -23,7 +23,9 @@ int main(void) {
     uint64_t number = 0, reader[XM_SLOTS];
     uint8_t place = 9, found = 9, sync = 9, kind = 9, mode = 9, count8 = 9, packet[32] = {1, 1, 1};
     size_t size = 9, count = 9, start = 9;
-    uint32_t seven = 7;
+    uint32_t seven = 7, stop = 9;
+    uint64_t marks[2] = {9, 9};
+    const uint8_t kinds[3] = {XM_NO_REPLY, XM_REPLY_WITHOUT_FDS, 3};
 
     expect("new", xm_connection_new(state, XM_CONNECTION_SLOTS, XM_LITTLE, ROOMS), XM_DONE);
     expect("send", xm_send_request(state, XM_CONNECTION_SLOTS, ROOMS, XM_REPLY_WITH_FDS, &number), XM_DONE);
@@ -45,6 +47,18 @@ int main(void) {
     expect("descriptors", count, 1);
     expect("descriptor", fds[0], 7);
     expect("bytes", (unsigned)memcmp(out, packet, 32), 0);
+    expect("sends", xm_send_requests(state, XM_CONNECTION_SLOTS, ROOMS, kinds, sizeof kinds, &count, &number, &stop), XM_DONE);
+    expect("sent", count, 2);
+    expect("last number", number, 3);
+    expect("stop", stop, XM_STOP_NO_KIND);
+    packet[0] = 2;
+    expect("event", xm_enqueue_packet(state, XM_CONNECTION_SLOTS, ROOMS, packet, 32, &place, &number), XM_DONE);
+    expect("events", xm_poll_for_events(state, XM_CONNECTION_SLOTS, ROOMS, out, sizeof out, marks, 2, &count, &size, &stop), XM_DONE);
+    expect("handed out", count, 1);
+    expect("event's number", marks[0], 1);
+    expect("event's length", marks[1], 32);
+    expect("event's bytes", (unsigned)memcmp(out, packet, 32), 0);
+    expect("stop", stop, XM_STOP_END);
     expect("reader", xm_reader_new(reader, XM_SLOTS, XM_BIG, out, sizeof out), XM_DONE);
     expect("buffer", xm_reader_buffer(reader, XM_SLOTS, out, sizeof out, &start, &size), XM_DONE);
     expect("start", start, 0);

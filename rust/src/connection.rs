@@ -2,7 +2,7 @@
 
 use std::mem::forget;
 
-use crate::engine::{Engine, Place};
+use crate::engine::{Engine, Place, Stop};
 use crate::errors::Refusal;
 use crate::ffi;
 use crate::{ByteOrder, DiscardMode, RawFdContainer, SequenceNumber};
@@ -38,6 +38,11 @@ pub enum PollReply {
 /// The rooms that `Connection::new` takes: both as large as they may be.
 const REQUESTS: usize = 65_536;
 const STORE: usize = 16_777_216;
+
+/// The outputs of `Connection::poll_for_events`: bytes for the largest packet, and two marks for each
+/// packet of the least length that they take.
+const OUT: usize = 65_536;
+const MARKS: usize = 2 * OUT / 32;
 
 /// A client's side of the X11 protocol: it keeps what was sent and what came, and does no I/O.
 ///
@@ -85,6 +90,12 @@ impl Connection {
     /// The same. Refused by 3, 6, 5.
     pub fn try_send_request(&mut self, kind: ReplyFdKind) -> Result<SequenceNumber, Refusal> {
         self.engine.send_request(kind)
+    }
+
+    /// Send requests, one after the other up to the first that is refused by 3, 6, 5: how many, and
+    /// what stopped it. The original has no such call; this one looks at the rooms once.
+    pub fn send_requests(&mut self, kinds: &[ReplyFdKind]) -> (usize, Stop) {
+        whole(self.engine.send_requests(kinds))
     }
 
     /// Ignore the reply of a request that was sent before.
@@ -173,6 +184,25 @@ impl Connection {
         whole(self.engine.poll_for_event_with_sequence())
     }
 
+    /// All events, oldest first. The original has no such call; this one looks at the rooms once for
+    /// as many events as 65,536 bytes take.
+    pub fn poll_for_events(&mut self) -> Vec<RawEventAndSeqNumber> {
+        let (mut out, mut marks) = (vec![0; OUT], vec![0; MARKS]);
+        let mut events = Vec::new();
+        loop {
+            let handed = whole(self.engine.poll_for_events(&mut out, &mut marks));
+            let mut rest = &out[..handed.bytes];
+            for mark in marks[..2 * handed.count].chunks(2) {
+                let (packet, behind) = rest.split_at(mark[1] as usize);
+                events.push((packet.to_vec(), mark[0]));
+                rest = behind;
+            }
+            if handed.stop == Stop::End {
+                return events;
+            }
+        }
+    }
+
     /// The descriptors that are to be closed, in their order.
     pub fn take_closed_fds(&mut self) -> Vec<RawFdContainer> {
         let closed = whole(self.engine.take_closed_fds());
@@ -247,6 +277,75 @@ mod test {
             c.try_send_request(ReplyFdKind::NoReply),
             Err(Refusal::NoRoom)
         );
+    }
+
+    #[test]
+    fn many_sends_stop_where_one_is_refused() {
+        let mut c = Connection::new();
+        let kinds = vec![ReplyFdKind::NoReply; 65_536];
+        let sync = Stop::Refused(Refusal::SyncFirst);
+        assert_eq!(c.send_requests(&kinds), (65_534, sync));
+        assert_eq!(c.send_requests(&kinds), (0, sync));
+        let kinds = [
+            ReplyFdKind::ReplyWithoutFDs,
+            ReplyFdKind::NoReply,
+            ReplyFdKind::NoReply,
+        ];
+        assert_eq!(c.send_requests(&kinds[..1]), (1, Stop::End));
+        assert_eq!(
+            c.send_requests(&kinds[1..]),
+            (1, Stop::Refused(Refusal::NoRoom))
+        );
+        assert_eq!(c.engine().last_sequence_written(), 65_536);
+        assert_eq!(c.send_requests(&[]), (0, Stop::End));
+    }
+
+    #[test]
+    fn many_events_come_in_order() {
+        let mut c = Connection::new();
+        assert_eq!(c.poll_for_events(), vec![]);
+        c.send_request(ReplyFdKind::ReplyWithoutFDs);
+        c.enqueue_packet(packet(1, 0, 1));
+        let packets: Vec<_> = (0..5000)
+            .map(|n| packet(2, n as u8, n / 1000 + 1))
+            .collect();
+        packets.iter().for_each(|p| c.enqueue_packet(p.clone()));
+        let events = c.poll_for_events();
+        let numbers: Vec<_> = (0..5000).map(|n| n / 1000 + 1).collect();
+        assert_eq!(events.iter().map(|e| e.1).collect::<Vec<_>>(), numbers);
+        assert!(events.into_iter().map(|e| e.0).eq(packets));
+        assert_eq!(c.poll_for_reply(1), PollReply::Reply(packet(1, 0, 1)));
+    }
+
+    #[test]
+    fn events_stop_where_an_output_ends() {
+        let mut engine = Engine::new(ByteOrder::NATIVE, 8, 1024).unwrap();
+        let short = Stop::Refused(Refusal::OutShort);
+        for n in 1..=4 {
+            engine.enqueue_packet(&packet(2, n, n.into())).unwrap();
+        }
+        let (mut out, mut marks) = ([7; 100], [9; 8]);
+        assert_eq!(
+            engine.poll_for_events(&mut out[..31], &mut marks),
+            Err(Refusal::OutShort)
+        );
+        assert_eq!(
+            engine.poll_for_events(&mut out, &mut marks[..1]),
+            Err(Refusal::OutShort)
+        );
+        assert_eq!((out, marks), ([7; 100], [9; 8]));
+        let one = engine.poll_for_events(&mut out, &mut marks[..3]).unwrap();
+        assert_eq!((one.count, one.bytes, one.stop), (1, 32, short));
+        assert_eq!(marks, [1, 32, 9, 9, 9, 9, 9, 9]);
+        let two = engine.poll_for_events(&mut out[..95], &mut marks).unwrap();
+        assert_eq!((two.count, two.bytes, two.stop), (2, 64, short));
+        assert_eq!(marks, [2, 32, 3, 32, 9, 9, 9, 9]);
+        assert_eq!(out[..64], [packet(2, 2, 2), packet(2, 3, 3)].concat());
+        assert_eq!(out[64..], [7; 36]);
+        let rest = engine.poll_for_events(&mut out, &mut marks).unwrap();
+        assert_eq!((rest.count, rest.bytes, rest.stop), (1, 32, Stop::End));
+        let none = engine.poll_for_events(&mut [], &mut []).unwrap();
+        assert_eq!((none.count, none.bytes, none.stop), (0, 0, Stop::End));
     }
 
     #[test]

@@ -26,6 +26,33 @@ pub enum Place {
     Dropped,
 }
 
+/// What stopped a call that makes many steps.
+#[derive(Debug, Clone, Copy, PartialEq, Eq)]
+pub enum Stop {
+    /// It came to its end.
+    End,
+    /// The next step is refused.
+    Refused(Refusal),
+}
+
+impl Stop {
+    fn from_number(number: u32) -> Stop {
+        Refusal::from_number(number).map_or(Stop::End, Stop::Refused)
+    }
+}
+
+/// Events in two outputs: their packets one behind the other, and for each its number and the length
+/// of its packet.
+#[derive(Debug, Clone, Copy, PartialEq, Eq)]
+pub struct Handed {
+    /// How many events.
+    pub count: usize,
+    /// The bytes of their packets.
+    pub bytes: usize,
+    /// Whether none is left, or the next has no room.
+    pub stop: Stop,
+}
+
 /// An outstanding request.
 #[derive(Debug, Clone, Copy, PartialEq, Eq)]
 pub struct Request {
@@ -48,6 +75,14 @@ pub struct Record<'a> {
     pub packet: &'a [u8],
     /// A reply's descriptors.
     pub fds: &'a [u32],
+}
+
+fn byte(kind: ReplyFdKind) -> u8 {
+    match kind {
+        ReplyFdKind::NoReply => 0,
+        ReplyFdKind::ReplyWithoutFDs => 1,
+        ReplyFdKind::ReplyWithFDs => 2,
+    }
 }
 
 /// A connection's state and its rooms.
@@ -94,12 +129,15 @@ impl Engine {
 
     /// A request was written: its number. Refused by 3, 6, 5.
     pub fn send_request(&mut self, kind: ReplyFdKind) -> Result<SequenceNumber, Refusal> {
-        let kind = match kind {
-            ReplyFdKind::NoReply => 0,
-            ReplyFdKind::ReplyWithoutFDs => 1,
-            ReplyFdKind::ReplyWithFDs => 2,
-        };
-        ffi::send_request(&mut self.state, &mut self.rooms, kind)
+        ffi::send_request(&mut self.state, &mut self.rooms, byte(kind))
+    }
+
+    /// Requests were written, one after the other up to the first that is refused by 3, 6, 5: how
+    /// many, and what stopped it. Far quicker than as many calls of `send_request`.
+    pub fn send_requests(&mut self, kinds: &[ReplyFdKind]) -> Result<(usize, Stop), Refusal> {
+        let bytes: Vec<u8> = kinds.iter().map(|&kind| byte(kind)).collect();
+        let (count, _, stop) = ffi::send_requests(&mut self.state, &mut self.rooms, &bytes)?;
+        Ok((count, Stop::from_number(stop)))
     }
 
     /// The answers to a request are not wanted.
@@ -199,6 +237,22 @@ impl Engine {
             return Ok(None);
         }
         Ok(Some((self.out[..size].to_vec(), number)))
+    }
+
+    /// As many events as fit, oldest first: packets into `out`, and number and length of each into
+    /// `marks`. Refused by 8 where there is an event and not even one fits.
+    pub fn poll_for_events(
+        &mut self,
+        out: &mut [u8],
+        marks: &mut [u64],
+    ) -> Result<Handed, Refusal> {
+        let (count, bytes, stop) =
+            ffi::poll_for_events(&mut self.state, &mut self.rooms, out, marks)?;
+        Ok(Handed {
+            count,
+            bytes,
+            stop: Stop::from_number(stop),
+        })
     }
 
     /// The descriptors to be closed, whole and in their order.

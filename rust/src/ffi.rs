@@ -226,6 +226,21 @@ extern "C" {
         kind: u8,
         number: &mut u64,
     ) -> u32;
+    fn xm_send_requests(
+        state: *mut u64,
+        state_len: usize,
+        requests: *mut u8,
+        requests_len: usize,
+        store: *const u8,
+        store_len: usize,
+        slots: *const u32,
+        slots_len: usize,
+        kinds: *const u8,
+        kinds_len: usize,
+        count: &mut usize,
+        number: &mut u64,
+        stop: &mut u32,
+    ) -> u32;
     fn xm_discard_reply(
         state: *mut u64,
         state_len: usize,
@@ -338,6 +353,23 @@ extern "C" {
         found: &mut u8,
         number: &mut u64,
         size: &mut usize,
+    ) -> u32;
+    fn xm_poll_for_events(
+        state: *mut u64,
+        state_len: usize,
+        requests: *const u8,
+        requests_len: usize,
+        store: *mut u8,
+        store_len: usize,
+        slots: *const u32,
+        slots_len: usize,
+        out: *mut u8,
+        out_len: usize,
+        marks: *mut u64,
+        marks_len: usize,
+        count: &mut usize,
+        size: &mut usize,
+        stop: &mut u32,
     ) -> u32;
     fn xm_take_closed_fds(
         state: *mut u64,
@@ -790,6 +822,33 @@ pub(crate) fn send_request(state: &mut [u64], rooms: &mut Rooms, kind: u8) -> Re
     Ok(number)
 }
 
+pub(crate) fn send_requests(
+    state: &mut [u64],
+    rooms: &mut Rooms,
+    kinds: &[u8],
+) -> Result<(usize, u64, u32), Refusal> {
+    let (mut count, mut number, mut stop) = (0, 0, 0);
+    // SAFETY: whole slices and numbers of their own.
+    answer(unsafe {
+        xm_send_requests(
+            state.as_mut_ptr(),
+            state.len(),
+            rooms.requests.as_mut_ptr(),
+            rooms.requests.len(),
+            rooms.store.as_ptr(),
+            rooms.store.len(),
+            rooms.slots.as_ptr(),
+            rooms.slots.len(),
+            kinds.as_ptr(),
+            kinds.len(),
+            &mut count,
+            &mut number,
+            &mut stop,
+        )
+    })?;
+    Ok((count, number, stop))
+}
+
 pub(crate) fn discard_reply(
     state: &mut [u64],
     rooms: &mut Rooms,
@@ -998,6 +1057,36 @@ pub(crate) fn poll_for_event_with_sequence(
         )
     })?;
     Ok((found, number, size))
+}
+
+pub(crate) fn poll_for_events(
+    state: &mut [u64],
+    rooms: &mut Rooms,
+    out: &mut [u8],
+    marks: &mut [u64],
+) -> Result<(usize, usize, u32), Refusal> {
+    let (mut count, mut size, mut stop) = (0, 0, 0);
+    // SAFETY: whole slices and numbers of their own.
+    answer(unsafe {
+        xm_poll_for_events(
+            state.as_mut_ptr(),
+            state.len(),
+            rooms.requests.as_ptr(),
+            rooms.requests.len(),
+            rooms.store.as_mut_ptr(),
+            rooms.store.len(),
+            rooms.slots.as_ptr(),
+            rooms.slots.len(),
+            out.as_mut_ptr(),
+            out.len(),
+            marks.as_mut_ptr(),
+            marks.len(),
+            &mut count,
+            &mut size,
+            &mut stop,
+        )
+    })?;
+    Ok((count, size, stop))
 }
 
 pub(crate) fn take_closed_fds(

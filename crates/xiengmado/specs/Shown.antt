@@ -23,6 +23,9 @@ use Rattle.connect.specs.declared.reply.Setup.{Setup}
 use Rattle.connect.specs.declared.reply.SetupFailed.{SetupFailed}
 use Rattle.model.specs.Model.{Filing}
 use Rattle.model.specs.Says.{Shown, none, packet, ShownPoll, again, noReply, reply, ShownEvent, noEvent, event as anEvent}
+use Rattle.model.specs.Batch.{Stop, ended, refused, meaningless}
+use Rattle.model.specs.SendRequests.{ShownSendings}
+use Rattle.model.specs.PollForEvents.{ShownHandings}
 use Rattle.model.specs.declared.Connection.{Connection}
 use Rattle.model.specs.declared.Place.{Place}
 use Rattle.model.specs.declared.Place.the-variants as Place
@@ -163,6 +166,20 @@ eventOf (anEvent n k) = 1 ∷ n ∷ k ∷ []
 
 abbrev pub event : ShownEvent × Connection → List ℕ
 event x = eventOf (x .0)
+
+-- what stopped a call that makes many steps: 0 for the end, a refusal by its number, 255 for a byte that is no kind
+abbrev pub stopNumber : Stop → ℕ
+stopNumber ended = 0
+stopNumber (refused n) = n
+stopNumber meaningless = 255
+
+-- how many requests were sent, the last number written, and what stopped it
+abbrev pub sendings : ShownSendings × Connection → List ℕ
+sendings x = x .0 .count ∷ x .0 .last ∷ stopNumber (x .0 .stopped) ∷ []
+
+-- how many events were handed out, the bytes of their packets, and what stopped it
+abbrev pub handings : ShownHandings × Connection → List ℕ
+handings x = x .0 .count ∷ x .0 .bytes ∷ stopNumber (x .0 .stopped) ∷ []
 
 -- 1 for true
 abbrev pub flag : Bool → List ℕ

@@ -16,6 +16,7 @@ mod answers;
 mod client;
 mod handshake;
 mod ids;
+mod many;
 mod misc;
 mod numbers;
 mod packets;
