@@ -274,9 +274,9 @@ uint32_t xm_send_request(uint64_t *state, size_t state_len, uint8_t *requests, s
 
 /*
  * What stopped a call that makes many steps: the end of what it was given, the number of the next
- * step's refusal, or a byte that is no kind.
+ * step's refusal, a byte that is no kind, or a part of a packet.
  */
-enum { XM_STOP_END = 0, XM_STOP_NO_KIND = 255 };
+enum { XM_STOP_END = 0, XM_STOP_PART = 254, XM_STOP_NO_KIND = 255 };
 
 /*
  * Requests were written, one for each kind, up to the first that is refused by 3, 6 or 5 or to a byte
@@ -305,6 +305,17 @@ uint32_t xm_enqueue_packet(uint64_t *state, size_t state_len, const uint8_t *req
                            size_t requests_len, uint8_t *store, size_t store_len, uint32_t *slots,
                            size_t slots_len, const uint8_t *packet, size_t packet_len,
                            uint8_t *place, uint64_t *number);
+
+/*
+ * Bytes came from the server: each whole packet that they begin with is taken in as xm_enqueue_packet
+ * does, up to the first that is refused by 2, 3, 4 or 5. How many bytes (size) and packets (count) were
+ * taken, and what stopped it: XM_STOP_END where no byte is left, XM_STOP_PART where part of a packet is,
+ * otherwise the refusal of the next packet. What is left is to be offered again. Refused by 9.
+ */
+uint32_t xm_enqueue_packets(uint64_t *state, size_t state_len, const uint8_t *requests,
+                            size_t requests_len, uint8_t *store, size_t store_len, uint32_t *slots,
+                            size_t slots_len, const uint8_t *bytes, size_t bytes_len, size_t *size,
+                            size_t *count, uint32_t *stop);
 
 /*
  * The oldest reply or error of a request: found is 1, size bytes are at the start of out and count

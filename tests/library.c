@@ -53,6 +53,9 @@ int main(void) {
     expect("stop", stop, XM_STOP_NO_KIND);
     packet[0] = 2;
     expect("event", xm_enqueue_packet(state, XM_CONNECTION_SLOTS, ROOMS, packet, 32, &place, &number), XM_DONE);
+    expect("run", xm_enqueue_packets(state, XM_CONNECTION_SLOTS, ROOMS, packet, 31, &size, &count, &stop), XM_DONE);
+    expect("bytes of a run", size, 0);
+    expect("part of a packet", stop, XM_STOP_PART);
     expect("events", xm_poll_for_events(state, XM_CONNECTION_SLOTS, ROOMS, out, sizeof out, marks, 2, &count, &size, &stop), XM_DONE);
     expect("handed out", count, 1);
     expect("event's number", marks[0], 1);

@@ -2,7 +2,7 @@
 
 use std::mem::forget;
 
-use crate::engine::{Engine, Place, Stop};
+use crate::engine::{Engine, Fed, Place, Stop};
 use crate::errors::Refusal;
 use crate::ffi;
 use crate::{ByteOrder, DiscardMode, RawFdContainer, SequenceNumber};
@@ -161,6 +161,15 @@ impl Connection {
         self.engine.enqueue_packet(packet)
     }
 
+    /// Bytes were received: each whole packet that they begin with is taken in, up to the first that is
+    /// refused by 2, 3, 4, 5. What is left behind the bytes taken is to be offered again, with more behind
+    /// it or once there is room. The original has no such call; this one looks at the rooms once.
+    pub fn enqueue_packets(&mut self, bytes: &[u8]) -> Fed {
+        let fed = whole(self.engine.enqueue_packets(bytes));
+        self.close();
+        fed
+    }
+
     /// The oldest answer to a request that has a reply.
     #[inline]
     pub fn poll_for_reply_or_error(&mut self, sequence: SequenceNumber) -> Option<BufWithFds> {
@@ -247,6 +256,7 @@ impl Drop for Connection {
 #[cfg(test)]
 mod test {
     use super::*;
+    use crate::engine::Halt;
     use std::fs::File;
     use std::io::Read;
     use std::os::unix::net::UnixStream;
@@ -312,6 +322,66 @@ mod test {
         );
         assert_eq!(c.engine().last_sequence_written(), 65_536);
         assert_eq!(c.send_requests(&[]), (0, Stop::End));
+    }
+
+    /// A packet with so many fours behind its 32 bytes.
+    fn long(order: ByteOrder, kind: u8, number: u16, fours: u32) -> Vec<u8> {
+        let (number, fours_at) = match order {
+            ByteOrder::Little => (number.to_le_bytes(), fours.to_le_bytes()),
+            ByteOrder::Big => (number.to_be_bytes(), fours.to_be_bytes()),
+        };
+        let mut bytes = [&[kind, 0], &number[..], &fours_at[..]].concat();
+        bytes.resize(32 + 4 * fours as usize, 7);
+        bytes
+    }
+
+    #[test]
+    fn a_run_of_bytes_is_cut_into_packets() {
+        for order in [ByteOrder::Little, ByteOrder::Big] {
+            let (reply, event) = (long(order, 1, 1, 1), long(order, 2, 1, 0));
+            let run = [&reply[..], &event, &event[..31]].concat();
+            let fed = |bytes, packets, halt| Fed {
+                bytes,
+                packets,
+                halt,
+            };
+            let mut engine = Engine::new(order, 8, 160).unwrap();
+            assert_eq!(engine.enqueue_packets(&run), Ok(fed(68, 2, Halt::Part)));
+            assert_eq!(engine.enqueue_packets(&[]), Ok(fed(0, 0, Halt::End)));
+            // the store has room for one more event, and not for two
+            let two = [long(order, 2, 2, 0), long(order, 2, 3, 0)].concat();
+            let full = Halt::Refused(Refusal::NoRoom);
+            assert_eq!(engine.enqueue_packets(&two), Ok(fed(32, 1, full)));
+            assert_eq!(engine.last_sequence_read(), 2);
+            // one by one it comes to the same
+            let mut single = Engine::new(order, 8, 160).unwrap();
+            for packet in [&reply, &event, &long(order, 2, 2, 0)] {
+                single.enqueue_packet(packet).unwrap();
+            }
+            let all = |e: &Engine| -> Vec<_> {
+                e.records().map(|r| (r.number, r.packet.to_vec())).collect()
+            };
+            assert_eq!(all(&engine), all(&single));
+        }
+    }
+
+    #[test]
+    fn a_run_with_a_long_packet_stops_at_its_first_bytes() {
+        let order = ByteOrder::NATIVE;
+        let mut engine = Engine::new(order, 8, 1024).unwrap();
+        let run = [long(order, 2, 1, 0), long(order, 1, 1, 16_377)].concat();
+        for (end, bytes, halt) in [
+            (31, 0, Halt::Part),
+            (63, 32, Halt::Part),
+            (64, 32, Halt::Refused(Refusal::LongPacket)),
+            (run.len(), 32, Halt::Refused(Refusal::LongPacket)),
+        ] {
+            let fed = engine.enqueue_packets(&run[..end]).unwrap();
+            assert_eq!(
+                (fed.bytes, fed.packets, fed.halt),
+                (bytes, bytes / 32, halt)
+            );
+        }
     }
 
     #[test]

@@ -282,6 +282,21 @@ extern "C" {
         place: &mut u8,
         number: &mut u64,
     ) -> u32;
+    fn xm_enqueue_packets(
+        state: *mut u64,
+        state_len: usize,
+        requests: *const u8,
+        requests_len: usize,
+        store: *mut u8,
+        store_len: usize,
+        slots: *mut u32,
+        slots_len: usize,
+        bytes: *const u8,
+        bytes_len: usize,
+        size: &mut usize,
+        count: &mut usize,
+        stop: &mut u32,
+    ) -> u32;
     fn xm_poll_for_reply_or_error(
         state: *mut u64,
         state_len: usize,
@@ -955,6 +970,34 @@ pub(crate) fn enqueue_packet(
 }
 
 #[inline]
+
+pub(crate) fn enqueue_packets(
+    state: &mut [u64],
+    rooms: &mut Rooms,
+    bytes: &[u8],
+) -> Result<(usize, usize, u32), Refusal> {
+    let (mut size, mut count, mut stop) = (0, 0, 0);
+    // SAFETY: whole slices and numbers of their own.
+    answer(unsafe {
+        xm_enqueue_packets(
+            state.as_mut_ptr(),
+            state.len(),
+            rooms.requests.as_ptr(),
+            rooms.requests.len(),
+            rooms.store.as_mut_ptr(),
+            rooms.store.len(),
+            rooms.slots.as_mut_ptr(),
+            rooms.slots.len(),
+            bytes.as_ptr(),
+            bytes.len(),
+            &mut size,
+            &mut count,
+            &mut stop,
+        )
+    })?;
+    Ok((size, count, stop))
+}
+
 pub(crate) fn poll_for_reply_or_error(
     state: &mut [u64],
     rooms: &mut Rooms,

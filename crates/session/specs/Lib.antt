@@ -4,3 +4,4 @@ pub mod Rows
 pub mod FeedRow
 pub mod Theorems
 pub mod Engines
+pub mod FeedFiled

@@ -26,6 +26,8 @@ use Rattle.model.specs.Says.{Shown, none, packet, ShownPoll, again, noReply, re
 use Rattle.model.specs.Batch.{Stop, ended, refused, meaningless}
 use Rattle.model.specs.SendRequests.{ShownSendings}
 use Rattle.model.specs.PollForEvents.{ShownHandings}
+use Rattle.model.specs.Feed.{ShownFed}
+use Rattle.model.specs.Feed as Feed
 use Rattle.model.specs.declared.Connection.{Connection}
 use Rattle.model.specs.declared.Place.{Place}
 use Rattle.model.specs.declared.Place.the-variants as Place
@@ -180,6 +182,16 @@ sendings x = x .0 .count ∷ x .0 .last ∷ stopNumber (x .0 .stopped) ∷ []
 -- how many events were handed out, the bytes of their packets, and what stopped it
 abbrev pub handings : ShownHandings × Connection → List ℕ
 handings x = x .0 .count ∷ x .0 .bytes ∷ stopNumber (x .0 .stopped) ∷ []
+
+-- what stopped a row of packets: 0 where no byte is left, a refusal by its number, 254 where part of a packet is left
+abbrev pub haltNumber : Feed.Stopped → ℕ
+haltNumber Feed.ended = 0
+haltNumber (Feed.refused n) = n
+haltNumber Feed.partial = 254
+
+-- how many bytes were taken, how many packets, and what stopped it
+abbrev pub fed : ShownFed × Connection → List ℕ
+fed x = x .0 .bytes ∷ x .0 .packets ∷ haltNumber (x .0 .stopped) ∷ []
 
 -- 1 for true
 abbrev pub flag : Bool → List ℕ

@@ -1,22 +1,28 @@
 // `connection`: the public calls that make many steps. What stopped one is a number: 0 for the end,
-// that of the refusal of the next step, or 255 for a byte that is no kind.
+// that of the refusal of the next step, 255 for a byte that is no kind, or 254 for part of a packet.
 ghost use mathlib.Core.Path.{_≡_};
 ghost use mathlib.Core.List.{[], _∷_};
 ghost use Rattle.model.specs.Reading.{rooms};
 ghost use Rattle.model.specs.SaysBatch.{saysStop, saysSentMany, saysEvents};
-ghost use Rattle.connection.specs.Calls.{SendsMany, PollsEvents};
+ghost use Rattle.model.specs.Feed.{saysHalt, saysFed};
+ghost use Rattle.connection.specs.Calls.{SendsMany, EnqueuesMany, PollsEvents};
 ghost use Rattle.xiengmado.specs.Exported.{Kept};
-ghost use Rattle.xiengmado.specs.Shown.{stateRow, stopNumber, sendings, handings};
+ghost use Rattle.xiengmado.specs.Shown.{stateRow, stopNumber, haltNumber, sendings, fed, handings};
 ghost use Rattle.xiengmado.specs.State.{connectionOf};
 use crate::DONE;
 use crate::code;
 use crate::state;
 use model::Events;
+use model::Fed;
+use model::Halt;
 use model::SentMany;
 use model::Stop;
 
 // What stops a row of sends at a byte that is no kind.
 const NO_KIND: u32 = 255;
+
+// What stops a row of packets where part of one is left.
+const PART: u32 = 254;
 
 // How many were sent, the last number written and what stopped it.
 #[no_mangle]
@@ -35,6 +41,25 @@ pub extern "C" fn xm_send_requests(
     let now = state::connection(state);
     let answer = connection::send_requests(now, requests, store, slots, kinds);
     give_sent_many(answer, state, count, number, stop)
+}
+
+// How many bytes were taken, how many packets, and what stopped it.
+#[no_mangle]
+pub extern "C" fn xm_enqueue_packets(
+    state: &mut [u64],
+    requests: &[u8],
+    store: &mut [u8],
+    slots: &mut [u32],
+    bytes: &[u8],
+    size: &mut usize,
+    count: &mut usize,
+    stop: &mut u32,
+) -> u32
+    ensures { λ r. ⌜ Kept (λ a. EnqueuesMany (connectionOf (now (state .entry))) (rooms (now (requests .entry)) (now (store .entry)) (now (slots .entry))) (now (bytes .entry)) a (rooms (now (requests .entry)) (now (store .exit)) (now (slots .exit)))) fed (stateRow (now (state .entry))) (now (size .entry) ∷ now (count .entry) ∷ now (stop .entry) ∷ []) (now (size .exit) ∷ now (count .exit) ∷ now (stop .exit) ∷ []) (now (state .entry)) (now (state .exit)) r ⌝ }
+{
+    let now = state::connection(state);
+    let answer = connection::enqueue_packets(now, requests, store, slots, bytes);
+    give_fed(answer, state, size, count, stop)
 }
 
 // How many events are in the outputs, how many bytes their packets are, and what stopped it.
@@ -78,6 +103,27 @@ fn give_sent_many(
     }
 }
 
+fn give_fed(
+    answer: Fed,
+    row: &mut [u64],
+    size: &mut usize,
+    count: &mut usize,
+    stop: &mut u32,
+) -> u32
+    ensures { λ r. ⌜ Kept (λ a. a ≡ saysFed answer) fed (stateRow (now (row .entry))) (now (size .entry) ∷ now (count .entry) ∷ now (stop .entry) ∷ []) (now (size .exit) ∷ now (count .exit) ∷ now (stop .exit) ∷ []) (now (row .entry)) (now (row .exit)) r ⌝ }
+{
+    match answer {
+        Fed::Taken(n, packets, how, next) => {
+            state::put_connection(row, next);
+            *size = n;
+            *count = packets;
+            *stop = halt_number(how);
+            DONE
+        }
+        Fed::Refused(refusal) => code(refusal),
+    }
+}
+
 fn give_events(
     answer: Events,
     row: &mut [u64],
@@ -106,5 +152,15 @@ fn stop_number(stop: Stop) -> u32
         Stop::End => 0,
         Stop::Refused(refusal) => code(refusal),
         Stop::NoKind => NO_KIND,
+    }
+}
+
+fn halt_number(halt: Halt) -> u32
+    ensures { λ r. ⌜ r ≡ haltNumber (saysHalt halt) ⌝ }
+{
+    match halt {
+        Halt::End => 0,
+        Halt::Refused(refusal) => code(refusal),
+        Halt::Part => PART,
     }
 }
