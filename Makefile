@@ -47,7 +47,7 @@ record: $(ARCHIVE)
 
 # libFuzzer over the exports, by hand: the calls and checks of the fuzz test with its bytes as the choices. SECONDS says for
 # how long; what it finds interesting is kept in target/fuzz/corpus.
-FUZZ = $(addprefix tests/fuzz/,source.c lent.c sound.c report.c world.c client.c leaves.c readers.c exports.c libfuzzer.c)
+FUZZ = $(addprefix tests/fuzz/,source.c lent.c sound.c report.c world.c client.c many.c leaves.c readers.c exports.c libfuzzer.c)
 SECONDS = 60
 
 fuzz: $(ARCHIVE)

@@ -12,6 +12,7 @@ void connect_advance(void), connect_setup(void), connect_vendor(void), connect_r
 void connection_new(void), send_request(void), discard_reply(void), enqueue_fds(void);
 void enqueue_packet(void), poll_for_reply_or_error(void), prepare_check(void), poll_check(void);
 void poll_for_reply(void), poll_for_event(void), take_closed_fds(void);
+void send_requests(void), enqueue_packets(void), poll_for_events(void);
 void request_at(void), record_at(void);
 
 /* Begins anew: a fresh connection, reader, handshake and allocator. */

@@ -46,6 +46,9 @@ const struct export exports[] = {
     {"xm_poll_for_reply", poll_for_reply, 10, TESTED, R(9) | R(8), 3},
     {"xm_poll_for_event_with_sequence", poll_for_event, 24, TESTED, R(9) | R(8), 2},
     {"xm_take_closed_fds", take_closed_fds, 10, TESTED, R(9) | R(8), 2},
+    {"xm_send_requests", send_requests, 10, TESTED, R(9), 3},
+    {"xm_enqueue_packets", enqueue_packets, 20, TESTED, R(9), 3},
+    {"xm_poll_for_events", poll_for_events, 12, TESTED, R(9) | R(8), 3},
     {"xm_request_at", request_at, 3, TESTED, R(9), 3},
     {"xm_record_at", record_at, 6, TESTED, R(9), 2},
 };
