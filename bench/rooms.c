@@ -130,7 +130,7 @@ APART static bool plain_append(size_t *window, uint8_t *store, size_t len, uint6
         return false;
     if (len - (end - start) < HEADER + packet_len)
         return false;
-    if (len - end < HEADER + packet_len) {
+    if (start == end || len - end < HEADER + packet_len) {
         memmove(store, store + start, end - start);
         end -= start;
         start = 0;

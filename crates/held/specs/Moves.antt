@@ -1,12 +1,13 @@
 -- What each move leaves: the window that comes back, and every byte of the store. Assumes nothing.
 use mathlib.Core.Path.{_≡_, sym, ap, _∙_}
+use mathlib.Core.Bool.{Bool, true, false}
 use mathlib.Core.List.{List, [], _∷_, _++_}
 use Prim.Native.Nat.{ℕ, _+_, _-_, _≤_, _<_}
 use native.Mathlib.Omega.{arith}
 use lib.Dec.{leb, ltb}
 use lib.ListN.{length, length-append}
-use borrow.Author.Tests.{le-leb, lt-leb, le-ltb, lt-ltb}
-use Rattle.octets.specs.Logic.{choose}
+use borrow.Author.Tests.{leb-true, le-leb, lt-leb, le-ltb, lt-ltb}
+use Rattle.octets.specs.Logic.{choose, both, both-right}
 use Rattle.octets.specs.Put.{put, cut, put-cover, length-cut, length-put, cut-put-after, cut-put-inside}
 use Rattle.held.specs.General.{choose-yes, choose-no}
 use Rattle.held.specs.Head.{Held, cost, encoded, headerSize, countAt, event, mostPacket}
@@ -40,9 +41,13 @@ behind l h = left (window (l .window .start) (l .window .end + cost h)) (put (l 
 unfoldable pub slid : Left → Left
 slid l = left (window 0 (used (l .window))) (put (l .store) 0 (inside (l .window) (l .store)))
 
--- A record is written at the end; where the end has no room, the window first slides to 0.
+-- a window stays where it is for n bytes more: it holds something, and there is room behind it
+unfoldable pub stays : Window → List ℕ → ℕ → Bool
+stays w s n = both (ltb (w .start) (w .end)) (leb (w .end + n) (length s))
+
+-- A record is written at the end; a window that is empty or has no room behind it first slides to 0.
 unfoldable pub appended : Window → List ℕ → Held → Left
-appended w s h = choose (leb (w .end + cost h) (length s)) (behind (left w s) h) (behind (slid (left w s)) h)
+appended w s h = choose (stays w s (cost h)) (behind (left w s) h) (behind (slid (left w s)) h)
 
 -- there is room for a packet of n bytes
 pub record Room (w : Window) (s : List ℕ) (n : ℕ) : Type 0 where
@@ -89,17 +94,34 @@ demoted w s p = put s (p .at) (cut (next p) (w .end - next p) s ++ put (cut (p .
 
 -- ---- laws
 
+pub stays-room : (w : Window) (s : List ℕ) (n : ℕ) → stays w s n ≡ true → w .end + n ≤ length s
+unfolding stays
+stays-room w s n h = leb-true (w .end + n) (length s) (both-right _ _ h)
+
+-- when it does not stay, and when it does
+pub stays-empty : (w : Window) (s : List ℕ) (n : ℕ) → w .end ≤ w .start → false ≡ stays w s n
+unfolding stays both choose
+stays-empty w s n h = simp (le-ltb (w .start) (w .end) h)
+
+pub stays-short : (w : Window) (s : List ℕ) (n : ℕ) → w .start < w .end → length s < w .end + n → false ≡ stays w s n
+unfolding stays both choose
+stays-short w s n h k = simp (lt-ltb (w .start) (w .end) h, lt-leb (w .end + n) (length s) k)
+
+pub stays-behind : (w : Window) (s : List ℕ) (n : ℕ) → w .start < w .end → w .end + n ≤ length s → true ≡ stays w s n
+unfolding stays both choose
+stays-behind w s n h k = simp (lt-ltb (w .start) (w .end) h, le-leb (w .end + n) (length s) k)
+
 module _ (w : Window) (s : List ℕ) (h : Held) where
-  pub append-behind : (s₁ : List ℕ) → w .end + cost h ≤ length s → s₁ ≡ put s (w .end) (encoded h) → Leaves (appended w s h) (window (w .start) (w .end + cost h)) s₁
+  pub append-behind : (s₁ : List ℕ) → stays w s (cost h) ≡ true → s₁ ≡ put s (w .end) (encoded h) → Leaves (appended w s h) (window (w .start) (w .end + cost h)) s₁
   unfolding appended behind
   append-behind s₁ r e =
-      let t = choose-yes (leb (w .end + cost h) (length s)) (behind (left w s) h) (behind (slid (left w s)) h) (le-leb (w .end + cost h) (length s) r) in
+      let t = choose-yes (stays w s (cost h)) (behind (left w s) h) (behind (slid (left w s)) h) r in
       record { window = ap (λ (l : Left). l .window) (sym t); store = e ∙ ap (λ (l : Left). l .store) (sym t) }
 
-  pub append-slid : (s₁ s₂ : List ℕ) → length s < w .end + cost h → s₁ ≡ put s 0 (inside w s) → s₂ ≡ put s₁ (used w) (encoded h) → Leaves (appended w s h) (window 0 (used w + cost h)) s₂
+  pub append-slid : (s₁ s₂ : List ℕ) → stays w s (cost h) ≡ false → s₁ ≡ put s 0 (inside w s) → s₂ ≡ put s₁ (used w) (encoded h) → Leaves (appended w s h) (window 0 (used w + cost h)) s₂
   unfolding appended behind slid
   append-slid s₁ s₂ r e f =
-      let t = choose-no (leb (w .end + cost h) (length s)) (behind (left w s) h) (behind (slid (left w s)) h) (lt-leb (w .end + cost h) (length s) r) in
+      let t = choose-no (stays w s (cost h)) (behind (left w s) h) (behind (slid (left w s)) h) r in
       record {
         window = ap (λ (l : Left). l .window) (sym t);
         store = f ∙ ap (λ (x : List ℕ). put x (used w) (encoded h)) e ∙ ap (λ (l : Left). l .store) (sym t);

@@ -5,12 +5,11 @@ use Prim.Native.Nat.{ℕ, _+_, _-_, _≤_}
 use native.Mathlib.Omega.{arith}
 use lib.Dec.{leb, ltb}
 use lib.ListN.{length, length-append}
-use borrow.Author.Tests.{leb-true}
 use Rattle.octets.specs.Put.{put, cut, cut-add, length-cut, length-put, cut-put, cut-put-before, cut-put-after}
 use Rattle.held.specs.General.{choose-either, cut-left, cut-right}
 use Rattle.held.specs.Head.{Held, cost, encoded, asEvent, length-encoded, encoded-event, headerSize, countAt, event}
 use Rattle.held.specs.Reading.{inside, used}
-use Rattle.held.specs.Moves.{window, Left, left, behind, slid, appended, size, next, Within, removed, demoted}
+use Rattle.held.specs.Moves.{window, Left, left, behind, slid, stays, stays-room, appended, size, next, Within, removed, demoted}
 use Rattle.held.specs.declared.Window.{Window}
 use Rattle.held.specs.declared.Place.{Place}
 
@@ -64,8 +63,8 @@ shows-slid n l x S =
 pub shows-appended : (n : ℕ) (w : Window) (s x : List ℕ) (h : Held) → Shows n (left w s) x → used w + cost h ≤ n → Shows n (appended w s h) (x ++ encoded h)
 unfolding appended slid
 shows-appended n w s x h S r =
-    choose-either (λ (l : Left). Shows n l (x ++ encoded h)) (leb (w .end + cost h) (length s)) (behind (left w s) h) (behind (slid (left w s)) h)
-    (λ t. shows-behind n (left w s) x h S (omega (arith, S .long, leb-true (w .end + cost h) (length s) t)))
+    choose-either (λ (l : Left). Shows n l (x ++ encoded h)) (stays w s (cost h)) (behind (left w s) h) (behind (slid (left w s)) h)
+    (λ t. shows-behind n (left w s) x h S (omega (arith, S .long, stays-room w s (cost h) t)))
     (λ t. shows-behind n (slid (left w s)) x h (shows-slid n (left w s) x S) r)
 
 -- ---- the record at a place

@@ -3,10 +3,25 @@ ghost use mathlib.Core.Path.{_≡_};
 ghost use Prim.Native.Nat.{_+_, _≤_, _<_};
 ghost use lib.ListN.{length, getD};
 ghost use Rattle.held.specs.Head.{headerSize, held};
-ghost use Rattle.held.specs.Moves.{Room, Within, Leaves, Takes, appended, removed, demoted};
+ghost use Rattle.held.specs.Moves.{Room, Within, Leaves, Takes, stays, appended, removed, demoted};
 use crate::Place;
 use crate::Window;
 use crate::head;
+
+// Whether the window stays where it is for n bytes more: it holds something, and there is room
+// behind it. An empty one begins at 0 again, so that few held packets keep to few bytes.
+fn stays(store: &[u8], window: Window, n: usize) -> bool
+    requires { ⌜ window .end ≤ length (now store) ⌝ }
+    ensures { λ r. ⌜ r ≡ stays window (now (store .entry)) n ⌝ }
+{
+    if window.end <= window.start {
+        return false;
+    }
+    if store.len() - window.end < n {
+        return false;
+    }
+    true
+}
 
 // A packet is held behind all others, with the number of its request, its kind and its count of
 // descriptors. Nothing is written outside the window and the new record, unless the window had to
@@ -25,7 +40,7 @@ pub fn append(
     let start = window.start;
     let end = window.end;
     let cost = head::HEADER + packet.len();
-    if store.len() - end < cost {
+    if !stays(store, window, cost) {
         let used = end - start;
         octets::slide(store, start, 0, used);
         head::put_record(store, used, number, fds, kind, packet);

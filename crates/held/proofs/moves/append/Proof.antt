@@ -1,55 +1,58 @@
 -- `held::moves::append` meets its contract. Assumes nothing.
-use Rattle.held.specs.Moves.{append-behind, append-slid}
+use Rattle.held.specs.Moves.{append-behind, append-slid, stays-room}
 use native.Mathlib.Omega.{arith}
+use mathlib.Core.Path.{sym, _∙_}
+use borrow.Author.Tests.{not-true, not-false}
+use borrow.Author.Needs.{needs}
 use Rattle.held.proofs.moves.append.Statement.{statement}
 use Rattle.held.proofs.moves.append.Tie as tie
 
 add-cost : tie.Need-add-cost
-add-cost c = omega arith
+add-cost c = search needs
 
-sub-if1 : tie.Need-sub-if1
-sub-if1 c = omega arith
+stays-requires : tie.Need-stays-requires
+stays-requires c κs = search needs
 
 sub-used : tie.Need-sub-used
-sub-used c = omega arith
+sub-used c = search needs
 
 slide-requires : tie.Need-slide-requires
-slide-requires c κs = omega arith
+slide-requires c κs = search needs
 
 put-record-requires : tie.Need-put-record-requires
-put-record-requires c κs = omega arith
+put-record-requires c κs = search needs
 
-add-t19 : tie.Need-add-t19
-add-t19 c = omega arith
+add-t21 : tie.Need-add-t21
+add-t21 c = search needs
 
 same-length : tie.Need-same-length
-same-length c = omega arith
+same-length c = search needs
 
 returns : tie.Need-returns
-returns c = append-slid _ _ _ _ _ (omega arith) (c .before .before .before .before .before .before .slide .ensures) (c .before .before .put-record .ensures)
+returns c = append-slid _ _ _ _ _ (sym (c .before .before .before .before .before .before .before .before .before .stays .ensures) ∙ not-true _ (c .before .before .before .before .before .before .before .before .if1 .taken)) (c .before .before .before .before .before .before .slide .ensures) (c .before .before .put-record .ensures)
 
 put-record-requires-2 : tie.Need-put-record-requires-2
-put-record-requires-2 c κs = omega arith
+put-record-requires-2 c κs = omega (arith, stays-room _ _ _ (sym (c .before .before .stays .ensures) ∙ not-false _ (c .before .if1 .left)))
 
 add-t11 : tie.Need-add-t11
-add-t11 c = omega arith
+add-t11 c = search needs
 
 same-length-2 : tie.Need-same-length-2
-same-length-2 c = omega arith
+same-length-2 c = search needs
 
 returns-2 : tie.Need-returns-2
-returns-2 c = append-behind _ _ _ _ (omega arith) (c .before .before .put-record2 .ensures)
+returns-2 c = append-behind _ _ _ _ (sym (c .before .before .before .before .before .stays .ensures) ∙ not-false _ (c .before .before .before .before .if1 .left)) (c .before .before .put-record2 .ensures)
 
 pub append-spec : {M : Type 1} → statement M
 append-spec =
     tie.close
     (tie.spec
     add-cost
-    sub-if1
+    stays-requires
     sub-used
     slide-requires
     put-record-requires
-    add-t19
+    add-t21
     same-length
     returns
     put-record-requires-2
