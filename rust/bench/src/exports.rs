@@ -458,9 +458,9 @@ mod many {
             slots_len: usize,
             kinds: *const u8,
             kinds_len: usize,
-            sent: &mut usize,
+            count: &mut usize,
             number: &mut u64,
-            stop: &mut u8,
+            stop: &mut u32,
         ) -> u32;
         fn xm_enqueue_packets(
             state: *mut u64,
@@ -475,7 +475,7 @@ mod many {
             bytes_len: usize,
             taken: &mut usize,
             packets: &mut usize,
-            halt: &mut u8,
+            halt: &mut u32,
         ) -> u32;
         fn xm_poll_for_events(
             state: *mut u64,
@@ -492,7 +492,7 @@ mod many {
             marks_len: usize,
             events: &mut usize,
             bytes: &mut usize,
-            stop: &mut u8,
+            stop: &mut u32,
         ) -> u32;
     }
 

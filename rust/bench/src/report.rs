@@ -76,10 +76,10 @@ pub fn plot(rows: &[Row]) -> String {
     let mut svg = format!(
         "<svg xmlns=\"http://www.w3.org/2000/svg\" viewBox=\"0 0 {} {height}\" font-family=\"sans-serif\" font-size=\"12\">\n\
          <rect width=\"100%\" height=\"100%\" fill=\"white\"/>\n\
-         <text x=\"{LEFT}\" y=\"16\">The Rust's time divided by ours: right of 1 we are faster</text>\n",
+         <text x=\"8\" y=\"16\">The Rust's time divided by ours: right of 1 ours is faster. Blue: crate, orange: exports, green: batch, grey: program</text>\n",
         LEFT + WIDTH + 30.0
     );
-    for power in (-6..=6).step_by(1) {
+    for power in -6..=6 {
         let (x, ratio) = (across(2f64.powi(power)), 2f64.powi(power));
         let (colour, name) = match power {
             0 => ("black", "1".to_string()),
@@ -124,19 +124,19 @@ fn bars(svg: &mut String, row: &Row, y: f64) {
     let thick = (STEP - 8.0) / row.ours.len() as f64;
     for (i, ours) in row.ours.iter().enumerate() {
         let (one, to) = (across(1.0), across(ours.ratio.median));
+        let (low, high) = (across(ours.ratio.low), across(ours.ratio.high));
         let top = y + 3.0 + thick * i as f64;
+        let middle = top + (thick - 1.0) / 2.0;
         writeln!(
             svg,
             "<rect x=\"{:.1}\" width=\"{:.1}\" y=\"{top:.1}\" height=\"{:.1}\" fill=\"{}\"><title>{}: {}</title></rect>\
-             <line x1=\"{:.1}\" x2=\"{:.1}\" y1=\"{2:.1}\" y2=\"{2:.1}\" stroke=\"none\"/>",
+             <line x1=\"{low:.1}\" x2=\"{high:.1}\" y1=\"{middle:.1}\" y2=\"{middle:.1}\" stroke=\"black\"/>",
             one.min(to),
             (to - one).abs(),
             thick - 1.0,
             colour(ours.side),
             ours.side,
             spread(&ours.ratio),
-            across(ours.ratio.low),
-            across(ours.ratio.high),
         )
         .unwrap();
     }
