@@ -3,9 +3,11 @@
 // A call is a value, and so is its answer: state and answer come back side by side, and a refused
 // call hands back the state that it was given. Packets go in and out of one lent run of bytes,
 // descriptors of one lent list. No call has a `requires`.
+mod many;
 mod polls;
 mod sends;
 
+pub use many::drain;
 use model::Closed;
 use model::Connection;
 use model::DiscardMode;
@@ -26,6 +28,11 @@ pub enum Call {
     PollReply(u64),
     Prepare(u64),
     PollEvent,
+    // Requests of kinds that stand in the bytes from one index to another: 0, 1 and 2 are `none`,
+    // `reply` and `fds`.
+    SendAll(usize, usize),
+    // Packets that stand there one behind the other.
+    IntakeAll(usize, usize),
 }
 
 // What a call answers. Packets are at the start of the bytes, so many of them; descriptors at the
@@ -45,6 +52,13 @@ pub enum Answer {
     Reply(usize),
     Whether(bool),
     Refused(Refusal),
+    // Of a row of sends: how many, the last number written, and the number of the refusal that
+    // stopped it, or 0.
+    Sent(usize, u64, u8),
+    // Of a row of packets: how many, their bytes, and the number of the refusal, or 0.
+    Taken(usize, usize, u8),
+    // So many events: their packets one behind the other, two marks for each.
+    Events(usize),
 }
 
 pub struct Called {
@@ -91,6 +105,12 @@ pub fn make(
         }
         Call::PollEvent => {
             return polls::event(c, requests, store, slots, bytes);
+        }
+        Call::SendAll(from, end) => {
+            return many::send(c, from, end, requests, store, slots, bytes);
+        }
+        Call::IntakeAll(from, end) => {
+            return many::intake(c, from, end, requests, store, slots, bytes);
         }
     }
 }

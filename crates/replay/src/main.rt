@@ -4,6 +4,7 @@
 // The language is in docs/REPLAY.md. Scripts may be of any length; memory stays as it is.
 mod feeds;
 mod input;
+mod many;
 mod run;
 
 use model::Connection;

@@ -2,6 +2,7 @@
 use crate::feeds;
 use crate::input;
 use crate::input::Place;
+use crate::many;
 use calls::Answer;
 use calls::Call;
 use calls::Called;
@@ -75,7 +76,7 @@ pub(crate) fn line(
 }
 
 // A command more, answered: the end of its line.
-fn ended(state: State, connection: Connection, out: &mut [u8], waiting: usize) -> State {
+pub(crate) fn ended(state: State, connection: Connection, out: &mut [u8], waiting: usize) -> State {
     let mut next = state;
     next.connection = connection;
     next.waiting = text::word(out, waiting, b"\n");
@@ -237,6 +238,9 @@ fn done(
                 bytes,
                 out,
             );
+        }
+        Command::Drain => {
+            return many::drain(state, place, requests, store, slots, bytes, out);
         }
         _ => {
             return told(state, place, requests, store, slots, bytes, out);

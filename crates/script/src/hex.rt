@@ -11,6 +11,9 @@ pub enum Digits {
     Feed,
     FeedIn,
     HFill,
+    FeedAll,
+    // Words instead of digits: the kinds of `sendall`.
+    Kinds,
 }
 
 // A line's command, if it is one of these, and where its digits start.
@@ -49,6 +52,12 @@ fn of_name(name: &[u8]) -> Digits {
     if words::same(name, b"hfill") {
         return Digits::HFill;
     }
+    if words::same(name, b"feedall") {
+        return Digits::FeedAll;
+    }
+    if words::same(name, b"sendall") {
+        return Digits::Kinds;
+    }
     Digits::None
 }
 
@@ -61,5 +70,7 @@ pub(crate) fn command(op: Digits, from: usize, end: usize) -> Command {
         Digits::Feed => Command::Feed(from, end, false),
         Digits::FeedIn => Command::Feed(from, end, true),
         Digits::HFill => Command::Leaf(Leaf::HFill(from, end)),
+        Digits::FeedAll => Command::Call(Call::IntakeAll(from, end)),
+        Digits::Kinds => Command::Call(Call::SendAll(from, end)),
     }
 }

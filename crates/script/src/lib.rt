@@ -4,6 +4,7 @@
 // by single blanks. The bytes that a line has in hex are put over their digits, and descriptors
 // into a lent list. No call has a `requires`.
 mod hex;
+mod kinds;
 mod line;
 mod number;
 mod words;
@@ -25,6 +26,7 @@ pub enum Command {
     Leaf(Leaf),
     // `feed`, and `feedin`, which also takes in: bytes of the input from one index to another.
     Feed(usize, usize, bool),
+    Drain,
 }
 
 // What the line says that stands in the input from one index to another.
@@ -35,6 +37,10 @@ pub fn parse(input: &mut [u8], from: usize, end: usize, list: &mut [u32]) -> Com
         Digits::None => {
             return line::read(words::cut(input, from, end), list);
         }
+        Digits::Kinds => {
+            let start = words::after(from, named.at, end);
+            return made(op, start, kinds::read(input, start, end));
+        }
         _ => {
             return decoded(op, input, words::after(from, named.at, end), end);
         }
@@ -42,7 +48,11 @@ pub fn parse(input: &mut [u8], from: usize, end: usize, list: &mut [u32]) -> Com
 }
 
 fn decoded(op: Digits, input: &mut [u8], start: usize, end: usize) -> Command {
-    match number::unhex(input, start, end) {
+    made(op, start, number::unhex(input, start, end))
+}
+
+fn made(op: Digits, start: usize, bytes: number::Bytes) -> Command {
+    match bytes {
         number::Bytes::End(last) => hex::command(op, start, last),
         number::Bytes::Bad => Command::Bad,
     }

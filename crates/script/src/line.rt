@@ -59,6 +59,12 @@ fn bare(name: &[u8]) -> Command {
     if words::same(name, b"fds") {
         return Command::Call(Call::Fds(0));
     }
+    if words::same(name, b"sendall") {
+        return Command::Call(Call::SendAll(0, 0));
+    }
+    if words::same(name, b"drain") {
+        return Command::Drain;
+    }
     Command::Bad
 }
 
@@ -138,12 +144,12 @@ fn many(kind: ReplyFdKind, count: Number) -> Command {
     }
 }
 
-enum Kind {
+pub(crate) enum Kind {
     Of(ReplyFdKind),
     Bad,
 }
 
-fn kind_of(word: &[u8]) -> Kind {
+pub(crate) fn kind_of(word: &[u8]) -> Kind {
     if words::same(word, b"none") {
         return Kind::Of(ReplyFdKind::NoReply);
     }

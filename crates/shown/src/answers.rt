@@ -1,4 +1,5 @@
 // What calls answer.
+use crate::many;
 use calls::Answer;
 use leaves::Said;
 
@@ -20,7 +21,7 @@ pub fn answer(answer: Answer, bytes: &[u8], list: &[u32], out: &mut [u8], waitin
 }
 
 // An answer without bytes.
-fn plain(answer: Answer, out: &mut [u8], waiting: usize) -> usize {
+pub(crate) fn plain(answer: Answer, out: &mut [u8], waiting: usize) -> usize {
     match answer {
         Answer::Done => text::word(out, waiting, b" ok"),
         Answer::Number(n) => text::counted(out, waiting, b" ", n),
@@ -37,7 +38,7 @@ fn plain(answer: Answer, out: &mut [u8], waiting: usize) -> usize {
         Answer::NoReply => text::word(out, waiting, b" noreply"),
         Answer::Whether(yes) => whether(yes, out, waiting),
         Answer::Refused(refusal) => text::refused(out, waiting, refusal),
-        _ => waiting,
+        _ => many::row(answer, out, waiting),
     }
 }
 

@@ -1,0 +1,74 @@
+// The kinds of `sendall`: a word for each, as `send` has them.
+use super::line;
+use super::line::Kind;
+use super::number::Bytes;
+use super::words;
+use model::ReplyFdKind;
+ghost use Prim.Native.Nat.{_≤_};
+ghost use lib.ListN.{length};
+
+// No kind.
+const NONE: u8 = 3;
+
+// The words from one index to another: their bytes go to the start of them. Where they can't be
+// read some may be gone.
+pub(crate) fn read(input: &mut [u8], start: usize, end: usize) -> Bytes {
+    if input.len() < end {
+        return Bytes::Bad;
+    }
+    if end < start {
+        return Bytes::Bad;
+    }
+    behind(start, end, all(&mut input[start..end]))
+}
+
+// Counted from the start of the words, as an index.
+fn behind(start: usize, end: usize, bytes: Bytes) -> Bytes {
+    match bytes {
+        Bytes::End(n) => Bytes::End(words::after(start, n, end)),
+        Bytes::Bad => Bytes::Bad,
+    }
+}
+
+fn all(rest: &mut [u8]) -> Bytes {
+    let mut start = 0;
+    let mut count = 0;
+    while start <= rest.len() {
+        let end = words::end(rest, start);
+        let byte = byte_at(rest, start, end);
+        if byte == NONE {
+            return Bytes::Bad;
+        }
+        count = put(rest, count, byte);
+        start = end + 1;
+    }
+    Bytes::End(count)
+}
+
+// The byte of the word from one index to another.
+fn byte_at(rest: &[u8], start: usize, end: usize) -> u8
+    requires { ⌜ (start ≤ end) × (end ≤ length (now rest)) ⌝ }
+{
+    match line::kind_of(words::part(rest, start, end)) {
+        Kind::Of(kind) => byte_of(kind),
+        Kind::Bad => NONE,
+    }
+}
+
+fn byte_of(kind: ReplyFdKind) -> u8 {
+    match kind {
+        ReplyFdKind::NoReply => 0,
+        ReplyFdKind::ReplyWithoutFds => 1,
+        ReplyFdKind::ReplyWithFds => 2,
+    }
+}
+
+// The byte in the next place, and how many places are taken then. A word is longer than its byte,
+// so there always is one.
+fn put(rest: &mut [u8], count: usize, byte: u8) -> usize {
+    if count < rest.len() {
+        rest[count] = byte;
+        return count + 1;
+    }
+    count
+}
