@@ -82,14 +82,37 @@ pub fn make(
         Call::SendMany(kind, count) => {
             return sends::send_many(c, kind, count, requests, store, slots);
         }
+        Call::SendAll(from, end) => {
+            return many::send(c, from, end, requests, store, slots, bytes);
+        }
         Call::Fds(count) => {
             return sends::fds(c, count, requests, store, slots, list);
         }
+        Call::Discard(n, mode) => {
+            return sends::discard(c, n, mode, requests, store, slots);
+        }
+        _ => {
+            return answered(c, call, requests, store, slots, bytes, list);
+        }
+    }
+}
+
+// The calls that take packets in and hand them out.
+fn answered(
+    c: Connection,
+    call: Call,
+    requests: &[u8],
+    store: &mut [u8],
+    slots: &mut [u32],
+    bytes: &mut [u8],
+    list: &mut [u32],
+) -> Called {
+    match call {
         Call::Intake(from, end) => {
             return polls::intake(c, from, end, requests, store, slots, bytes);
         }
-        Call::Discard(n, mode) => {
-            return sends::discard(c, n, mode, requests, store, slots);
+        Call::IntakeAll(from, end) => {
+            return many::intake(c, from, end, requests, store, slots, bytes);
         }
         Call::PollReplyOrError(n) => {
             return polls::reply_or_error(c, n, requests, store, slots, bytes, list);
@@ -103,14 +126,8 @@ pub fn make(
         Call::Prepare(n) => {
             return sends::prepare(c, n, requests, store, slots);
         }
-        Call::PollEvent => {
+        _ => {
             return polls::event(c, requests, store, slots, bytes);
-        }
-        Call::SendAll(from, end) => {
-            return many::send(c, from, end, requests, store, slots, bytes);
-        }
-        Call::IntakeAll(from, end) => {
-            return many::intake(c, from, end, requests, store, slots, bytes);
         }
     }
 }

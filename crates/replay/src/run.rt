@@ -45,8 +45,8 @@ pub(crate) fn line(
     if place.lost {
         return lost(state, place, out);
     }
-    let command = script::parse(bytes, place.from, place.end, list);
-    match command {
+    let task = script::parse(bytes, place.from, place.end, list);
+    match task {
         Command::Nothing => {
             return state;
         }
@@ -60,17 +60,7 @@ pub(crate) fn line(
             return leafed(state, place, leaf, bytes, out);
         }
         _ => {
-            return lent(
-                state,
-                place,
-                command,
-                requests,
-                store,
-                slots,
-                list,
-                bytes,
-                out,
-            );
+            return lent(state, place, task, requests, store, slots, list, bytes, out);
         }
     }
 }
