@@ -18,6 +18,8 @@ pub mod connect;
 pub mod connection;
 pub mod engine;
 pub mod errors;
+#[allow(missing_docs)]
+pub mod exports;
 mod ffi;
 pub mod id_allocator;
 pub mod packet_reader;

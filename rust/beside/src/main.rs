@@ -16,6 +16,8 @@
 extern crate alloc;
 
 #[cfg(published)]
+mod names;
+#[cfg(published)]
 mod standins;
 #[cfg(published)]
 pub use standins::*;
