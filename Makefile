@@ -1,5 +1,5 @@
 # The commands of the README, and the benchmark of docs/BENCH.md.
-.PHONY: run test bench bench-rooms bench-beside library beside record fuzz house
+.PHONY: run test bench bench-rooms bench-beside library beside record second fuzz house
 
 # Prove the program `packets` and what it stands on, and run it on bytes that an X server sent.
 run:
@@ -44,6 +44,14 @@ beside: $(ARCHIVE)
 # What the published Rust in the folder RUST answers to the fixed runs of tests/recorded, which the tests replay.
 record: $(ARCHIVE)
 	cd rust && XIENGMADO_RUST="$(abspath $(RUST))" cargo run --offline --quiet --profile beside -p beside -- record ../tests/recorded
+
+# The readings that the published files leave out, beside those of x11rb 0.8.1 as Debian's librust-x11rb-dev has it: ARGS are a
+# seed and how many of each.
+DEBIAN = --config 'source.crates-io.replace-with="debian"' --config 'source.debian.directory="/usr/share/cargo/registry"'
+
+second: ARGS = 1 1000000
+second: $(ARCHIVE)
+	cd rust/second && cargo $(DEBIAN) run --offline --quiet --release -- $(ARGS)
 
 # libFuzzer over the exports, by hand: the calls and checks of the fuzz test with its bytes as the choices. SECONDS says for
 # how long; what it finds interesting is kept in target/fuzz/corpus.
