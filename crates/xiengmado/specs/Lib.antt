@@ -1,5 +1,1 @@
-pub mod State
-pub mod Exported
-pub mod Shown
 pub mod Looking
-pub mod Theorems

@@ -11,7 +11,7 @@ use Rattle.requests.specs.Room.{sized, requestAt, modeNumber}
 use Rattle.requests.specs.declared.Request.{Request}
 use Rattle.held.specs.Head.{Held, decoded, cost, headerSize, numOf, lenOf, fdsOf, kindOf}
 use Rattle.held.specs.Front.{Begins, Stands, begins-stands}
-use Rattle.xiengmado.specs.Exported.{Exported, codeOf, shownOf}
+use Rattle.answers.specs.Exported.{Exported, codeOf, shownOf}
 
 -- The request of a number: 9 for a room that is none.
 unfoldable pub requestKept : List ℕ → ℕ → Answer Request

@@ -5,27 +5,24 @@ ghost use lib.Dec.{eqb, leb};
 ghost use lib.ListN.{length};
 ghost use Rattle.model.specs.Reading.{rooms};
 ghost use Rattle.connection.specs.Calls.{Opens, Sends, EnqueuesFds, Enqueues, Discards, Polls, Checks, PollsReply, PollsEvent, Closes, Prepares};
-ghost use Rattle.xiengmado.specs.Exported.{Exported, Kept, When};
-ghost use Rattle.xiengmado.specs.Shown.{nothing, stateRow, first, filing, polled, poll, event, flag, kindOf, modeOf, mostKind, isMode};
-ghost use Rattle.xiengmado.specs.State.{connectionSlots, connectionOf};
-use crate::BAD;
-use crate::DONE;
-use crate::answers::give_closed;
-use crate::answers::give_enqueued;
-use crate::answers::give_event;
-use crate::answers::give_next;
-use crate::answers::give_poll;
-use crate::answers::give_polled;
-use crate::answers::give_sent;
-use crate::bit;
-use crate::code;
-use crate::state;
-use model::DiscardMode;
+ghost use Rattle.answers.specs.Exported.{Exported, Kept, When};
+ghost use Rattle.answers.specs.Shown.{nothing, stateRow, first, filing, polled, poll, event, flag, kindOf, modeOf, mostKind, isMode};
+ghost use Rattle.rows.specs.State.{connectionSlots, connectionOf};
+use answers::BAD;
+use answers::DONE;
+use answers::bit;
+use answers::code;
+use answers::give_closed;
+use answers::give_enqueued;
+use answers::give_event;
+use answers::give_next;
+use answers::give_poll;
+use answers::give_polled;
+use answers::give_sent;
+use answers::is_mode;
+use answers::kind_of;
+use answers::mode_of;
 use model::Prepared;
-use model::ReplyFdKind;
-
-// The largest number that means a kind.
-const MOST_KIND: u8 = 2;
 
 // A fresh connection in these rooms.
 #[no_mangle]
@@ -38,7 +35,7 @@ pub extern "C" fn xm_connection_new(
 ) -> u32
     ensures { λ r. ⌜ Kept (λ a. When (eqb (length (now (state .entry))) connectionSlots) Unit (Opens order (rooms (now (requests .entry)) (now (store .entry)) (now (slots .entry)))) a) nothing (stateRow (now (state .entry))) [] [] (now (state .entry)) (now (state .exit)) r ⌝ }
 {
-    if state.len() != state::CONNECTION {
+    if state.len() != rows::CONNECTION {
         return BAD;
     }
     let answer = connection::new(order, requests, store, slots);
@@ -58,10 +55,10 @@ pub extern "C" fn xm_send_request(
 ) -> u32
     ensures { λ r. ⌜ Kept (λ a. When (leb kind mostKind) (now (requests .exit) ≡ now (requests .entry)) (λ b. Sends (connectionOf (now (state .entry))) (rooms (now (requests .entry)) (now (store .entry)) (now (slots .entry))) (kindOf kind) b (rooms (now (requests .exit)) (now (store .entry)) (now (slots .entry)))) a) first (stateRow (now (state .entry))) (now (number .entry) ∷ []) (now (number .exit) ∷ []) (now (state .entry)) (now (state .exit)) r ⌝ }
 {
-    if MOST_KIND < kind {
+    if answers::MOST_KIND < kind {
         return BAD;
     }
-    let now = state::connection(state);
+    let now = rows::connection(state);
     let answer = connection::send_request(now, requests, store, slots, kind_of(kind));
     give_sent(answer, state, number)
 }
@@ -81,7 +78,7 @@ pub extern "C" fn xm_discard_reply(
     if !is_mode(mode) {
         return BAD;
     }
-    let now = state::connection(state);
+    let now = rows::connection(state);
     let answer = connection::discard_reply(now, requests, store, slots, number, mode_of(mode));
     give_next(answer, state)
 }
@@ -96,7 +93,7 @@ pub extern "C" fn xm_enqueue_fds(
 ) -> u32
     ensures { λ r. ⌜ Kept (λ a. EnqueuesFds (connectionOf (now (state .entry))) (rooms (now (requests .entry)) (now (store .entry)) (now (slots .entry))) (now (list .entry)) a (rooms (now (requests .entry)) (now (store .entry)) (now (slots .exit)))) nothing (stateRow (now (state .entry))) [] [] (now (state .entry)) (now (state .exit)) r ⌝ }
 {
-    let now = state::connection(state);
+    let now = rows::connection(state);
     let answer = connection::enqueue_fds(now, requests, store, slots, list);
     give_next(answer, state)
 }
@@ -114,7 +111,7 @@ pub extern "C" fn xm_enqueue_packet(
 ) -> u32
     ensures { λ r. ⌜ Kept (λ a. Enqueues (connectionOf (now (state .entry))) (rooms (now (requests .entry)) (now (store .entry)) (now (slots .entry))) (now (packet .entry)) a (rooms (now (requests .entry)) (now (store .exit)) (now (slots .exit)))) filing (stateRow (now (state .entry))) (now (place .entry) ∷ now (number .entry) ∷ []) (now (place .exit) ∷ now (number .exit) ∷ []) (now (state .entry)) (now (state .exit)) r ⌝ }
 {
-    let now = state::connection(state);
+    let now = rows::connection(state);
     let answer = connection::enqueue_packet(now, requests, store, slots, packet);
     give_enqueued(answer, state, place, number)
 }
@@ -135,7 +132,7 @@ pub extern "C" fn xm_poll_for_reply_or_error(
 ) -> u32
     ensures { λ r. ⌜ Kept (λ a. Polls (connectionOf (now (state .entry))) (rooms (now (requests .entry)) (now (store .entry)) (now (slots .entry))) number (now (out .entry)) (now (fds .entry)) a (rooms (now (requests .entry)) (now (store .exit)) (now (slots .exit))) (now (out .exit)) (now (fds .exit))) polled (stateRow (now (state .entry))) (now (found .entry) ∷ now (size .entry) ∷ now (count .entry) ∷ []) (now (found .exit) ∷ now (size .exit) ∷ now (count .exit) ∷ []) (now (state .entry)) (now (state .exit)) r ⌝ }
 {
-    let now = state::connection(state);
+    let now = rows::connection(state);
     let answer = connection::poll_for_reply_or_error(now, requests, store, slots, number, out, fds);
     give_polled(answer, state, found, size, count)
 }
@@ -154,7 +151,7 @@ pub extern "C" fn xm_poll_check_for_reply_or_error(
 ) -> u32
     ensures { λ r. ⌜ Kept (λ a. Checks (connectionOf (now (state .entry))) (rooms (now (requests .entry)) (now (store .entry)) (now (slots .entry))) number (now (out .entry)) a (rooms (now (requests .entry)) (now (store .exit)) (now (slots .exit))) (now (out .exit))) poll (stateRow (now (state .entry))) (now (result .entry) ∷ now (size .entry) ∷ []) (now (result .exit) ∷ now (size .exit) ∷ []) (now (state .entry)) (now (state .exit)) r ⌝ }
 {
-    let now = state::connection(state);
+    let now = rows::connection(state);
     let answer = connection::poll_check_for_reply_or_error(
         now,
         requests,
@@ -180,7 +177,7 @@ pub extern "C" fn xm_poll_for_reply(
 ) -> u32
     ensures { λ r. ⌜ Kept (λ a. PollsReply (connectionOf (now (state .entry))) (rooms (now (requests .entry)) (now (store .entry)) (now (slots .entry))) number (now (out .entry)) a (rooms (now (requests .entry)) (now (store .exit)) (now (slots .exit))) (now (out .exit))) poll (stateRow (now (state .entry))) (now (result .entry) ∷ now (size .entry) ∷ []) (now (result .exit) ∷ now (size .exit) ∷ []) (now (state .entry)) (now (state .exit)) r ⌝ }
 {
-    let now = state::connection(state);
+    let now = rows::connection(state);
     let answer = connection::poll_for_reply(now, requests, store, slots, number, out);
     give_poll(answer, state, result, size)
 }
@@ -199,7 +196,7 @@ pub extern "C" fn xm_poll_for_event_with_sequence(
 ) -> u32
     ensures { λ r. ⌜ Kept (λ a. PollsEvent (connectionOf (now (state .entry))) (rooms (now (requests .entry)) (now (store .entry)) (now (slots .entry))) (now (out .entry)) a (rooms (now (requests .entry)) (now (store .exit)) (now (slots .entry))) (now (out .exit))) event (stateRow (now (state .entry))) (now (found .entry) ∷ now (number .entry) ∷ now (size .entry) ∷ []) (now (found .exit) ∷ now (number .exit) ∷ now (size .exit) ∷ []) (now (state .entry)) (now (state .exit)) r ⌝ }
 {
-    let now = state::connection(state);
+    let now = rows::connection(state);
     let answer = connection::poll_for_event_with_sequence(now, requests, store, slots, out);
     give_event(answer, state, found, number, size)
 }
@@ -215,7 +212,7 @@ pub extern "C" fn xm_take_closed_fds(
 ) -> u32
     ensures { λ r. ⌜ Kept (λ a. Closes (connectionOf (now (state .entry))) (rooms (now (requests .entry)) (now (store .entry)) (now (slots .entry))) (now (out .entry)) a (rooms (now (requests .entry)) (now (store .entry)) (now (slots .exit))) (now (out .exit))) first (stateRow (now (state .entry))) (now (count .entry) ∷ []) (now (count .exit) ∷ []) (now (state .entry)) (now (state .exit)) r ⌝ }
 {
-    let now = state::connection(state);
+    let now = rows::connection(state);
     let answer = connection::take_closed_fds(now, requests, store, slots, out);
     give_closed(answer, state, count)
 }
@@ -232,7 +229,7 @@ pub extern "C" fn xm_prepare_check_for_reply_or_error(
 ) -> u32
     ensures { λ r. ⌜ Exported (λ a. Prepares (connectionOf (now (state .entry))) (rooms (now (requests .entry)) (now (store .entry)) (now (slots .entry))) number a) flag (now (sync .entry) ∷ []) (now (sync .exit) ∷ []) r ⌝ }
 {
-    let now = state::connection(state);
+    let now = rows::connection(state);
     let answer = connection::prepare_check_for_reply_or_error(now, requests, store, slots, number);
     match answer {
         Prepared::Answer(needed) => {
@@ -241,34 +238,4 @@ pub extern "C" fn xm_prepare_check_for_reply_or_error(
         }
         Prepared::Refused(refusal) => code(refusal),
     }
-}
-
-fn kind_of(kind: u8) -> ReplyFdKind
-    ensures { λ r. ⌜ r ≡ kindOf kind ⌝ }
-{
-    if kind == 0 {
-        return ReplyFdKind::NoReply;
-    }
-    if kind == 1 {
-        return ReplyFdKind::ReplyWithoutFds;
-    }
-    ReplyFdKind::ReplyWithFds
-}
-
-fn is_mode(mode: u8) -> bool
-    ensures { λ r. ⌜ r ≡ isMode mode ⌝ }
-{
-    if mode == 1 {
-        return true;
-    }
-    mode == 2
-}
-
-fn mode_of(mode: u8) -> DiscardMode
-    ensures { λ r. ⌜ r ≡ modeOf mode ⌝ }
-{
-    if mode == 1 {
-        return DiscardMode::DiscardReply;
-    }
-    DiscardMode::DiscardReplyAndError
 }

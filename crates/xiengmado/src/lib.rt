@@ -6,13 +6,8 @@
 // many or too few of them, are read as a state that is not sound, so the call refuses them by 9.
 // Values come back through pointers; a part of a buffer as its start and its size. What `kind` and
 // `mode` cannot mean is refused by 9 too. Nothing is decided here: a contract says that an export
-// does what the promise of the call below it says (`specs/Exported`).
-ghost use mathlib.Core.Path.{_≡_};
-ghost use mathlib.Core.Bool.{cond};
-ghost use Rattle.refusal.specs.Numbers.{numberOf};
-use refusal::Refusal;
+// does what the promise of the call below it says (`answers/specs/Exported`).
 
-mod answers;
 mod client;
 mod handshake;
 mod ids;
@@ -22,22 +17,3 @@ mod numbers;
 mod packets;
 mod reader;
 mod rooms;
-mod state;
-
-// What an export answers where it refuses nothing, and where a value means nothing.
-pub(crate) const DONE: u32 = 0;
-
-pub(crate) const BAD: u32 = 9;
-
-// 1 for true.
-pub(crate) fn bit(b: bool) -> u8
-    ensures { λ r. ⌜ r ≡ cond b 1 0 ⌝ }
-{
-    if b { 1 } else { 0 }
-}
-
-pub(crate) fn code(refusal: Refusal) -> u32
-    ensures { λ r. ⌜ r ≡ numberOf refusal ⌝ }
-{
-    refusal.number() as u32
-}

@@ -3,26 +3,13 @@
 ghost use mathlib.Core.Path.{_≡_};
 ghost use mathlib.Core.List.{[], _∷_};
 ghost use Rattle.model.specs.Reading.{rooms};
-ghost use Rattle.model.specs.SaysBatch.{saysStop, saysSentMany, saysEvents};
-ghost use Rattle.model.specs.Feed.{saysHalt, saysFed};
 ghost use Rattle.connection.specs.Calls.{SendsMany, EnqueuesMany, PollsEvents};
-ghost use Rattle.xiengmado.specs.Exported.{Kept};
-ghost use Rattle.xiengmado.specs.Shown.{stateRow, stopNumber, haltNumber, sendings, fed, handings};
-ghost use Rattle.xiengmado.specs.State.{connectionOf};
-use crate::DONE;
-use crate::code;
-use crate::state;
-use model::Events;
-use model::Fed;
-use model::Halt;
-use model::SentMany;
-use model::Stop;
-
-// What stops a row of sends at a byte that is no kind.
-const NO_KIND: u32 = 255;
-
-// What stops a row of packets where part of one is left.
-const PART: u32 = 254;
+ghost use Rattle.answers.specs.Exported.{Kept};
+ghost use Rattle.answers.specs.Shown.{stateRow, sendings, fed, handings};
+ghost use Rattle.rows.specs.State.{connectionOf};
+use answers::give_events;
+use answers::give_fed;
+use answers::give_sent_many;
 
 // How many were sent, the last number written and what stopped it.
 #[no_mangle]
@@ -38,7 +25,7 @@ pub extern "C" fn xm_send_requests(
 ) -> u32
     ensures { λ r. ⌜ Kept (λ a. SendsMany (connectionOf (now (state .entry))) (rooms (now (requests .entry)) (now (store .entry)) (now (slots .entry))) (now (kinds .entry)) a (rooms (now (requests .exit)) (now (store .entry)) (now (slots .entry)))) sendings (stateRow (now (state .entry))) (now (count .entry) ∷ now (number .entry) ∷ now (stop .entry) ∷ []) (now (count .exit) ∷ now (number .exit) ∷ now (stop .exit) ∷ []) (now (state .entry)) (now (state .exit)) r ⌝ }
 {
-    let now = state::connection(state);
+    let now = rows::connection(state);
     let answer = connection::send_requests(now, requests, store, slots, kinds);
     give_sent_many(answer, state, count, number, stop)
 }
@@ -57,7 +44,7 @@ pub extern "C" fn xm_enqueue_packets(
 ) -> u32
     ensures { λ r. ⌜ Kept (λ a. EnqueuesMany (connectionOf (now (state .entry))) (rooms (now (requests .entry)) (now (store .entry)) (now (slots .entry))) (now (bytes .entry)) a (rooms (now (requests .entry)) (now (store .exit)) (now (slots .exit)))) fed (stateRow (now (state .entry))) (now (size .entry) ∷ now (count .entry) ∷ now (stop .entry) ∷ []) (now (size .exit) ∷ now (count .exit) ∷ now (stop .exit) ∷ []) (now (state .entry)) (now (state .exit)) r ⌝ }
 {
-    let now = state::connection(state);
+    let now = rows::connection(state);
     let answer = connection::enqueue_packets(now, requests, store, slots, bytes);
     give_fed(answer, state, size, count, stop)
 }
@@ -77,90 +64,7 @@ pub extern "C" fn xm_poll_for_events(
 ) -> u32
     ensures { λ r. ⌜ Kept (λ a. PollsEvents (connectionOf (now (state .entry))) (rooms (now (requests .entry)) (now (store .entry)) (now (slots .entry))) (now (out .entry)) (now (marks .entry)) a (rooms (now (requests .entry)) (now (store .exit)) (now (slots .entry))) (now (out .exit)) (now (marks .exit))) handings (stateRow (now (state .entry))) (now (count .entry) ∷ now (size .entry) ∷ now (stop .entry) ∷ []) (now (count .exit) ∷ now (size .exit) ∷ now (stop .exit) ∷ []) (now (state .entry)) (now (state .exit)) r ⌝ }
 {
-    let now = state::connection(state);
+    let now = rows::connection(state);
     let answer = connection::poll_for_events(now, requests, store, slots, out, marks);
     give_events(answer, state, count, size, stop)
-}
-
-fn give_sent_many(
-    answer: SentMany,
-    row: &mut [u64],
-    count: &mut usize,
-    number: &mut u64,
-    stop: &mut u32,
-) -> u32
-    ensures { λ r. ⌜ Kept (λ a. a ≡ saysSentMany answer) sendings (stateRow (now (row .entry))) (now (count .entry) ∷ now (number .entry) ∷ now (stop .entry) ∷ []) (now (count .exit) ∷ now (number .exit) ∷ now (stop .exit) ∷ []) (now (row .entry)) (now (row .exit)) r ⌝ }
-{
-    match answer {
-        SentMany::Sent(n, last, how, next) => {
-            state::put_connection(row, next);
-            *count = n;
-            *number = last.0;
-            *stop = stop_number(how);
-            DONE
-        }
-        SentMany::Refused(refusal) => code(refusal),
-    }
-}
-
-fn give_fed(
-    answer: Fed,
-    row: &mut [u64],
-    size: &mut usize,
-    count: &mut usize,
-    stop: &mut u32,
-) -> u32
-    ensures { λ r. ⌜ Kept (λ a. a ≡ saysFed answer) fed (stateRow (now (row .entry))) (now (size .entry) ∷ now (count .entry) ∷ now (stop .entry) ∷ []) (now (size .exit) ∷ now (count .exit) ∷ now (stop .exit) ∷ []) (now (row .entry)) (now (row .exit)) r ⌝ }
-{
-    match answer {
-        Fed::Taken(n, packets, how, next) => {
-            state::put_connection(row, next);
-            *size = n;
-            *count = packets;
-            *stop = halt_number(how);
-            DONE
-        }
-        Fed::Refused(refusal) => code(refusal),
-    }
-}
-
-fn give_events(
-    answer: Events,
-    row: &mut [u64],
-    count: &mut usize,
-    size: &mut usize,
-    stop: &mut u32,
-) -> u32
-    ensures { λ r. ⌜ Kept (λ a. a ≡ saysEvents answer) handings (stateRow (now (row .entry))) (now (count .entry) ∷ now (size .entry) ∷ now (stop .entry) ∷ []) (now (count .exit) ∷ now (size .exit) ∷ now (stop .exit) ∷ []) (now (row .entry)) (now (row .exit)) r ⌝ }
-{
-    match answer {
-        Events::Handed(n, bytes, how, next) => {
-            state::put_connection(row, next);
-            *count = n;
-            *size = bytes;
-            *stop = stop_number(how);
-            DONE
-        }
-        Events::Refused(refusal) => code(refusal),
-    }
-}
-
-fn stop_number(stop: Stop) -> u32
-    ensures { λ r. ⌜ r ≡ stopNumber (saysStop stop) ⌝ }
-{
-    match stop {
-        Stop::End => 0,
-        Stop::Refused(refusal) => code(refusal),
-        Stop::NoKind => NO_KIND,
-    }
-}
-
-fn halt_number(halt: Halt) -> u32
-    ensures { λ r. ⌜ r ≡ haltNumber (saysHalt halt) ⌝ }
-{
-    match halt {
-        Halt::End => 0,
-        Halt::Refused(refusal) => code(refusal),
-        Halt::Part => PART,
-    }
 }

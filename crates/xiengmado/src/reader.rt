@@ -4,13 +4,12 @@ ghost use mathlib.Core.List.{[], _∷_};
 ghost use lib.ListN.{length};
 ghost use Rattle.packet_reader.specs.Frame.{total};
 ghost use Rattle.packet_reader.specs.Reader.{made, capacity, advanced};
-ghost use Rattle.xiengmado.specs.Exported.{Exported, Kept};
-ghost use Rattle.xiengmado.specs.Shown.{nothing, number, roomed, packetLength, packetReader};
-ghost use Rattle.xiengmado.specs.State.{threeSlots, readerOf, readerRow};
-use crate::BAD;
-use crate::DONE;
-use crate::code;
-use crate::state;
+ghost use Rattle.answers.specs.Exported.{Exported, Kept};
+ghost use Rattle.answers.specs.Shown.{nothing, number, roomed, packetLength, packetReader};
+ghost use Rattle.rows.specs.State.{threeSlots, readerOf, readerRow};
+use answers::BAD;
+use answers::DONE;
+use answers::code;
 use packet_reader::Advanced;
 use packet_reader::Capacity;
 use packet_reader::Made;
@@ -27,13 +26,13 @@ pub extern "C" fn xm_packet_length(packet_code: u8, field: u32) -> usize
 pub extern "C" fn xm_reader_new(reader: &mut [u64], order: u8, buf: &[u8]) -> u32
     ensures { λ r. ⌜ Kept (λ a. a ≡ roomed threeSlots (now (reader .entry)) (made order (length (now (buf .entry))))) nothing (readerRow (now (reader .entry))) [] [] (now (reader .entry)) (now (reader .exit)) r ⌝ }
 {
-    if reader.len() != state::THREE {
+    if reader.len() != rows::THREE {
         return BAD;
     }
     let answer = PacketReader::new(order, buf);
     match answer {
         Made::Reader(fresh) => {
-            state::put_reader(reader, fresh);
+            rows::put_reader(reader, fresh);
             DONE
         }
         Made::Refused(refusal) => code(refusal),
@@ -44,7 +43,7 @@ pub extern "C" fn xm_reader_new(reader: &mut [u64], order: u8, buf: &[u8]) -> u3
 pub extern "C" fn xm_reader_remaining_capacity(reader: &[u64], buf: &[u8], size: &mut usize) -> u32
     ensures { λ r. ⌜ Exported (λ a. a ≡ capacity (readerOf (now (reader .entry))) (now (buf .entry))) number (now (size .entry) ∷ []) (now (size .exit) ∷ []) r ⌝ }
 {
-    let at = state::reader(reader);
+    let at = rows::reader(reader);
     let answer = at.remaining_capacity(buf);
     match answer {
         Capacity::Bytes(n) => {
@@ -65,7 +64,7 @@ pub extern "C" fn xm_reader_buffer(
 ) -> u32
     ensures { λ r. ⌜ Exported (λ a. a ≡ capacity (readerOf (now (reader .entry))) (now (buf .entry))) (λ n. readerOf (now (reader .entry)) .filled ∷ n ∷ []) (now (start .entry) ∷ now (size .entry) ∷ []) (now (start .exit) ∷ now (size .exit) ∷ []) r ⌝ }
 {
-    let at = state::reader(reader);
+    let at = rows::reader(reader);
     let answer = at.remaining_capacity(buf);
     match answer {
         Capacity::Bytes(n) => {
@@ -87,16 +86,16 @@ pub extern "C" fn xm_reader_advance(
 ) -> u32
     ensures { λ r. ⌜ Kept (λ a. a ≡ advanced (readerOf (now (reader .entry))) (now (buf .entry)) amount) packetLength (λ p. readerRow (now (reader .entry)) (packetReader p)) (now (size .entry) ∷ []) (now (size .exit) ∷ []) (now (reader .entry)) (now (reader .exit)) r ⌝ }
 {
-    let at = state::reader(reader);
+    let at = rows::reader(reader);
     let answer = at.advance(buf, amount);
     match answer {
         Advanced::NotYet(next) => {
-            state::put_reader(reader, next);
+            rows::put_reader(reader, next);
             *size = 0;
             DONE
         }
         Advanced::Packet(n, next) => {
-            state::put_reader(reader, next);
+            rows::put_reader(reader, next);
             *size = n;
             DONE
         }

@@ -2,13 +2,12 @@
 // for a fault. No other function of the library needs these.
 ghost use mathlib.Core.Path.{_≡_};
 ghost use mathlib.Core.List.{[], _∷_};
-ghost use Rattle.requests.specs.Room.{modeNumber};
-ghost use Rattle.xiengmado.specs.Exported.{Exported};
+ghost use Rattle.answers.specs.Exported.{Exported};
 ghost use Rattle.xiengmado.specs.Looking.{requestKept, requestFields, Looks, recordFields};
-use crate::BAD;
-use crate::DONE;
-use crate::bit;
-use requests::Mode;
+use answers::BAD;
+use answers::DONE;
+use answers::bit;
+use answers::mode_number;
 
 // What is kept of the request of a number: whether its reply has descriptors, and its mode (0 none, 1
 // DiscardReply, 2 DiscardReplyAndError). Means something for an outstanding number alone. Refused by
@@ -63,14 +62,4 @@ pub extern "C" fn xm_record_at(
     *size = held::length_at(store, at);
     *count = held::count_at(store, at);
     DONE
-}
-
-fn mode_number(mode: Mode) -> u8
-    ensures { λ r. ⌜ r ≡ modeNumber mode ⌝ }
-{
-    match mode {
-        Mode::Keep => 0,
-        Mode::DiscardReply => 1,
-        Mode::DiscardReplyAndError => 2,
-    }
 }

@@ -1,5 +1,5 @@
 -- `xiengmado::client::xm_connection_new` meets its contract. Assumes nothing.
-use Rattle.xiengmado.specs.Exported.{kept-off, kept-on, on, off}
+use Rattle.answers.specs.Exported.{kept-off, kept-on, on, off}
 use borrow.Author.Tests.{eq-eqb, ne-eqb}
 use borrow.Author.Needs.{needs}
 use Rattle.xiengmado.proofs.client.xm_connection_new.Statement.{statement}

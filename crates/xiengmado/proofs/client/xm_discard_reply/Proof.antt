@@ -1,6 +1,6 @@
 -- `xiengmado::client::xm_discard_reply` meets its contract. Assumes nothing.
 use mathlib.Core.Path.{refl, sym, _∙_}
-use Rattle.xiengmado.specs.Exported.{kept-off, kept-on, on, off}
+use Rattle.answers.specs.Exported.{kept-off, kept-on, on, off}
 use borrow.Author.Tests.{not-true, not-false}
 use borrow.Author.Needs.{needs}
 use Rattle.xiengmado.proofs.client.xm_discard_reply.Statement.{statement}

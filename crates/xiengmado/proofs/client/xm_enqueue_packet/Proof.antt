@@ -1,5 +1,5 @@
 -- `xiengmado::client::xm_enqueue_packet` meets its contract. Assumes nothing.
-use Rattle.xiengmado.specs.Exported.{kept-on}
+use Rattle.answers.specs.Exported.{kept-on}
 use borrow.Author.Needs.{needs}
 use Rattle.xiengmado.proofs.client.xm_enqueue_packet.Statement.{statement}
 use Rattle.xiengmado.proofs.client.xm_enqueue_packet.Tie as tie

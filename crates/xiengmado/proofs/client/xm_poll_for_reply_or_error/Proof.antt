@@ -1,5 +1,5 @@
 -- `xiengmado::client::xm_poll_for_reply_or_error` meets its contract. Assumes nothing.
-use Rattle.xiengmado.specs.Exported.{kept-on}
+use Rattle.answers.specs.Exported.{kept-on}
 use borrow.Author.Needs.{needs}
 use Rattle.xiengmado.proofs.client.xm_poll_for_reply_or_error.Statement.{statement}
 use Rattle.xiengmado.proofs.client.xm_poll_for_reply_or_error.Tie as tie

@@ -1,6 +1,6 @@
 -- `xiengmado::client::xm_prepare_check_for_reply_or_error` meets its contract. Assumes nothing.
 use Rattle.model.specs.Says.{saysPrepared}
-use Rattle.xiengmado.specs.Exported.{exported-at}
+use Rattle.answers.specs.Exported.{exported-at}
 use mathlib.Core.Path.{refl}
 use borrow.Author.Needs.{needs}
 use Rattle.xiengmado.proofs.client.xm_prepare_check_for_reply_or_error.Statement.{statement}

@@ -1,6 +1,6 @@
 -- `xiengmado::client::xm_send_request` meets its contract. Assumes nothing.
 use mathlib.Core.Path.{refl}
-use Rattle.xiengmado.specs.Exported.{kept-off, kept-on, on, off}
+use Rattle.answers.specs.Exported.{kept-off, kept-on, on, off}
 use borrow.Author.Tests.{le-leb, lt-leb}
 use borrow.Author.Needs.{needs}
 use Rattle.xiengmado.proofs.client.xm_send_request.Statement.{statement}

@@ -1,7 +1,7 @@
 -- `xiengmado::handshake::xm_connect_advance` meets its contract. Assumes nothing.
 use mathlib.Core.Path.{refl}
 use Rattle.connect.specs.Handshake.{saysAdvanced}
-use Rattle.xiengmado.specs.Exported.{kept-at}
+use Rattle.answers.specs.Exported.{kept-at}
 use borrow.Author.Needs.{needs}
 use Rattle.xiengmado.proofs.handshake.xm_connect_advance.Statement.{statement}
 use Rattle.xiengmado.proofs.handshake.xm_connect_advance.Tie as tie

@@ -1,7 +1,7 @@
 -- `xiengmado::handshake::xm_connect_buffer` meets its contract. Assumes nothing.
 use mathlib.Core.Path.{refl}
 use Rattle.connect.specs.Handshake.{saysCapacity}
-use Rattle.xiengmado.specs.Exported.{exported-at}
+use Rattle.answers.specs.Exported.{exported-at}
 use borrow.Author.Needs.{needs}
 use Rattle.xiengmado.proofs.handshake.xm_connect_buffer.Statement.{statement}
 use Rattle.xiengmado.proofs.handshake.xm_connect_buffer.Tie as tie

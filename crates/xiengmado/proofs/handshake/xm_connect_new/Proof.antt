@@ -1,8 +1,8 @@
 -- `xiengmado::handshake::xm_connect_new` meets its contract. Assumes nothing.
 use mathlib.Core.Path.{refl}
 use Rattle.connect.specs.Handshake.{saysMade}
-use Rattle.xiengmado.specs.Exported.{kept-at, kept-off}
-use Rattle.xiengmado.specs.Shown.{roomed-off, roomed-on}
+use Rattle.answers.specs.Exported.{kept-at, kept-off}
+use Rattle.answers.specs.Shown.{roomed-off, roomed-on}
 use borrow.Author.Needs.{needs}
 use Rattle.xiengmado.proofs.handshake.xm_connect_new.Statement.{statement}
 use Rattle.xiengmado.proofs.handshake.xm_connect_new.Tie as tie

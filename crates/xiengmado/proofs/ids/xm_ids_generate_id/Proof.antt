@@ -1,7 +1,7 @@
 -- `xiengmado::ids::xm_ids_generate_id` meets its contract. Assumes nothing.
 use mathlib.Core.Path.{refl}
 use Rattle.id_allocator.specs.Ids.{saysGenerated}
-use Rattle.xiengmado.specs.Exported.{kept-at}
+use Rattle.answers.specs.Exported.{kept-at}
 use borrow.Author.Needs.{needs}
 use Rattle.xiengmado.proofs.ids.xm_ids_generate_id.Statement.{statement}
 use Rattle.xiengmado.proofs.ids.xm_ids_generate_id.Tie as tie

@@ -1,7 +1,7 @@
 -- `xiengmado::ids::xm_ids_update_xid_range` meets its contract. Assumes nothing.
 use mathlib.Core.Path.{refl}
 use Rattle.id_allocator.specs.Ids.{saysIds}
-use Rattle.xiengmado.specs.Exported.{kept-at}
+use Rattle.answers.specs.Exported.{kept-at}
 use borrow.Author.Needs.{needs}
 use Rattle.xiengmado.proofs.ids.xm_ids_update_xid_range.Statement.{statement}
 use Rattle.xiengmado.proofs.ids.xm_ids_update_xid_range.Tie as tie

@@ -1,5 +1,5 @@
 -- `xiengmado::many::xm_enqueue_packets` meets its contract. Assumes nothing.
-use Rattle.xiengmado.specs.Exported.{kept-on}
+use Rattle.answers.specs.Exported.{kept-on}
 use borrow.Author.Needs.{needs}
 use Rattle.xiengmado.proofs.many.xm_enqueue_packets.Statement.{statement}
 use Rattle.xiengmado.proofs.many.xm_enqueue_packets.Tie as tie

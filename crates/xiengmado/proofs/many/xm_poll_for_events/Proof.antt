@@ -1,5 +1,5 @@
 -- `xiengmado::many::xm_poll_for_events` meets its contract. Assumes nothing.
-use Rattle.xiengmado.specs.Exported.{kept-on}
+use Rattle.answers.specs.Exported.{kept-on}
 use borrow.Author.Needs.{needs}
 use Rattle.xiengmado.proofs.many.xm_poll_for_events.Statement.{statement}
 use Rattle.xiengmado.proofs.many.xm_poll_for_events.Tie as tie

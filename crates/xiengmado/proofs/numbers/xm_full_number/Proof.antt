@@ -1,7 +1,7 @@
 -- `xiengmado::numbers::xm_full_number` meets its contract. Assumes nothing.
 use mathlib.Core.Path.{refl}
 use Rattle.sequence.specs.Numbering.{saysFull}
-use Rattle.xiengmado.specs.Exported.{exported-at}
+use Rattle.answers.specs.Exported.{exported-at}
 use borrow.Author.Needs.{needs}
 use Rattle.xiengmado.proofs.numbers.xm_full_number.Statement.{statement}
 use Rattle.xiengmado.proofs.numbers.xm_full_number.Tie as tie

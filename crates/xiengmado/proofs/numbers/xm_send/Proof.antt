@@ -1,7 +1,7 @@
 -- `xiengmado::numbers::xm_send` meets its contract. Assumes nothing.
 use mathlib.Core.Path.{refl}
 use Rattle.sequence.specs.Sending.{saysSent}
-use Rattle.xiengmado.specs.Exported.{exported-at}
+use Rattle.answers.specs.Exported.{exported-at}
 use borrow.Author.Needs.{needs}
 use Rattle.xiengmado.proofs.numbers.xm_send.Statement.{statement}
 use Rattle.xiengmado.proofs.numbers.xm_send.Tie as tie

@@ -1,7 +1,7 @@
 -- `xiengmado::packets::xm_check_packet` meets its contract. Assumes nothing.
 use mathlib.Core.Path.{refl}
 use Rattle.x11_utils.specs.Packet.{saysChecked}
-use Rattle.xiengmado.specs.Exported.{exported-at}
+use Rattle.answers.specs.Exported.{exported-at}
 use borrow.Author.Needs.{needs}
 use Rattle.xiengmado.proofs.packets.xm_check_packet.Statement.{statement}
 use Rattle.xiengmado.proofs.packets.xm_check_packet.Tie as tie

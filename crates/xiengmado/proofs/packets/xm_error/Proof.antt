@@ -1,7 +1,7 @@
 -- `xiengmado::packets::xm_error` meets its contract. Assumes nothing.
 use mathlib.Core.Path.{refl}
 use Rattle.x11_utils.specs.Error.{saysParsed}
-use Rattle.xiengmado.specs.Exported.{exported-at}
+use Rattle.answers.specs.Exported.{exported-at}
 use borrow.Author.Needs.{needs}
 use Rattle.xiengmado.proofs.packets.xm_error.Statement.{statement}
 use Rattle.xiengmado.proofs.packets.xm_error.Tie as tie

@@ -1,7 +1,7 @@
 -- `xiengmado::reader::xm_reader_advance` meets its contract. Assumes nothing.
 use mathlib.Core.Path.{refl}
 use Rattle.packet_reader.specs.Reader.{saysAdvanced}
-use Rattle.xiengmado.specs.Exported.{kept-at}
+use Rattle.answers.specs.Exported.{kept-at}
 use borrow.Author.Needs.{needs}
 use Rattle.xiengmado.proofs.reader.xm_reader_advance.Statement.{statement}
 use Rattle.xiengmado.proofs.reader.xm_reader_advance.Tie as tie

@@ -1,6 +1,6 @@
 -- `xiengmado::rooms::xm_record_at` meets its contract. Assumes nothing.
 use native.Mathlib.Omega.{arith}
-use Rattle.xiengmado.specs.Exported.{exported-by}
+use Rattle.answers.specs.Exported.{exported-by}
 use Rattle.xiengmado.specs.Looking.{here, nowhere, header-there, looked}
 use mathlib.Core.Path.{refl}
 use borrow.Author.Needs.{needs}

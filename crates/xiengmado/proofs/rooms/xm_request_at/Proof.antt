@@ -3,7 +3,7 @@ use mathlib.Core.Path.{sym, _∙_, refl}
 use native.Mathlib.Omega.{arith}
 use borrow.Author.Tests.{not-true, not-false}
 use Rattle.requests.specs.Theorems.{sized-is}
-use Rattle.xiengmado.specs.Exported.{exported-by}
+use Rattle.answers.specs.Exported.{exported-by}
 use Rattle.xiengmado.specs.Looking.{kept-none, kept-some}
 use borrow.Author.Needs.{needs}
 use Rattle.xiengmado.proofs.rooms.xm_request_at.Statement.{statement}

@@ -1,0 +1,235 @@
+-- What is shown of the values that a call gives: the numbers behind the pointers of its export, in their order. Assumes nothing.
+use mathlib.Core.Path.{_≡_, refl, ap, _∙_}
+use mathlib.Core.Bool.{Bool, cond, not}
+use mathlib.Core.List.{List, [], _∷_}
+use Prim.Native.Nat.{ℕ, _≤_, _<_}
+use lib.Dec.{eqb, ltb}
+use borrow.Author.Tests.{eq-eqb, ne-eqb, lt-ltb, le-ltb}
+use lib.ListN.{length, set}
+use Rattle.octets.specs.Logic.{choose, either}
+use Rattle.refusal.specs.Answer.{Answer, gives, refuses, refuse, pass}
+use Rattle.sequence.specs.Sending as Sending
+use Rattle.x11_utils.specs.declared.X11Error.{X11Error}
+use Rattle.xc_misc.specs.declared.reply.GetVersionReply.{GetVersionReply}
+use Rattle.xc_misc.specs.declared.reply.GetXIDRangeReply.{GetXIDRangeReply}
+use Rattle.xc_misc.specs.declared.reply.GetXIDListReply.{GetXIDListReply}
+use Rattle.packet_reader.specs.Reader as Reader
+use Rattle.packet_reader.specs.declared.PacketReader.{PacketReader}
+use Rattle.connect.specs.Handshake as Handshake
+use Rattle.connect.specs.Setup as Setup
+use Rattle.connect.specs.Setup.{Reading, vendorPlace, reasonPlace}
+use Rattle.connect.specs.declared.handshake.Connect.{Connect}
+use Rattle.connect.specs.declared.reply.Setup.{Setup}
+use Rattle.connect.specs.declared.reply.SetupFailed.{SetupFailed}
+use Rattle.model.specs.Model.{Filing}
+use Rattle.model.specs.Says.{Shown, none, packet, ShownPoll, again, noReply, reply, ShownEvent, noEvent, event as anEvent}
+use Rattle.model.specs.Batch.{Stop, ended, refused, meaningless}
+use Rattle.model.specs.SendRequests.{ShownSendings}
+use Rattle.model.specs.PollForEvents.{ShownHandings}
+use Rattle.model.specs.Feed.{ShownFed}
+use Rattle.model.specs.Feed as Feed
+use Rattle.model.specs.declared.Connection.{Connection}
+use Rattle.model.specs.declared.Place.{Place}
+use Rattle.model.specs.declared.Place.the-variants as Place
+use Rattle.model.specs.declared.ReplyFdKind.{ReplyFdKind}
+use Rattle.model.specs.declared.ReplyFdKind.the-variants as ReplyFdKind
+use Rattle.model.specs.declared.DiscardMode.{DiscardMode}
+use Rattle.model.specs.declared.DiscardMode.the-variants as DiscardMode
+use Rattle.rows.specs.State.{four, connectionRow}
+
+-- no numbers; a number itself
+abbrev pub nothing : {A : Type 0} → A → List ℕ
+nothing x = []
+
+abbrev pub number : ℕ → List ℕ
+number n = n ∷ []
+
+-- 9 for a row that has not k numbers
+unfoldable pub roomed : {A : Type 0} → ℕ → List ℕ → Answer A → Answer A
+roomed k s a = refuse (not (eqb (length s) k)) 9 a
+
+-- ---- the leaves
+
+abbrev pub errorFields : X11Error → List ℕ
+errorFields e = e .code ∷ e .sequence .0 ∷ e .value ∷ e .minor ∷ e .major ∷ []
+
+abbrev pub versionFields : GetVersionReply → List ℕ
+versionFields p = p .sequence .0 ∷ p .length ∷ p .major ∷ p .minor ∷ []
+
+abbrev pub rangeFields : GetXIDRangeReply → List ℕ
+rangeFields p = p .sequence .0 ∷ p .length ∷ p .start ∷ p .count ∷ []
+
+abbrev pub listFields : GetXIDListReply → List ℕ
+listFields p = p .sequence .0 ∷ p .length ∷ p .count ∷ []
+
+-- ---- reader and handshake
+
+-- the length of a whole packet, or 0; and the reader to go on with
+abbrev pub packetLength : Reader.Progress → List ℕ
+packetLength (Reader.waits r) = 0 ∷ []
+packetLength (Reader.whole n r) = n ∷ []
+
+abbrev pub packetReader : Reader.Progress → PacketReader
+packetReader (Reader.waits r) = r
+packetReader (Reader.whole n r) = r
+
+-- 1 for a complete reply; and the handshake to go on with
+abbrev pub completed : Handshake.Progress → List ℕ
+completed (Handshake.waits c) = 0 ∷ []
+completed (Handshake.complete c) = 1 ∷ []
+
+abbrev pub progressed : Handshake.Progress → Connect
+progressed (Handshake.waits c) = c
+progressed (Handshake.complete c) = c
+
+-- a setup's fields have seventeen places; 8, behind all else, where there are fewer
+abbrev pub setupPlaces : ℕ
+setupPlaces = 17
+
+unfoldable pub setupRoomed : ℕ → Answer Reading → Answer Reading
+setupRoomed n a = pass a (λ x. refuse (ltb n setupPlaces) 8 (gives x))
+
+-- the first byte of the reply
+abbrev pub statusOf : Reading → List ℕ
+statusOf (Setup.failed x) = 0 ∷ []
+statusOf (Setup.success x) = 1 ∷ []
+statusOf (Setup.authenticate x) = 2 ∷ []
+
+-- the fields in their places: of a success all of them,
+abbrev pub wideRow : List ℕ → Setup → List ℕ
+wideRow s x = four (four s 0 (x .major) (x .minor) (x .length) (x .release)) 4 (x .base) (x .mask) (x .motion) (x .vendor)
+
+abbrev pub countsRow : List ℕ → Setup → List ℕ
+countsRow s x = four s 8 (x .request) (x .roots) (x .formats) (x .image)
+
+abbrev pub bitsRow : List ℕ → Setup → List ℕ
+bitsRow s x = set (four s 12 (x .bitmap) (x .unit) (x .pad) (x .first)) 16 (x .last)
+
+unfoldable pub successRow : List ℕ → Setup → List ℕ
+successRow s x = bitsRow (countsRow (wideRow s x) x) x
+
+-- of a failure the version, the length and that of the reason,
+abbrev pub failedRow : List ℕ → SetupFailed → List ℕ
+failedRow s x = four s 0 (x .major) (x .minor) (x .length) (x .reason)
+
+-- of further authentication the length.
+abbrev pub setupFields : List ℕ → Reading → List ℕ
+setupFields s (Setup.failed x) = failedRow s x
+setupFields s (Setup.success x) = successRow s x
+setupFields s (Setup.authenticate x) = set s 2 (x .length)
+
+-- where a text stands, and its size
+abbrev pub vendorText : Reading → List ℕ
+vendorText x = vendorPlace (gives x) .start ∷ vendorPlace (gives x) .size ∷ []
+
+abbrev pub reasonText : Reading → List ℕ
+reasonText x = reasonPlace (gives x) .start ∷ reasonPlace (gives x) .size ∷ []
+
+-- ---- the connection
+
+-- the state that is handed back, in the row that was lent
+abbrev pub stateRow : {A : Type 0} → List ℕ → A × Connection → List ℕ
+stateRow s x = connectionRow s (x .1)
+
+-- the value itself
+abbrev pub first : ℕ × Connection → List ℕ
+first x = x .0 ∷ []
+
+-- 0 for the replies, 1 for the events, 2 for dropped
+abbrev pub placeNumber : Place → ℕ
+placeNumber Place.Replies = 0
+placeNumber Place.Events = 1
+placeNumber Place.Dropped = 2
+
+abbrev pub filing : Filing × Connection → List ℕ
+filing x = placeNumber (x .0 .place) ∷ x .0 .number ∷ []
+
+-- whether a packet was found, its bytes and its descriptors
+abbrev pub polledOf : Shown → List ℕ
+polledOf none = 0 ∷ 0 ∷ 0 ∷ []
+polledOf (packet z) = 1 ∷ z .bytes ∷ z .places ∷ []
+
+abbrev pub polled : Shown × Connection → List ℕ
+polled x = polledOf (x .0)
+
+-- 0 for TryAgain, 1 for NoReply, 2 for a reply and its bytes
+abbrev pub pollOf : ShownPoll → List ℕ
+pollOf again = 0 ∷ 0 ∷ []
+pollOf noReply = 1 ∷ 0 ∷ []
+pollOf (reply n) = 2 ∷ n ∷ []
+
+abbrev pub poll : ShownPoll × Connection → List ℕ
+poll x = pollOf (x .0)
+
+-- whether an event was found, its number and its bytes
+abbrev pub eventOf : ShownEvent → List ℕ
+eventOf noEvent = 0 ∷ 0 ∷ 0 ∷ []
+eventOf (anEvent n k) = 1 ∷ n ∷ k ∷ []
+
+abbrev pub event : ShownEvent × Connection → List ℕ
+event x = eventOf (x .0)
+
+-- what stopped a call that makes many steps: 0 for the end, a refusal by its number, 255 for a byte that is no kind
+abbrev pub stopNumber : Stop → ℕ
+stopNumber ended = 0
+stopNumber (refused n) = n
+stopNumber meaningless = 255
+
+-- how many requests were sent, the last number written, and what stopped it
+abbrev pub sendings : ShownSendings × Connection → List ℕ
+sendings x = x .0 .count ∷ x .0 .last ∷ stopNumber (x .0 .stopped) ∷ []
+
+-- how many events were handed out, the bytes of their packets, and what stopped it
+abbrev pub handings : ShownHandings × Connection → List ℕ
+handings x = x .0 .count ∷ x .0 .bytes ∷ stopNumber (x .0 .stopped) ∷ []
+
+-- what stopped a row of packets: 0 where no byte is left, a refusal by its number, 254 where part of a packet is left
+abbrev pub haltNumber : Feed.Stopped → ℕ
+haltNumber Feed.ended = 0
+haltNumber (Feed.refused n) = n
+haltNumber Feed.partial = 254
+
+-- how many bytes were taken, how many packets, and what stopped it
+abbrev pub fed : ShownFed × Connection → List ℕ
+fed x = x .0 .bytes ∷ x .0 .packets ∷ haltNumber (x .0 .stopped) ∷ []
+
+-- 1 for true
+abbrev pub flag : Bool → List ℕ
+flag b = cond b 1 0 ∷ []
+
+-- what a kind and a mode mean
+abbrev pub mostKind : ℕ
+mostKind = 2
+
+unfoldable pub kindOf : ℕ → ReplyFdKind
+kindOf n = choose (eqb n 0) ReplyFdKind.NoReply (choose (eqb n 1) ReplyFdKind.ReplyWithoutFds ReplyFdKind.ReplyWithFds)
+
+unfoldable pub isMode : ℕ → Bool
+isMode n = either (eqb n 1) (eqb n 2)
+
+unfoldable pub modeOf : ℕ → DiscardMode
+modeOf n = choose (eqb n 1) DiscardMode.DiscardReply DiscardMode.DiscardReplyAndError
+
+-- ---- laws
+
+-- a row of another length, and one of the right length
+pub roomed-off : {A : Type 0} (k : ℕ) (s : List ℕ) (a : Answer A) → (length s ≡ k → ⊥) → refuses 9 ≡ roomed k s a
+unfolding roomed refuse
+roomed-off k s a h = simp (ne-eqb _ _ h)
+
+pub roomed-on : {A : Type 0} (k : ℕ) (s : List ℕ) (x a : Answer A) → length s ≡ k → x ≡ a → x ≡ roomed k s a
+unfolding roomed refuse
+roomed-on k s x a h e = simp (eq-eqb _ _ h) e
+
+-- fields with too few places, and with enough
+pub setup-short : (n : ℕ) (a : Answer Reading) (x : Reading) → gives x ≡ a → n < setupPlaces → refuses 8 ≡ setupRoomed n a
+unfolding setupRoomed pass refuse
+setup-short n a x e h = let q : refuses 8 ≡ setupRoomed n (gives x) = simp (lt-ltb _ _ h) in q ∙ ap (setupRoomed n) e
+
+pub setup-roomy : (n : ℕ) (a : Answer Reading) (x : Reading) → gives x ≡ a → setupPlaces ≤ n → gives x ≡ setupRoomed n a
+unfolding setupRoomed pass refuse
+setup-roomy n a x e h = let q : gives x ≡ setupRoomed n (gives x) = simp (le-ltb _ _ h) in q ∙ ap (setupRoomed n) e
+
+pub setup-refused : (n : ℕ) (a : Answer Reading) (k : ℕ) → refuses k ≡ a → refuses k ≡ setupRoomed n a
+unfolding setupRoomed pass
+setup-refused n a k e = ap (setupRoomed n) e

@@ -1,0 +1,151 @@
+// What the calls of a connection answer, handed back as an export does: the state into its row, the
+// values through their pointers, and the number of the refusal or 0.
+ghost use mathlib.Core.Path.{_≡_};
+ghost use mathlib.Core.List.{[], _∷_};
+ghost use Rattle.model.specs.Says.{saysNext, saysSent, saysEnqueued, saysPolled, saysPollReply, saysEvent, saysClosed};
+ghost use Rattle.answers.specs.Exported.{Kept};
+ghost use Rattle.answers.specs.Shown.{nothing, stateRow, first, filing, polled, poll, event};
+use crate::DONE;
+use crate::code;
+use crate::words::place_number;
+use model::Closed;
+use model::Enqueued;
+use model::Event;
+use model::Next;
+use model::PollReply;
+use model::Polled;
+use model::Sent;
+
+pub fn give_next(answer: Next, row: &mut [u64]) -> u32
+    ensures { λ r. ⌜ Kept (λ a. a ≡ saysNext answer) nothing (stateRow (now (row .entry))) [] [] (now (row .entry)) (now (row .exit)) r ⌝ }
+{
+    match answer {
+        Next::State(next) => {
+            rows::put_connection(row, next);
+            DONE
+        }
+        Next::Refused(refusal) => code(refusal),
+    }
+}
+
+pub fn give_sent(answer: Sent, row: &mut [u64], number: &mut u64) -> u32
+    ensures { λ r. ⌜ Kept (λ a. a ≡ saysSent answer) first (stateRow (now (row .entry))) (now (number .entry) ∷ []) (now (number .exit) ∷ []) (now (row .entry)) (now (row .exit)) r ⌝ }
+{
+    match answer {
+        Sent::Number(given, next) => {
+            rows::put_connection(row, next);
+            *number = given.0;
+            DONE
+        }
+        Sent::Refused(refusal) => code(refusal),
+    }
+}
+
+pub fn give_enqueued(answer: Enqueued, row: &mut [u64], place: &mut u8, number: &mut u64) -> u32
+    ensures { λ r. ⌜ Kept (λ a. a ≡ saysEnqueued answer) filing (stateRow (now (row .entry))) (now (place .entry) ∷ now (number .entry) ∷ []) (now (place .exit) ∷ now (number .exit) ∷ []) (now (row .entry)) (now (row .exit)) r ⌝ }
+{
+    match answer {
+        Enqueued::Filed(at, given, next) => {
+            rows::put_connection(row, next);
+            *place = place_number(at);
+            *number = given.0;
+            DONE
+        }
+        Enqueued::Refused(refusal) => code(refusal),
+    }
+}
+
+pub fn give_polled(
+    answer: Polled,
+    row: &mut [u64],
+    found: &mut u8,
+    size: &mut usize,
+    count: &mut usize,
+) -> u32
+    ensures { λ r. ⌜ Kept (λ a. a ≡ saysPolled answer) polled (stateRow (now (row .entry))) (now (found .entry) ∷ now (size .entry) ∷ now (count .entry) ∷ []) (now (found .exit) ∷ now (size .exit) ∷ now (count .exit) ∷ []) (now (row .entry)) (now (row .exit)) r ⌝ }
+{
+    match answer {
+        Polled::Packet(n, k, next) => {
+            rows::put_connection(row, next);
+            *found = 1;
+            *size = n;
+            *count = k;
+            DONE
+        }
+        Polled::Nothing(next) => {
+            rows::put_connection(row, next);
+            *found = 0;
+            *size = 0;
+            *count = 0;
+            DONE
+        }
+        Polled::Refused(refusal) => code(refusal),
+    }
+}
+
+pub fn give_poll(answer: PollReply, row: &mut [u64], result: &mut u8, size: &mut usize) -> u32
+    ensures { λ r. ⌜ Kept (λ a. a ≡ saysPollReply answer) poll (stateRow (now (row .entry))) (now (result .entry) ∷ now (size .entry) ∷ []) (now (result .exit) ∷ now (size .exit) ∷ []) (now (row .entry)) (now (row .exit)) r ⌝ }
+{
+    match answer {
+        PollReply::TryAgain(next) => {
+            rows::put_connection(row, next);
+            *result = 0;
+            *size = 0;
+            DONE
+        }
+        PollReply::NoReply(next) => {
+            rows::put_connection(row, next);
+            *result = 1;
+            *size = 0;
+            DONE
+        }
+        PollReply::Reply(n, next) => {
+            rows::put_connection(row, next);
+            *result = 2;
+            *size = n;
+            DONE
+        }
+        PollReply::Refused(refusal) => code(refusal),
+    }
+}
+
+pub fn give_event(
+    answer: Event,
+    row: &mut [u64],
+    found: &mut u8,
+    number: &mut u64,
+    size: &mut usize,
+) -> u32
+    ensures { λ r. ⌜ Kept (λ a. a ≡ saysEvent answer) event (stateRow (now (row .entry))) (now (found .entry) ∷ now (number .entry) ∷ now (size .entry) ∷ []) (now (found .exit) ∷ now (number .exit) ∷ now (size .exit) ∷ []) (now (row .entry)) (now (row .exit)) r ⌝ }
+{
+    match answer {
+        Event::Packet(given, n, next) => {
+            rows::put_connection(row, next);
+            *found = 1;
+            *number = given.0;
+            *size = n;
+            DONE
+        }
+        Event::Nothing(next) => {
+            rows::put_connection(row, next);
+            *found = 0;
+            *number = 0;
+            *size = 0;
+            DONE
+        }
+        Event::Refused(refusal) => code(refusal),
+    }
+}
+
+pub fn give_closed(answer: Closed, row: &mut [u64], count: &mut usize) -> u32
+    ensures { λ r. ⌜ Kept (λ a. a ≡ saysClosed answer) first (stateRow (now (row .entry))) (now (count .entry) ∷ []) (now (count .exit) ∷ []) (now (row .entry)) (now (row .exit)) r ⌝ }
+{
+    match answer {
+        Closed::Taken(n, next) => {
+            rows::put_connection(row, next);
+            *count = n;
+            DONE
+        }
+        Closed::Refused(refusal) => code(refusal),
+    }
+}

@@ -1,0 +1,32 @@
+-- `rows::state::put_ids` meets its contract. Assumes nothing.
+use borrow.Author.Tests.{eq-eqb, ne-eqb}
+use Rattle.octets.specs.Logic.{choose}
+use Rattle.rows.specs.State.{row}
+use borrow.Author.Needs.{needs}
+use Rattle.rows.proofs.state.put_ids.Statement.{statement}
+use Rattle.rows.proofs.state.put_ids.Tie as tie
+
+returns : tie.Need-returns
+unfolding row choose
+returns c = simp (ne-eqb _ _ (c .if1 .taken))
+
+slice-write-s : tie.Need-slice-write-s
+slice-write-s c = search needs
+
+slice-write-s-2 : tie.Need-slice-write-s-2
+slice-write-s-2 c = search needs
+
+slice-write-s-3 : tie.Need-slice-write-s-3
+slice-write-s-3 c = search needs
+
+same-length : tie.Need-same-length
+same-length c = search needs
+
+returns-2 : tie.Need-returns-2
+unfolding row choose
+returns-2 c = simp (eq-eqb _ _ (c .if1 .left))
+
+pub put-ids-spec : {M : Type 1} → statement M
+put-ids-spec =
+    tie.close
+    (tie.spec returns slice-write-s slice-write-s-2 slice-write-s-3 same-length returns-2)
