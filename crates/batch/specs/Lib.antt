@@ -8,3 +8,4 @@ pub mod Feed
 pub mod FeedLaws
 pub mod FeedLoop
 pub mod FeedTheorems
+pub mod Examples

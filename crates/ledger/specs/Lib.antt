@@ -13,5 +13,6 @@ pub mod Used
 pub mod SendsLaws
 pub mod Outcomes
 pub mod Many
+pub mod Again
 pub mod EncodingLaws
 pub mod Theorems

@@ -4,7 +4,7 @@ use mathlib.Core.List.{List, _∷_, _++_}
 use mathlib.Core.Logic.{_↔_}
 use mathlib.Core.Path.{_≡_, sym}
 use Prim.Native.Nat.{ℕ, _+_, _-_, _≤_, _<_}
-use lib.ListN.{length, getD}
+use lib.ListN.{length, getD, drop}
 use Rattle.refusal.specs.Answer.{Answer, gives, refuses}
 use Rattle.sequence.specs.Sending.{syncSpan}
 use Rattle.descriptors.specs.Room.{count}
@@ -20,7 +20,7 @@ use Rattle.model.specs.Sound.{Sound, soundb}
 use Rattle.model.specs.SendRequests.{Sendings, sendRequests, ShownSendings}
 use Rattle.model.specs.PollForEvents.{Handings, pollForEvents, ShownHandings}
 use Rattle.model.specs.SaysBatch.{saysSentMany, saysEvents}
-use Rattle.model.specs.Feed.{ShownFed, saysFed}
+use Rattle.model.specs.Feed.{ShownFed, saysFed, Feeding, bytesOf}
 use Rattle.model.specs.declared.Connection.{Connection}
 use Rattle.model.specs.declared.DiscardMode.{DiscardMode}
 use Rattle.model.specs.declared.ReplyFdKind.{ReplyFdKind}
@@ -37,6 +37,7 @@ use Rattle.model.specs.declared.SentMany.{SentMany}
 use Rattle.model.specs.declared.Events.{Events}
 use Rattle.model.specs.declared.Fed.{Fed}
 use Rattle.sending.specs.Send.{same}
+use Rattle.batch.specs.Feed.{enqueuePackets}
 use Rattle.connection.specs.Calls.{Opens, Sends, EnqueuesFds, Enqueues, Discards, Polls, Checks, PollsReply, PollsEvent, Closes, Prepares, SendsMany, EnqueuesMany, PollsEvents}
 use Rattle.connection.specs.Opening as Opening
 use Rattle.connection.specs.Theorems.{Sentence}
@@ -59,6 +60,7 @@ use Rattle.ledger.specs.Used as Used
 use Rattle.ledger.specs.SendsLaws as SendsLaws
 use Rattle.ledger.specs.Outcomes as Outcomes
 use Rattle.ledger.specs.Many as Many
+use Rattle.ledger.specs.Again as Again
 
 -- ---- 1. SOUND EXACTLY
 
@@ -320,6 +322,11 @@ events-first c room marks x c' e = Many.events-first c room marks x c' e
 pub poll-for-events-in-order : (c : Connection) (r : Rooms) (out marks : List ℕ) (v : ShownHandings) (c' : Connection) (r' : Rooms) (out' marks' : List ℕ) → PollsEvents c r out marks (gives (v, c')) r' out' marks'
     → Many.InOrder c r out marks v c' r' out' marks'
 poll-for-events-in-order c r out marks v c' r' out' marks' h = Many.events-in-order c r out marks v c' r' out' marks' h
+
+-- A run of bytes in two pieces is the run: where `enqueue_packets` stopped for want of bytes, what it left with more behind it brings to the same packets and the same state as all at once.
+pub feed-again : (m : Client) (a b : List ℕ) (f : Feeding) (m' : Client) → gives (f, m') ≡ enqueuePackets m a → Again.Waits (f .stopped)
+    → enqueuePackets m (a ++ b) ≡ Again.after (f .packets) (enqueuePackets m' (drop (bytesOf (f .packets)) a ++ b))
+feed-again m a b f m' e h = Again.again m a b f m' e h
 
 -- ---- 8. A FRESH ENGINE BEHAVES AS THE VALUE TABLE SAYS
 

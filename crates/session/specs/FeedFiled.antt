@@ -54,7 +54,7 @@ row-honest o (p ∷ ps) [] n h = h
 row-honest o (p ∷ ps) (v ∷ vs) n h = noted-honest o (next (n .numbers)) p (v .filing) (n .log) (row-honest o ps vs (notePacket p v n) h) .1
 
 -- a packet that is taken keeps the byte order
-order-kept : (m : Client) (p : List ℕ) (x : Filing × Client) → gives x ≡ enqueuePacket m p → x .1 .order ≡ m .order
+pub order-kept : (m : Client) (p : List ℕ) (x : Filing × Client) → gives x ≡ enqueuePacket m p → x .1 .order ≡ m .order
 order-kept m p x e = go (unnumbered p) refl
   where
     go : (b : Bool) → unnumbered p ≡ b → x .1 .order ≡ m .order
