@@ -1,5 +1,5 @@
 # The commands of the README, and the benchmark of docs/BENCH.md.
-.PHONY: run test bench bench-rooms bench-beside library beside record second fuzz house
+.PHONY: run test bench bench-rooms bench-beside bench-counts library beside record second fuzz house
 
 # Prove the program `packets` and what it stands on, and run it on bytes that an X server sent.
 run:
@@ -73,3 +73,7 @@ bench-beside: $(ARCHIVE)
 	cd rust && XIENGMADO_RUST="$(abspath $(RUST))" cargo build --offline --quiet --release -p bench
 	rust/target/release/bench docs/bench.svg $(ARGS)
 	rust/target/release/memory
+
+# Instructions instead of times, after bench-beside: they do not depend on what else the machine does.
+bench-counts:
+	bench/instructions $(ARGS)

@@ -115,14 +115,14 @@ pub fn rows(part: &str) -> Vec<Row> {
     let mut rows = Vec::new();
     for n in [16, 100, 1_000, 10_000] {
         let name = format!("{n} requests at once");
-        if name.contains(part) {
+        if measure::named(&name, part) {
             let kinds = vec![0; n];
             rows.push(row!(&name, n, sends, &kinds));
         }
     }
     for n in [16, 100, 1_000, 10_000, 100_000, 300_000] {
         let name = format!("{n} events in and out at once");
-        if name.contains(part) {
+        if measure::named(&name, part) {
             rows.push(row!(&name, n, burst, n));
         }
     }

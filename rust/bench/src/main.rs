@@ -5,7 +5,7 @@
 //! runs; the table goes to standard output as Markdown and the plot to the file that is named.
 //!
 //! ```text
-//! bench PLOT.svg [PART]      all rows, or those whose name has the part
+//! bench PLOT.svg [PART]      all rows, or those whose name has the part; one with a full stop is a whole name
 //! ```
 
 #[cfg(all(published, feature = "batch"))]

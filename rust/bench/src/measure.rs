@@ -60,6 +60,31 @@ pub fn compare(name: &str, logs: &[Log]) {
     }
 }
 
+/// Whether a row is asked for: its name has the part, or is the part with a full stop behind it.
+pub fn named(name: &str, part: &str) -> bool {
+    match part.strip_suffix('.') {
+        Some(whole) => name == whole,
+        None => name.contains(part),
+    }
+}
+
+/// For `bench/instructions`, which counts: the side COUNT_SIDE makes COUNT_RUNS runs, the others none, and
+/// nothing is timed.
+fn counted(per: f64, sides: &mut [(&'static str, Side)]) -> bool {
+    let Ok(wanted) = std::env::var("COUNT_SIDE") else {
+        return false;
+    };
+    let runs = std::env::var("COUNT_RUNS").expect("COUNT_RUNS is set");
+    let runs: usize = runs.parse().expect("COUNT_RUNS is a number");
+    for (_, run) in sides.iter_mut().filter(|(side, _)| *side == wanted) {
+        for _ in 0..runs {
+            run();
+        }
+        println!("{per}");
+    }
+    true
+}
+
 /// Times the sides by turns, the Rust first; per is by what a run is divided, in nanoseconds.
 pub fn row(
     name: &str,
@@ -70,6 +95,9 @@ pub fn row(
 ) -> Row {
     let mut times = vec![Vec::new(); sides.len()];
     let start = Instant::now();
+    if counted(per, &mut sides) {
+        std::process::exit(0);
+    }
     while times[0].len() < LEAST || (times[0].len() < MOST && start.elapsed() < SPAN) {
         for (times, (_, side)) in times.iter_mut().zip(&mut sides) {
             times.push(side().as_nanos() as f64 / per);

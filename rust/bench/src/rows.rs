@@ -39,7 +39,7 @@ pub fn all(part: &str) -> Vec<Row> {
     rows.extend(leaves());
     let mut made: Vec<Row> = rows
         .into_iter()
-        .filter(|(name, _)| name.contains(part))
+        .filter(|(name, _)| measure::named(name, part))
         .map(|(name, make)| make(name))
         .collect();
     #[cfg(feature = "batch")]

@@ -6,7 +6,8 @@ use std::time::{Duration, Instant};
 use crate::chance::Chance;
 use crate::sides::{Client, Frames, Handshake, Ids, See};
 
-/// The time of a part of a run.
+/// The time of a part of a run. Not inlined: `bench/instructions` counts what is done in here.
+#[inline(never)]
 pub fn timed(part: impl FnOnce()) -> Duration {
     let start = Instant::now();
     part();
