@@ -2,13 +2,15 @@
 use mathlib.Core.Path.{_≡_, refl}
 use mathlib.Core.Bool.{Bool, true, false, not}
 use mathlib.Core.List.{List, [], _∷_, _++_}
-use Prim.Native.Nat.{ℕ}
-use lib.ListN.{replicate, getD}
+use Prim.Native.Nat.{ℕ, _≤_, _<_}
+use native.Mathlib.Omega.{arith}
+use lib.ListN.{length, replicate}
+use borrow.Author.Tests.{le-ltb, lt-ltb}
 use Rattle.octets.specs.Logic.{choose, both, either}
-use Rattle.octets.specs.Bytes.{bytesOf, numberIn, lowBytes, lowNumber, turned}
+use Rattle.octets.specs.Bytes.{legal, bytesOf, numberIn, lowBytes, lowNumber, turned}
 use Rattle.octets.specs.Put.{cut}
 use Rattle.octets.specs.Field.{field}
-use Rattle.refusal.specs.Answer.{refuse, pass}
+use Rattle.refusal.specs.Answer.{gives, refuses, refuse, pass}
 use Rattle.sequence.specs.Numbering.{full, inRange}
 use Rattle.sequence.specs.Sending.{sending, mustSync}
 use Rattle.requests.specs.Room.{underMode}
@@ -29,6 +31,10 @@ kept n p fds = record { number = n; packet = p; descriptors = fds }
 -- a state with these numbers and nothing else
 abbrev numbersAt : ℕ → ℕ → ℕ → Client
 numbersAt w e r = record { order = 108; most-requests = 4; most-bytes = 500; numbers = record { written = w; expected = e; read = r }; outstanding = []; replies = []; events = []; waiting = []; closing = [] }
+
+-- the same with as many requests outstanding as there is room for
+abbrev fullAt : ℕ → ℕ → ℕ → Client
+fullAt w e r = record { order = 108; most-requests = 1; most-bytes = 500; numbers = record { written = w; expected = e; read = r }; outstanding = Model.joining NoReply ∷ []; replies = []; events = []; waiting = []; closing = [] }
 
 -- a row: a state, the calls made from there, each with what it says
 pub record Row : Type 0 where
@@ -136,10 +142,52 @@ row12 = record {
   said = refused 3 ∷ refused 3 ∷ refused 3 ∷ filed Events 9223372036854775807 ∷ [];
 }
 
+-- where two refusals apply, the rules' first is given: on sending 3, 6, 5;
+abbrev row13 : Row
+row13 = record { start = numbersAt 9223372036854775807 0 0; calls = send NoReply ∷ []; said = refused 3 ∷ [] }
+
+abbrev row14 : Row
+row14 = record { start = fullAt 65534 0 0; calls = send NoReply ∷ send ReplyWithoutFds ∷ []; said = refused 6 ∷ refused 5 ∷ [] }
+
+-- on intake 1 (31 bytes are too few) before 3,
+abbrev row15 : Row
+row15 = record { start = numbersAt 0 0 9223372036854775807; calls = enqueue (2 ∷ replicate 30 0) ∷ enqueue (pk 2 0 0) ∷ []; said = refused 1 ∷ refused 3 ∷ [] }
+
+-- and 4 before 5.
+abbrev row16 : Row
+row16 = record {
+  start = Model.fresh 108 4 48;
+  calls = send ReplyWithFds ∷ enqueue (pk 1 0 1) ∷ enqueue (pk 1 1 1) ∷ enqueue (pk 1 0 1) ∷ [];
+  said = number 1 ∷ filed Replies 1 ∷ refused 4 ∷ refused 5 ∷ [];
+}
+
+-- 256 descriptors are inside, and no more
+abbrev row17 : Row
+row17 = record {
+  start = Model.fresh 108 4 500;
+  calls = enqueue-fds (replicate 256 7) ∷ enqueue-fds [] ∷ enqueue-fds (7 ∷ []) ∷ [];
+  said = done ∷ done ∷ refused 5 ∷ [];
+}
+
 abbrev pub table : List Row
-table = row1 ∷ row2 ∷ row3 ∷ row4 ∷ row5 ∷ row6 ∷ row7 ∷ row8 ∷ row9 ∷ row10 ∷ row11 ∷ row12 ∷ []
+table = row1 ∷ row2 ∷ row3 ∷ row4 ∷ row5 ∷ row6 ∷ row7 ∷ row8 ∷ row9 ∷ row10 ∷ row11 ∷ row12 ∷ row13 ∷ row14 ∷ row15 ∷ row16 ∷ row17 ∷ []
 
 -- THE EXAMPLES: each row runs as it says.
 pub examples : All table
 unfolding run step Model.sendRequest Model.enqueueFds Model.enqueuePacket Model.discardReply Model.takeClosed Model.pollForReplyOrError Model.pollCheck Model.pollForReply Model.prepareCheck Model.pollForEvent Model.find pass refuse sending mustSync both either choose Model.numberOf inRange full field numberIn cut turned bytesOf lowBytes lowNumber Model.numbered Model.askedOf Model.headOf Model.placeOf Model.claimed Model.takeIn costs descriptorsOf Model.withMode underMode Model.ofNumber Model.notOf Model.above Model.errorsOf Model.turned
-examples = (refl, (refl, (refl, (refl, (refl, (refl, (refl, (refl, (refl, (refl, (refl, (refl, tt))))))))))))
+examples = (refl, (refl, (refl, (refl, (refl, (refl, (refl, (refl, (refl, (refl, (refl, (refl, (refl, (refl, (refl, (refl, (refl, tt)))))))))))))))))
+
+-- `new`: the ranges of the two rooms to their ends, 9 before 13
+pub starts : (Model.new 108 1 48 ≡ gives (Model.fresh 108 1 48)) × (Model.new 66 65536 16777216 ≡ gives (Model.fresh 66 65536 16777216)) × (Model.new 108 0 48 ≡ refuses 9) × (Model.new 108 65537 48 ≡ refuses 9)
+    × (Model.new 108 1 47 ≡ refuses 9) × (Model.new 108 1 16777217 ≡ refuses 9) × (Model.new 0 1 48 ≡ refuses 13) × (Model.new 0 0 48 ≡ refuses 9)
+unfolding Model.new Model.roomy refuse both either legal
+starts = (refl, refl, refl, refl, refl, refl, refl, refl)
+
+-- A packet over 65,536 bytes is refused by 2, whatever its number would be; one of 32 to 65,536 is refused for no length.
+pub long-first : (c : Client) (p : List ℕ) → 65536 < length p → Model.enqueuePacket c p ≡ refuses 2
+unfolding Model.enqueuePacket refuse
+long-first c p h = let l : 32 ≤ length p = omega arith in simp (le-ltb (length p) 32 l, lt-ltb 65536 (length p) h)
+
+pub any-length : (c : Client) (p : List ℕ) → 32 ≤ length p → length p ≤ 65536 → Model.enqueuePacket c p ≡ pass (Model.numberOf c p) (λ n. Model.takeIn c p n (Model.askedOf c n))
+unfolding Model.enqueuePacket refuse
+any-length c p h k = simp (le-ltb (length p) 32 h, le-ltb 65536 (length p) k)

@@ -116,3 +116,7 @@ backAdvanced (refuses n) = Advanced.Refused (refusalOf n)
 pub advanced-one : (a b : Advanced) → saysAdvanced a ≡ saysAdvanced b → a ≡ b
 unfolding backAdvanced
 advanced-one = decides saysAdvanced backAdvanced (elim [ Advanced.NotYet r ↦ refl | Advanced.Packet n r ↦ refl | Advanced.Refused r ↦ ap Advanced.Refused (listed r) ])
+
+-- Any two parts that `buffer` may lend show the same and stand in the same place.
+pub lent-one : {r : PacketReader} {b p q : RefT (List ℕ)} → Lent r b p → Lent r b q → (p .now ≡ q .now) × (p .ptr ≡ q .ptr)
+lent-one x y = (x .shows ∙ sym (y .shows), x .stands ∙ sym (y .stands))
