@@ -1,14 +1,14 @@
--- 01, Refusal numbers, the order of refusals: where two apply, the first of the order is given. One row for each two neighbours that can apply at once; those of a handshake are in `connect`, those of a connection in `model`. Assumes nothing.
+-- 01, Refusal numbers: where two refusals apply, the first of the order is given. Of a handshake `connect` says so, and of a connection `model`. And the two byte orders. Assumes nothing.
 use mathlib.Core.Path.{_≡_, refl}
-use mathlib.Core.Bool.{Bool, true, false, not}
-use mathlib.Core.List.{List, [], _∷_, _++_}
+use mathlib.Core.Bool.{false}
+use mathlib.Core.List.{List, [], _∷_}
 use Prim.Native.Nat.{ℕ, _≤_, _<_}
 use native.Mathlib.Omega.{arith}
 use lib.ListN.{length, replicate}
 use borrow.Author.Tests.{le-ltb, lt-ltb}
-use Rattle.refusal.specs.Answer.{Answer, gives, refuses, refuse, after}
+use Rattle.refusal.specs.Answer.{Answer, refuses, refuse, after}
 use Rattle.octets.specs.Logic.{choose, both, either}
-use Rattle.octets.specs.Bytes.{legal, numberIn, lowNumber, turned}
+use Rattle.octets.specs.Bytes.{legal, lowBytes, bytesOf, numberIn, lowNumber, turned}
 use Rattle.octets.specs.Put.{cut}
 use Rattle.octets.specs.Field.{field}
 use Rattle.sequence.specs.Sending.{sending, mustSync}
@@ -64,3 +64,8 @@ requests = (refl, refl)
 pub readers : Gets (Reader.made 0 31) 9 × Gets (Reader.made 0 32) 13 × Gets (Reader.advanced (reader 0) (packet 1 1 0) 33) 9 × Gets (Reader.advanced (reader 108) (packet 1 1 0) 33) 7 × Gets (Reader.advanced (reader 108) (packet 1 1 0) 32) 2
 unfolding Reader.made Reader.room Reader.soundb Reader.advanced Reader.reached aim totalOf total hasLength legal field numberIn lowNumber turned cut choose refuse both either
 readers = (refl, refl, refl, refl, refl)
+
+-- Core, Connection Setup: `l` (108) is least significant byte first, `B` (66) most significant byte first
+pub byte-orders : (field 108 0 2 (1 ∷ 2 ∷ []) ≡ 513) × (field 66 0 2 (1 ∷ 2 ∷ []) ≡ 258) × (bytesOf 108 4 1 ≡ 1 ∷ 0 ∷ 0 ∷ 0 ∷ []) × (bytesOf 66 4 1 ≡ 0 ∷ 0 ∷ 0 ∷ 1 ∷ [])
+unfolding field numberIn lowNumber turned cut bytesOf lowBytes choose
+byte-orders = (refl, refl, refl, refl)
