@@ -65,7 +65,7 @@ part c s = choose (soundb c s) (cut (c .filled) (c .target - c .filled) s) []
 unfoldable pub start : Connect → List ℕ → ℕ
 start c s = choose (soundb c s) (c .filled) 0
 
--- `buffer` lends p of the buffer b: it shows that part, and stands where the part stands in the buffer.
+-- `buffer` lends p of the buffer b: it shows that part, and stands where the part stands in the buffer (a place is a block of memory and an index in it).
 pub record Lent (c : Connect) (b p : RefT (List ℕ)) : Type 0 where
   pub shows : p .now ≡ part c (b .now)
   pub stands : p .ptr ≡ (b .ptr .0, start c (b .now) + b .ptr .1)
