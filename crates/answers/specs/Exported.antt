@@ -1,8 +1,9 @@
 -- What an export does: what the promise of the call below it says, answered by a number. Assumes nothing.
-use mathlib.Core.Path.{_≡_, refl, subst, sym}
+use mathlib.Core.Path.{_≡_, refl, subst, sym, ap, _∙_}
 use mathlib.Core.Bool.{Bool, true, false}
 use mathlib.Core.List.{List}
 use Prim.Native.Nat.{ℕ}
+use Rattle.octets.specs.Logic.{apart}
 use Rattle.refusal.specs.Answer.{Answer, gives, refuses}
 
 -- the number that an export answers: 0, or that of the refusal
@@ -59,3 +60,24 @@ kept-by a p c w t = record { exported = record { answer = a; promise = p; number
 
 pub exported-by : {A : Type 0} {P : Answer A → Type 0} {show : A → List ℕ} {v v' : List ℕ} {code : ℕ} (a : Answer A) → P a → code ≡ codeOf a → v' ≡ shownOf show a v → Exported P show v v' code
 exported-by a p c w = record { answer = a; promise = p; number = c; values = w }
+
+-- Where the promise allows one answer, any two outcomes of an export are equal: the number returned, the numbers shown,
+pub exported-one : {A : Type 0} {P : Answer A → Type 0} {show : A → List ℕ} {v u w : List ℕ} {i j : ℕ} → ((a b : Answer A) → P a → P b → a ≡ b) → Exported P show v u i → Exported P show v w j → (i ≡ j) × (u ≡ w)
+exported-one {A} {show = show} {v = v} one x y =
+    let e : x .answer ≡ y .answer = one (x .answer) (y .answer) (x .promise) (y .promise) in
+    (x .number ∙ ap (λ (a : Answer A). codeOf a) e ∙ sym (y .number), x .values ∙ ap (λ (a : Answer A). shownOf show a v) e ∙ sym (y .values))
+
+-- and the row.
+pub kept-one : {A : Type 0} {P : Answer A → Type 0} {show put : A → List ℕ} {v u w s t z : List ℕ} {i j : ℕ} → ((a b : Answer A) → P a → P b → a ≡ b) → Kept P show put v u s t i → Kept P show put v w s z j
+    → (i ≡ j) × (u ≡ w) × (t ≡ z)
+kept-one {A} {put = put} {s = s} one x y =
+    let e : x .exported .answer ≡ y .exported .answer = one (x .exported .answer) (y .exported .answer) (x .exported .promise) (y .exported .promise) in
+    let k = exported-one one (x .exported) (y .exported) in
+    (k .0, k .1, x .state ∙ ap (λ (a : Answer A). shownOf put a s) e ∙ sym (y .state))
+
+-- A promise behind a test allows one answer where the promise itself does.
+pub when-one : {A : Type 0} {b : Bool} {same : Type 0} {P : Answer A → Type 0} → ((x y : Answer A) → P x → P y → x ≡ y) → (x y : Answer A) → When b same P x → When b same P y → x ≡ y
+when-one one x y (on h p) (on k q) = one x y p q
+when-one one x y (on h p) (off k s) = apart h k
+when-one one x y (off h s) (on k q) = apart k h
+when-one one x y (off h s) (off k t) = refl

@@ -1,19 +1,17 @@
 -- How many events come out, turn by turn. Assumes nothing.
 use mathlib.Core.Path.{_≡_, refl, sym, ap, _∙_, subst}
 use mathlib.Core.Bool.{Bool, true, false}
-use mathlib.Core.List.{List, [], _∷_, _++_, append-nil, append-assoc}
-use Prim.Native.Nat.{ℕ, zero, suc, _+_, _-_, _*_, _≤_, _<_}
+use mathlib.Core.List.{List, [], _++_, append-assoc}
+use Prim.Native.Nat.{ℕ, _+_, _-_, _≤_, _<_}
 use native.Mathlib.Omega.{arith}
 use native.Mathlib.Decide.{decLe}
-use lib.Dec.{leb, ltb, eqb}
+use lib.Dec.{leb, ltb}
 use lib.ListN.{length, take, drop, set, length-drop, take-append-drop}
 use lib.Seq.{drop-append-le, drop-drop, length-take-le}
-use borrow.Author.Tests.{le-leb, lt-leb, leb-true, leb-false, ltb-false, lt-ltb, le-ltb, eq-eqb, ne-eqb}
+use borrow.Author.Tests.{le-leb, lt-leb, ltb-false}
 use Rattle.octets.specs.Logic.{choose}
 use Rattle.octets.specs.Put.{put, set-two}
 use Rattle.refusal.specs.Answer.{Answer, gives, refuses, refuse, gives-past, gives-rest}
-use Rattle.refusal.specs.Numbers.{numberOf}
-use Rattle.refusal.specs.declared.Refusal.{Refusal}
 use Rattle.sequence.specs.declared.SequenceNumber.{SequenceNumber}
 use Rattle.held.specs.Head as Record
 use Rattle.held.specs.Reading as Store
@@ -27,23 +25,17 @@ use Rattle.held.specs.declared.Place.{Place}
 use Rattle.model.specs.Client.{Held}
 use Rattle.model.specs.Model.{Taken, none, packet}
 use Rattle.model.specs.Reading.{Rooms, rooms, slotsOf}
-use Rattle.model.specs.Promise.{Done, Exact, answerOf, roomsOf, outputOf, gives-same}
-use Rattle.model.specs.Batch.{Turn, goes, stops, Many, onward, many, Stop, ended, refused, Site, site, exactTurn}
-use Rattle.model.specs.BatchLaws.{exact-gave, exact-stayed, row-goes, row-stops}
-use Rattle.model.specs.Says.{ShownEvent, event, noEvent, shownEvent, bytesOfTaken, saysEvent}
-use Rattle.model.specs.SaysBatch.{saysStop, saysEvents}
-use Rattle.model.specs.PollForEvents.{turns, Lent, lent, roomFor, handing, Handings, orRefused, packetsOf, marksOf, shownHandings, packetsOfHandings, marksOfHandings}
+use Rattle.model.specs.Promise.{Done, Exact, outputOf, gives-same}
+use Rattle.model.specs.BatchLaws.{exact-gave}
+use Rattle.model.specs.Says.{event, noEvent, shownEvent, bytesOfTaken, saysEvent}
+use Rattle.model.specs.PollForEvents.{roomFor}
 use Rattle.model.specs.declared.Connection.{Connection}
 use Rattle.model.specs.declared.Event.{Event}
 use Rattle.model.specs.declared.Event.the-variants as Event
-use Rattle.model.specs.declared.Events.{Events}
-use Rattle.model.specs.declared.Events.the-variants as Events
-use Rattle.model.specs.declared.Stop.the-variants as Stops
-use Rattle.model.specs.declared.Stop as Declared
 use Rattle.polling.specs.Exact.{eventAt, without, stays, moved, leftState, eventFrom, eventExact, EventStep}
 use Rattle.polling.specs.Left.{event-is}
-use Rattle.polling.specs.Theorems.{ready, event-leaves}
-use Rattle.batch.specs.Events.{eventStep, handedExact, eventsExact, placed, marked, Markable, roomLeft, TurnStep, stoppedBy, Stored, EventsStep}
+use Rattle.polling.specs.Theorems.{ready}
+use Rattle.batch.specs.Events.{placed, marked, Markable, roomLeft, TurnStep, Stored}
 
 -- ---- what is found decides a poll
 

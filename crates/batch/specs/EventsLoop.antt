@@ -1,8 +1,8 @@
 -- The loop over events: what was handed out stands in the outputs, and the rest leaves what the whole leaves. Assumes nothing.
 use mathlib.Core.Path.{_≡_, refl, sym, ap, _∙_, subst}
-use mathlib.Core.Bool.{Bool, true, false}
+use mathlib.Core.Bool.{Bool, true}
 use mathlib.Core.List.{List, [], _∷_, _++_, append-nil, append-assoc}
-use Prim.Native.Nat.{ℕ, zero, suc, _+_, _-_, _*_, _≤_, _<_}
+use Prim.Native.Nat.{ℕ, zero, suc, _+_, _-_, _*_, _≤_}
 use native.Mathlib.Omega.{arith}
 use lib.Dec.{leb, eqb}
 use lib.ListN.{length, length-append}
@@ -14,15 +14,15 @@ use Rattle.refusal.specs.Numbers.{numberOf}
 use Rattle.refusal.specs.declared.Refusal.{Refusal}
 use Rattle.sequence.specs.declared.SequenceNumber.{SequenceNumber}
 use Rattle.model.specs.Client.{Held}
-use Rattle.model.specs.Model.{Taken, none, packet}
+use Rattle.model.specs.Model.{none, packet}
 use Rattle.model.specs.Reading.{Rooms, rooms}
 use Rattle.model.specs.Sound.{Sound}
-use Rattle.model.specs.Promise.{Done, Exact, answerOf, roomsOf, outputOf}
-use Rattle.model.specs.Batch.{Turn, goes, stops, Many, onward, many, Stop, ended, refused, Site, site, exactTurn}
+use Rattle.model.specs.Promise.{answerOf, roomsOf, outputOf}
+use Rattle.model.specs.Batch.{goes, stops, onward, many, Stop, ended, refused, site, exactTurn}
 use Rattle.model.specs.BatchLaws.{exact-stayed, row-goes, row-stops}
 use Rattle.model.specs.Says.{shownEvent, bytesOfTaken}
 use Rattle.model.specs.SaysBatch.{saysStop}
-use Rattle.model.specs.PollForEvents.{turns, Lent, lent, roomFor, handing, Handings, orRefused, packetsOf, marksOf, shownHandings, packetsOfHandings, marksOfHandings}
+use Rattle.model.specs.PollForEvents.{turns, lent, roomFor, handing, orRefused, packetsOf, marksOf, shownHandings, packetsOfHandings, marksOfHandings}
 use Rattle.model.specs.declared.Connection.{Connection}
 use Rattle.model.specs.declared.Event.{Event}
 use Rattle.model.specs.declared.Event.the-variants as Event

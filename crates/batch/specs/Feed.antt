@@ -1,6 +1,6 @@
 -- PACKETS OF A RUN OF BYTES, taken in behind one test: what that is in the model, and exactly. Assumes nothing.
 use mathlib.Core.Path.{_≡_}
-use mathlib.Core.List.{List, [], _∷_}
+use mathlib.Core.List.{List}
 use Prim.Native.Nat.{ℕ}
 use lib.Dec.{ltb, eqb}
 use lib.ListN.{length, take}
@@ -15,7 +15,7 @@ use Rattle.model.specs.Model.{enqueuePacket}
 use Rattle.model.specs.Reading.{Rooms, rooms}
 use Rattle.model.specs.Promise.{Done, Exact}
 use Rattle.model.specs.Batch.{Turn, goes, stops, Many, many, Site, site, modelMany, exactMany}
-use Rattle.model.specs.Feed.{Stopped, ended, partial, refused, Took, Feeding, modelTook, exactTook, ShownFed, shownFed, saysHalt, saysFed}
+use Rattle.model.specs.Feed.{Stopped, ended, partial, refused, Took, Feeding, modelTook, exactTook, shownFed, saysHalt, saysFed}
 use Rattle.model.specs.declared.Connection.{Connection}
 use Rattle.model.specs.declared.Fed.{Fed}
 use Rattle.batch.specs.declared.feed.Turned.{Turned}

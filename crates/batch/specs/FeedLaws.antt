@@ -1,12 +1,12 @@
 -- Laws of packets that are taken in one after the other: a turn of the loop is the next of the row. Assumes nothing.
 use mathlib.Core.Path.{_≡_, refl, sym, ap, _∙_, subst}
 use mathlib.Core.Bool.{Bool, true, false}
-use mathlib.Core.List.{List, [], _∷_, _++_, append-nil}
-use Prim.Native.Nat.{ℕ, zero, suc, _+_, _-_, _≤_, _<_}
+use mathlib.Core.List.{List, [], _∷_, _++_}
+use Prim.Native.Nat.{ℕ, zero, suc, _+_, _≤_, _<_}
 use native.Mathlib.Omega.{arith}
-use lib.Dec.{ltb, eqb}
-use lib.ListN.{length, take, drop, getD, length-append}
-use lib.Seq.{length-take-le, getD-take, getD-drop, drop-drop}
+use lib.Dec.{ltb}
+use lib.ListN.{length, take, drop, getD}
+use lib.Seq.{length-take-le, getD-take, getD-drop}
 use borrow.Author.Tests.{ltb-true, ltb-false, lt-ltb, le-ltb, eq-eqb, ne-eqb}
 use Rattle.octets.specs.Logic.{choose}
 use Rattle.refusal.specs.Answer.{Answer, gives, refuses, refuse, pass}
@@ -18,14 +18,13 @@ use Rattle.held.specs.Head.{leastPacket, mostPacket}
 use Rattle.intake.specs.Plan.{planOf}
 use Rattle.intake.specs.Exact.{enqueueExact}
 use Rattle.intake.specs.Theorems.{enqueue-model, enqueue-sound}
-use Rattle.model.specs.Client.{Client}
 use Rattle.model.specs.Model.{Filing, enqueuePacket}
-use Rattle.model.specs.Reading.{Rooms, rooms, reads}
+use Rattle.model.specs.Reading.{Rooms, reads}
 use Rattle.model.specs.Promise.{Done, modelOf, gives-same}
 use Rattle.model.specs.Sound.{Sound}
-use Rattle.model.specs.Batch.{Turn, goes, stops, Many, onward, onTurn, many, Site, site, readSite, readTurn, Each}
+use Rattle.model.specs.Batch.{Turn, goes, stops, onward, Site, site, readSite, readTurn, Each}
 use Rattle.model.specs.BatchLaws.{goes-one, row-model, row-sound, row-goes, row-stops, row-ends}
-use Rattle.model.specs.Feed.{Stopped, ended, partial, refused, Took, Feeding, bytesOf, modelTook, exactTook}
+use Rattle.model.specs.Feed.{Stopped, ended, partial, refused, Took, Feeding, modelTook, exactTook}
 use Rattle.model.specs.declared.Connection.{Connection}
 use Rattle.batch.specs.Feed.{stopAt, feeding, enqueuePackets, packetTurn, row, feedExact, turnBy}
 

@@ -1,7 +1,7 @@
 -- How a turn comes out, and what the loop over a run of bytes keeps. Assumes nothing.
 use mathlib.Core.Path.{_≡_, refl, sym, ap, _∙_, subst}
 use mathlib.Core.List.{List, [], _∷_, _++_, append-nil}
-use Prim.Native.Nat.{ℕ, zero, suc, _+_, _-_, _≤_, _<_}
+use Prim.Native.Nat.{ℕ, _+_, _-_, _≤_, _<_}
 use native.Mathlib.Omega.{arith}
 use lib.ListN.{length, take, drop, getD, length-append, length-drop, drop-of-length-le}
 use lib.Seq.{getD-take, getD-drop, drop-drop, take-length}
@@ -10,7 +10,7 @@ use Rattle.refusal.specs.Numbers.{numberOf}
 use Rattle.refusal.specs.declared.Refusal.{Refusal}
 use Rattle.refusal.specs.declared.Refusal.the-variants as Refusal
 use Rattle.sequence.specs.declared.SequenceNumber.{SequenceNumber}
-use Rattle.packet_reader.specs.Frame.{aim, cutPackets}
+use Rattle.packet_reader.specs.Frame.{cutPackets}
 use Rattle.packet_reader.specs.CutLaws.{aim-least}
 use Rattle.packet_reader.specs.Front.{Front, frontOf, saysBegins, Whole, tells-whole, packets-none}
 use Rattle.packet_reader.specs.declared.Begins.{Begins}
@@ -22,9 +22,9 @@ use Rattle.model.specs.Reading.{Rooms, rooms}
 use Rattle.model.specs.Promise.{Done, answerOf, roomsOf, gives-same}
 use Rattle.model.specs.Says.{saysEnqueued}
 use Rattle.model.specs.Sound.{Sound}
-use Rattle.model.specs.Batch.{Turn, goes, stops, Many, onward, many, Site, site, exactMany}
+use Rattle.model.specs.Batch.{Turn, goes, stops, onward, Site, site, exactMany}
 use Rattle.model.specs.BatchLaws.{row-ends}
-use Rattle.model.specs.Feed.{Stopped, ended, partial, refused, Took, Feeding, bytesOf, exactTook, ShownFed, shownFed, saysHalt}
+use Rattle.model.specs.Feed.{Stopped, ended, refused, Took, bytesOf, exactTook, shownFed, saysHalt}
 use Rattle.model.specs.declared.Connection.{Connection}
 use Rattle.model.specs.declared.Place.{Place}
 use Rattle.model.specs.declared.Enqueued.{Enqueued}
@@ -34,7 +34,7 @@ use Rattle.model.specs.declared.Halt.the-variants as Halt
 use Rattle.model.specs.declared.Fed.the-variants as Fed
 use Rattle.batch.specs.declared.feed.Turned.{Turned}
 use Rattle.batch.specs.declared.feed.Turned.the-variants as Turned
-use Rattle.batch.specs.Feed.{stopAt, feeding, packetTurn, row, feedExact, FeedStep, turnBy, ShownTurn, on, halted, shownTurn, leftBy, saysTurned, TurnIs, PacketTurn, FrontTurn}
+use Rattle.batch.specs.Feed.{stopAt, feeding, packetTurn, row, feedExact, FeedStep, turnBy, on, halted, shownTurn, leftBy, saysTurned, TurnIs, PacketTurn, FrontTurn}
 use Rattle.batch.specs.FeedLaws.{Goes, turn-goes, turn-stops, stop-nothing}
 
 -- ---- a packet

@@ -1,8 +1,8 @@
 -- What is certain of the packets of a run that are taken in behind one test. Assumes nothing.
-use mathlib.Core.Path.{_≡_, refl, sym, ap, _∙_, subst}
-use mathlib.Core.Bool.{Bool, true, false}
-use mathlib.Core.List.{List, [], _∷_, _++_}
-use Prim.Native.Nat.{ℕ, zero, suc, _+_, _≤_, _<_}
+use mathlib.Core.Path.{_≡_, refl, sym, ap, _∙_}
+use mathlib.Core.Bool.{Bool}
+use mathlib.Core.List.{List, [], _∷_}
+use Prim.Native.Nat.{ℕ, zero, suc, _+_, _≤_}
 use native.Mathlib.Omega.{arith}
 use lib.Dec.{ltb, eqb}
 use lib.ListN.{length, take, length-append}
@@ -20,7 +20,7 @@ use Rattle.packet_reader.specs.Front.{packets-whole}
 use Rattle.packet_reader.specs.declared.PacketReader.{PacketReader}
 use Rattle.model.specs.Client.{Client}
 use Rattle.model.specs.Model.{Filing, enqueuePacket}
-use Rattle.model.specs.Batch.{Turn, goes, stops, Many, onward, onTurn, many, modelMany}
+use Rattle.model.specs.Batch.{Turn, goes, stops, onward, onTurn, many, modelMany}
 use Rattle.model.specs.Feed.{Stopped, ended, partial, refused, Took, Feeding, bytesOf, modelTook}
 use Rattle.batch.specs.Feed.{stopAt, feeding, enqueuePackets}
 

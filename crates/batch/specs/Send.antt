@@ -1,5 +1,4 @@
 -- Many requests sent, exactly: a row of single sends. Assumes nothing.
-use mathlib.Core.Bool.{Bool}
 use mathlib.Core.List.{List}
 use Prim.Native.Nat.{ℕ}
 use lib.Dec.{ltb}

@@ -1,24 +1,22 @@
 -- How many sends come out, turn by turn. Assumes nothing.
 use mathlib.Core.Path.{_≡_, refl, sym, ap, _∙_, subst}
-use mathlib.Core.Bool.{Bool, true, false}
 use mathlib.Core.List.{List, [], _∷_, _++_, append-nil}
 use Prim.Native.Nat.{ℕ, zero, suc, _+_, _≤_, _<_}
 use native.Mathlib.Omega.{arith}
 use native.Mathlib.Numerals.{add-one}
-use lib.Dec.{ltb}
 use lib.ListN.{length, drop, getD, drop-of-length-le, length-append}
 use lib.Seq.{drop-cons}
 use borrow.Author.Tests.{lt-ltb, le-ltb}
 use Rattle.octets.specs.Logic.{choose}
-use Rattle.refusal.specs.Answer.{Answer, gives, refuses}
-use Rattle.requests.specs.Room.{putRequest, capacity}
+use Rattle.refusal.specs.Answer.{gives}
+use Rattle.requests.specs.Room.{capacity}
 use Rattle.model.specs.Reading.{Rooms, rooms, reads}
-use Rattle.model.specs.Promise.{Done, Exact, answerOf, roomsOf}
-use Rattle.model.specs.Sound.{Numbers, Sound, room-there}
-use Rattle.model.specs.Batch.{Turn, goes, stops, Many, onward, many, Stop, ended, refused, meaningless, Site, site, exactTurn, exactMany}
+use Rattle.model.specs.Promise.{answerOf, roomsOf}
+use Rattle.model.specs.Sound.{Numbers, room-there}
+use Rattle.model.specs.Batch.{goes, stops, onward, many, Stop, ended, refused, meaningless, Site, site, exactTurn, exactMany}
 use Rattle.model.specs.BatchLaws.{exact-gave, exact-stayed, row-goes, row-stops, row-ends}
-use Rattle.model.specs.SendRequests.{kinds, kindOf, Sendings, sendings, shownSendings}
-use Rattle.model.specs.SaysBatch.{saysStop, saysSentMany}
+use Rattle.model.specs.SendRequests.{kinds, kindOf, sendings, shownSendings}
+use Rattle.model.specs.SaysBatch.{saysStop}
 use Rattle.model.specs.declared.Connection.{Connection}
 use Rattle.model.specs.declared.ReplyFdKind.{ReplyFdKind}
 use Rattle.model.specs.declared.ReplyFdKind.the-variants as ReplyFdKind

@@ -6,7 +6,7 @@ use Prim.Native.Nat.{ℕ}
 use native.Mathlib.Omega.{arith}
 use lib.Dec.{ltb}
 use Rattle.octets.specs.Logic.{choose}
-use Rattle.refusal.specs.Answer.{Answer, gives}
+use Rattle.refusal.specs.Answer.{gives}
 use Rattle.model.specs.Reading.{Rooms, reads}
 use Rattle.model.specs.Promise.{Done, modelOf, gives-same}
 use Rattle.model.specs.Sound.{Sound}

@@ -1,5 +1,5 @@
 -- The handshake over its lent buffer: when it is sound, and what its calls answer. Assumes nothing.
-use mathlib.Core.Path.{_≡_, refl, ap}
+use mathlib.Core.Path.{_≡_, refl, sym, ap, _∙_}
 use mathlib.Core.Bool.{Bool, not}
 use mathlib.Core.List.{List, []}
 use Prim.Native.Nat.{ℕ, _+_, _-_, _*_}
@@ -65,7 +65,7 @@ part c s = choose (soundb c s) (cut (c .filled) (c .target - c .filled) s) []
 unfoldable pub start : Connect → List ℕ → ℕ
 start c s = choose (soundb c s) (c .filled) 0
 
--- `buffer` lends p of the buffer b: it shows that part, and stands where the part stands in the buffer.
+-- `buffer` lends p of the buffer b: it shows that part, and stands where the part stands in the buffer (a place is a block of memory and an index in it).
 pub record Lent (c : Connect) (b p : RefT (List ℕ)) : Type 0 where
   pub shows : p .now ≡ part c (b .now)
   pub stands : p .ptr ≡ (b .ptr .0, start c (b .now) + b .ptr .1)
@@ -131,3 +131,7 @@ backAdvanced (refuses n) = Advanced.Refused (refusalOf n)
 pub advanced-one : (a b : Advanced) → saysAdvanced a ≡ saysAdvanced b → a ≡ b
 unfolding backAdvanced
 advanced-one = decides saysAdvanced backAdvanced (elim [ Advanced.NotYet c ↦ refl | Advanced.Complete c ↦ refl | Advanced.Refused r ↦ ap Advanced.Refused (listed r) ])
+
+-- Any two parts that `buffer` may lend show the same and stand in the same place.
+pub lent-one : {c : Connect} {b p q : RefT (List ℕ)} → Lent c b p → Lent c b q → (p .now ≡ q .now) × (p .ptr ≡ q .ptr)
+lent-one x y = (x .shows ∙ sym (y .shows), x .stands ∙ sym (y .stands))

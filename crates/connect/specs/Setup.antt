@@ -37,7 +37,7 @@
 --      4                       unused
 --      v     STRING8           vendor
 -- and then the formats and screens, which are not read here.
-use mathlib.Core.Path.{_≡_, refl, ap}
+use mathlib.Core.Path.{_≡_, refl, sym, ap, _∙_}
 use mathlib.Core.Bool.{not}
 use mathlib.Core.List.{List}
 use Prim.Native.Nat.{ℕ, _+_, _*_}
@@ -172,3 +172,7 @@ back (refuses n) = SetupAnswer.Refused (refusalOf n)
 pub setup-one : (a b : SetupAnswer) → saysSetup a ≡ saysSetup b → a ≡ b
 unfolding back
 setup-one = decides saysSetup back (elim [ SetupAnswer.Success x ↦ refl | SetupAnswer.Failed x ↦ refl | SetupAnswer.Authenticate x ↦ refl | SetupAnswer.Refused r ↦ ap SetupAnswer.Refused (listed r) ])
+
+-- Any two texts that `vendor`, or `reason`, may show are the same and stand in the same place.
+pub shown-one : {a : Place} {b p q : RefT (List ℕ)} → Shown a b p → Shown a b q → (p .now ≡ q .now) × (p .ptr ≡ q .ptr)
+shown-one x y = (x .shows ∙ sym (y .shows), x .stands ∙ sym (y .stands))

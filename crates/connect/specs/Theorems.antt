@@ -1,7 +1,7 @@
 -- What is certain of a handshake. Assumes nothing.
 use mathlib.Core.Path.{_≡_, refl, sym, ap, _∙_, subst}
 use mathlib.Core.Bool.{Bool, true, false}
-use mathlib.Core.List.{List, [], _++_}
+use mathlib.Core.List.{List, [], _∷_, _++_}
 use Prim.Native.Nat.{ℕ, _+_, _-_, _*_, _≤_, _<_}
 use native.Mathlib.Omega.{arith}
 use native.Mathlib.Nat.{add-zero}
@@ -9,12 +9,13 @@ use lib.ListN.{length, take, drop, length-drop}
 use lib.Seq.{take-length}
 use lib.Dec.{ltb, eqb}
 use borrow.Author.Tests.{leb-true, ltb-true, lt-ltb, le-ltb, eq-eqb, eqb-true, not-false}
-use Rattle.octets.specs.Logic.{choose, both, both-left, both-right}
-use Rattle.octets.specs.Bytes.{legal}
+use Rattle.octets.specs.Logic.{choose, both, either, both-left, both-right}
+use Rattle.octets.specs.Bytes.{legal, numberIn, lowNumber, turned}
 use Rattle.octets.specs.Field.{field}
 use Rattle.octets.specs.Put.{put, cut, length-put, take-put, take-put-before}
 use Rattle.refusal.specs.Answer.{Answer, gives, refuses, refuse, gives-past, gives-rest}
-use Rattle.connect.specs.Handshake.{head, replyLength, aim, room, fresh, made, Progress, waits, complete, filledTo, reached, advanced}
+use Rattle.connect.specs.Request as Request
+use Rattle.connect.specs.Handshake.{head, replyLength, aim, room, soundb, fresh, made, Progress, waits, complete, filledTo, reached, advanced}
 use Rattle.connect.specs.Sound.{Sound, is-sound}
 use Rattle.connect.specs.AimLaws.{aim-head, aim-held}
 use Rattle.connect.specs.Feeding.{joined, stateOf, Feeds, isReply, Fed, moved, state-is, sound-filled, fed}
@@ -149,3 +150,23 @@ reason-all o b h =
     let l : length b ≡ head + 4 * field o 6 2 b = eqb-true _ _ (both-right _ _ h) in
     let k : length (drop head b) ≡ 4 * field o 6 2 b = omega (arith, length-drop head b) in
     ap (λ (n : ℕ). take n (drop head b)) (sym k) ∙ take-length (drop head b)
+
+-- ---- 01, Refusal numbers, the order of refusals: where two apply, the first of the order is given
+
+abbrev handshake : ℕ → Connect
+handshake order = record { order = order; filled = 0; target = head }
+
+-- eight bytes of a reply that begin with a status and end in a length, least significant byte first
+abbrev reply : ℕ → ℕ → List ℕ
+reply status units = status ∷ 0 ∷ 0 ∷ 0 ∷ 0 ∷ 0 ∷ units ∷ 0 ∷ []
+
+-- "setup request 13, 16, 8"
+pub request-order : (Request.room 0 65536 0 0 12 ≡ refuses 13) × (Request.room 108 65536 0 0 12 ≡ refuses 16) × (Request.room 108 0 65536 0 12 ≡ refuses 16) × (Request.room 108 65535 65535 0 12 ≡ refuses 8)
+unfolding Request.room legal refuse either
+request-order = (refl, refl, refl, refl)
+
+-- "advance 9, 7, 2"; "setup reading 9, 15, 14"; "elsewhere 9, then by number"
+pub handshake-order : (made 0 7 ≡ refuses 9) × (made 0 8 ≡ refuses 13) × (advanced (handshake 0) (reply 7 1) 9 ≡ refuses 9) × (advanced (handshake 108) (reply 7 1) 9 ≡ refuses 7)
+    × (advanced (handshake 108) (reply 7 1) 8 ≡ refuses 2) × (setup (handshake 0) (reply 7 0) ≡ refuses 9) × (setup (handshake 108) (reply 7 0) ≡ refuses 15)
+unfolding made room soundb advanced reached aim replyLength setup legal field numberIn lowNumber turned cut choose refuse both either
+handshake-order = (refl, refl, refl, refl, refl, refl, refl)

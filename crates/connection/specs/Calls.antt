@@ -1,15 +1,15 @@
--- The promises of calls that have a form of their own. Assumes nothing.
-use mathlib.Core.Path.{_≡_, refl, sym, ap, _∙_}
-use mathlib.Core.Bool.{Bool, true, false, not}
-use mathlib.Core.List.{List, []}
-use Prim.Native.Nat.{ℕ, _+_, _-_, _≤_, _<_}
-use lib.Dec.{eqb, ltb}
+-- THE PROMISES of the public calls, one by one. Assumes nothing.
+use mathlib.Core.Path.{_≡_}
+use mathlib.Core.Bool.{Bool, not}
+use mathlib.Core.List.{List}
+use Prim.Native.Nat.{ℕ}
+use lib.Dec.{eqb}
 use lib.ListN.{length}
 use Rattle.octets.specs.Bytes.{legal}
-use Rattle.refusal.specs.Answer.{Answer, gives, refuses, refuse, pass}
+use Rattle.refusal.specs.Answer.{Answer, gives, refuse, pass}
 use Rattle.model.specs.Client.{Client}
-use Rattle.model.specs.Model.{mostDescriptors, roomy, fresh, new, sendRequest, enqueueFds, takeClosed, Filing, enqueuePacket, discardReply, Taken, pollForReplyOrError, pollCheck, pollForReply, prepareCheck, pollForEvent}
-use Rattle.model.specs.Reading.{Rooms, rooms, reads}
+use Rattle.model.specs.Model.{mostDescriptors, roomy, new, sendRequest, enqueueFds, takeClosed, Filing, enqueuePacket, discardReply, pollForReplyOrError, pollCheck, pollForReply, prepareCheck, pollForEvent}
+use Rattle.model.specs.Reading.{Rooms, reads}
 use Rattle.model.specs.Promise.{Done, Exact, Promise, outputOf, modelOf, guarded}
 use Rattle.model.specs.Says.{Shown, shownTaken, ShownEvent, shownEvent, ShownPoll, shownPoll, bytesOfTaken, descriptorsOfTaken, bytesOfPoll}
 use Rattle.model.specs.SendRequests.{ShownSendings, shownSendings, sendRequests}

@@ -4,7 +4,7 @@ use mathlib.Core.Bool.{true, false}
 use mathlib.Core.List.{List}
 use Prim.Native.Nat.{ℕ}
 use lib.ListN.{length}
-use Rattle.refusal.specs.Answer.{Answer, gives, refuses}
+use Rattle.refusal.specs.Answer.{Answer, refuses}
 use Rattle.model.specs.Client.{Client}
 use Rattle.model.specs.Model.{pollForReplyOrError}
 use Rattle.model.specs.Reading.{Rooms, reads}

@@ -1,13 +1,12 @@
 -- A fresh connection is sound and is read as the model's. Assumes nothing.
 use mathlib.Core.Path.{_≡_, refl, sym, ap, _∙_, subst}
 use mathlib.Core.Bool.{Bool, true, false, not}
-use mathlib.Core.List.{List, [], map}
-use Prim.Native.Nat.{ℕ, _+_, _-_, _≤_, _<_}
+use mathlib.Core.List.{[], map}
+use Prim.Native.Nat.{ℕ, _≤_}
 use native.Mathlib.Omega.{arith}
-use lib.Dec.{leb, eqb}
 use lib.ListN.{length}
-use borrow.Author.Tests.{leb-true, eqb-true, eq-eqb, le-leb, lt-leb, ne-eqb, not-false}
-use Rattle.octets.specs.Logic.{both, both-left, both-right, both-yes}
+use borrow.Author.Tests.{leb-true, eqb-true, eq-eqb, ne-eqb, not-false}
+use Rattle.octets.specs.Logic.{both-left, both-right}
 use Rattle.octets.specs.Bytes.{legal}
 use Rattle.refusal.specs.Answer.{Answer, gives, refuses, refuse, pass, gives-past, gives-rest, refuse-under}
 use Rattle.requests.specs.Room.{outstanding, capacity}
@@ -19,9 +18,9 @@ use Rattle.descriptors.specs.Room as Slots
 use Rattle.descriptors.specs.Theorems as Fds
 use Rattle.model.specs.Client.{Client}
 use Rattle.model.specs.Model.{mostDescriptors, mostRequests, leastBytes, mostBytes, roomy, fresh, new}
-use Rattle.model.specs.Reading.{Rooms, rooms, reads, withDescriptors, eventOf, slotsOf}
-use Rattle.model.specs.Promise.{Done, Exact, answerOf, roomsOf, modelOf, exact-refused, exact-given, gives-same, model-refuse}
-use Rattle.model.specs.Sound.{Sound, soundb}
+use Rattle.model.specs.Reading.{Rooms, reads, withDescriptors, eventOf, slotsOf}
+use Rattle.model.specs.Promise.{Done, answerOf, roomsOf, modelOf, exact-refused, exact-given, gives-same, model-refuse}
+use Rattle.model.specs.Sound.{Sound}
 use Rattle.model.specs.declared.Connection.{Connection}
 use Rattle.sending.specs.Send.{same}
 use Rattle.connection.specs.Calls.{freshState, openExact, opened, Opens}

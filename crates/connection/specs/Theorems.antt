@@ -1,15 +1,13 @@
 -- What follows from the promises of the public calls. Assumes nothing.
 use mathlib.Core.Path.{_≡_, refl, sym, ap, _∙_, subst}
-use mathlib.Core.Bool.{Bool, true, false, not}
+use mathlib.Core.Bool.{true}
 use mathlib.Core.Logic.{_↔_}
-use mathlib.Core.List.{List}
 use Prim.Native.Nat.{ℕ, _+_, _<_}
 use native.Mathlib.Omega.{arith}
-use lib.Dec.{eqb}
 use lib.ListN.{length}
 use borrow.Author.Tests.{not-false}
 use Rattle.octets.specs.Bytes.{legal}
-use Rattle.refusal.specs.Answer.{Answer, gives, refuses, refuse, gives-past, gives-rest}
+use Rattle.refusal.specs.Answer.{Answer, gives, refuses, gives-past, gives-rest}
 use Rattle.requests.specs.Room as Room
 use Rattle.requests.specs.Theorems.{sized-is, legals-each}
 use Rattle.held.specs.Reading as Store
@@ -17,8 +15,8 @@ use Rattle.held.specs.Theorems as Held
 use Rattle.descriptors.specs.Room as Slots
 use Rattle.descriptors.specs.Theorems as Fds
 use Rattle.model.specs.Client.{Client}
-use Rattle.model.specs.Reading.{Rooms, count, slotsOf, reads}
-use Rattle.model.specs.Promise.{Done, Exact, Promise, answerOf, roomsOf, modelOf, guarded}
+use Rattle.model.specs.Reading.{Rooms, count, slotsOf}
+use Rattle.model.specs.Promise.{Done, Promise, answerOf, roomsOf, guarded}
 use Rattle.model.specs.Sound.{Numbers, Sound, soundb, sound-is, is-sound}
 use Rattle.model.specs.declared.Connection.{Connection}
 

@@ -27,6 +27,7 @@ pub record Room : Type 0 where
 abbrev pub room : List ℕ → Counts → Room
 room s c = record { slots = s; counts = c }
 
+-- 256 slots, and at most so many descriptors
 pub record Sound (d : Room) : Type 0 where
   pub long : length (d .slots) ≡ mostDescriptors
   pub most : total (d .counts) ≤ mostDescriptors

@@ -6,8 +6,6 @@ use model::Connection;
 use model::Next;
 use model::ReplyFdKind;
 use model::Sent;
-ghost use mathlib.Core.Path.{_≡_};
-ghost use lib.ListN.{length};
 
 // The sends that pass before the first request with a reply.
 const PASS: u32 = 65534;

@@ -3,7 +3,7 @@ use mathlib.Core.Path.{_≡_, sym, ap, _∙_}
 use mathlib.Core.List.{List, [], _∷_, _++_}
 use Prim.Native.Nat.{ℕ, _+_, _-_, _≤_}
 use native.Mathlib.Omega.{arith}
-use lib.Dec.{leb, ltb}
+use lib.Dec.{ltb}
 use lib.ListN.{length, length-append}
 use Rattle.octets.specs.Put.{put, cut, cut-add, length-cut, length-put, cut-put, cut-put-before, cut-put-after}
 use Rattle.held.specs.General.{choose-either, cut-left, cut-right}

@@ -16,7 +16,7 @@ use Rattle.model.specs.Reading.{Rooms, reads}
 use Rattle.model.specs.Batch.{Turn, goes, stops, Many, onward, onTurn, many, Stop, ended, refused, meaningless, modelTurn}
 use Rattle.model.specs.BatchLaws.{goes-one}
 use Rattle.model.specs.SendRequests.{kinds, kindOf, sendTurn, sendings, sendRequests, Sendings, ShownSendings, shownSendings}
-use Rattle.model.specs.PollForEvents.{turns, Lent, lent, roomFor, handing, eventTurn, Handings, orRefused, handed, pollForEvents, packetsOf, marksOf, ShownHandings, shownHandings, packetsOfHandings, marksOfHandings}
+use Rattle.model.specs.PollForEvents.{turns, Lent, lent, roomFor, eventTurn, Handings, orRefused, handed, pollForEvents, packetsOf, marksOf, ShownHandings, shownHandings, packetsOfHandings, marksOfHandings}
 use Rattle.model.specs.declared.Connection.{Connection}
 use Rattle.model.specs.declared.ReplyFdKind.{ReplyFdKind}
 use Rattle.batch.specs.Theorems.{handing-gave}

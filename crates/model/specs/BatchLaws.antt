@@ -1,5 +1,5 @@
 -- THE LAW of rows: a row of exact steps is, as it is read, the model's row, and leaves a sound state. Assumes nothing.
-use mathlib.Core.Path.{_≡_, refl, sym, ap, _∙_, subst}
+use mathlib.Core.Path.{_≡_, refl, sym, ap, _∙_}
 use mathlib.Core.List.{List, [], _∷_, _++_, append-assoc}
 use Prim.Native.Nat.{ℕ}
 use native.Mathlib.Omega.{arith}
@@ -8,7 +8,7 @@ use Rattle.model.specs.Client.{Client}
 use Rattle.model.specs.Reading.{Rooms, reads}
 use Rattle.model.specs.Promise.{Done, Exact, answerOf, roomsOf, modelOf, gives-same}
 use Rattle.model.specs.Sound.{Sound}
-use Rattle.model.specs.Batch.{Turn, goes, stops, Many, onward, onTurn, many, Stop, refused, modelTurn, Site, site, readSite, exactTurn, modelMany, exactMany, readTurn, readMany, Each, notes}
+use Rattle.model.specs.Batch.{Turn, goes, stops, onward, onTurn, many, modelTurn, Site, site, readSite, exactTurn, modelMany, exactMany, readTurn, readMany, Each, notes}
 use Rattle.model.specs.declared.Connection.{Connection}
 
 -- ---- a turn

@@ -1,20 +1,28 @@
--- The rules at work: computed runs of the model, one table under one claim, a row or more for each rule. Assumes nothing.
+-- The rules at work: computed runs of the model, one table under one claim, a row or more for each rule, and lengths at their ends. Assumes nothing.
 use mathlib.Core.Path.{_≡_, refl}
-use mathlib.Core.Bool.{Bool, true, false, not}
+use mathlib.Core.Bool.{true, false}
 use mathlib.Core.List.{List, [], _∷_, _++_}
-use Prim.Native.Nat.{ℕ}
-use lib.ListN.{replicate, getD}
+use Prim.Native.Nat.{ℕ, _≤_, _<_}
+use native.Mathlib.Omega.{arith}
+use lib.ListN.{length, replicate}
+use borrow.Author.Tests.{le-ltb, lt-ltb}
 use Rattle.octets.specs.Logic.{choose, both, either}
-use Rattle.octets.specs.Bytes.{bytesOf, numberIn, lowBytes, lowNumber, turned}
+use Rattle.octets.specs.Bytes.{legal, bytesOf, numberIn, lowBytes, lowNumber, turned}
 use Rattle.octets.specs.Put.{cut}
 use Rattle.octets.specs.Field.{field}
-use Rattle.refusal.specs.Answer.{refuse, pass}
+use Rattle.refusal.specs.Answer.{Answer, gives, refuses, refuse, pass}
 use Rattle.sequence.specs.Numbering.{full, inRange}
 use Rattle.sequence.specs.Sending.{sending, mustSync}
 use Rattle.requests.specs.Room.{underMode}
 use Rattle.model.specs.Client.{Held, Client, costs, descriptorsOf}
 use Rattle.model.specs.Model as Model
 use Rattle.model.specs.Calls.{Call, send, enqueue-fds, enqueue, discard, poll, check, poll-reply, prepare, poll-event, take-closed, Said, number, done, filed, nothing, took, again, absent, answer, closed, refused, step, run}
+use Rattle.model.specs.Batch as Batch
+use Rattle.model.specs.Batch.{many, onTurn, modelTurn, Stop, ended, meaningless}
+use Rattle.model.specs.SendRequests.{sendTurn, sendRequests, ShownSendings, shownSendings}
+use Rattle.model.specs.PollForEvents.{turns, roomFor, handing, eventTurn, Handings, orRefused, handed, pollForEvents}
+use Rattle.model.specs.Feed as Feed
+use Rattle.model.specs.Feed.{partial, Feeding, shownFed}
 use Rattle.model.specs.declared.ReplyFdKind.the-variants.{NoReply, ReplyWithoutFds, ReplyWithFds}
 use Rattle.model.specs.declared.DiscardMode.the-variants.{DiscardReply, DiscardReplyAndError}
 use Rattle.model.specs.declared.Place.the-variants.{Replies, Events, Dropped}
@@ -29,6 +37,10 @@ kept n p fds = record { number = n; packet = p; descriptors = fds }
 -- a state with these numbers and nothing else
 abbrev numbersAt : ℕ → ℕ → ℕ → Client
 numbersAt w e r = record { order = 108; most-requests = 4; most-bytes = 500; numbers = record { written = w; expected = e; read = r }; outstanding = []; replies = []; events = []; waiting = []; closing = [] }
+
+-- the same with as many requests outstanding as there is room for
+abbrev fullAt : ℕ → ℕ → ℕ → Client
+fullAt w e r = record { order = 108; most-requests = 1; most-bytes = 500; numbers = record { written = w; expected = e; read = r }; outstanding = Model.joining NoReply ∷ []; replies = []; events = []; waiting = []; closing = [] }
 
 -- a row: a state, the calls made from there, each with what it says
 pub record Row : Type 0 where
@@ -136,10 +148,109 @@ row12 = record {
   said = refused 3 ∷ refused 3 ∷ refused 3 ∷ filed Events 9223372036854775807 ∷ [];
 }
 
+-- where two refusals apply, the rules' first is given: on sending 3, 6, 5;
+abbrev row13 : Row
+row13 = record { start = numbersAt 9223372036854775807 0 0; calls = send NoReply ∷ []; said = refused 3 ∷ [] }
+
+abbrev row14 : Row
+row14 = record { start = fullAt 65534 0 0; calls = send NoReply ∷ send ReplyWithoutFds ∷ []; said = refused 6 ∷ refused 5 ∷ [] }
+
+-- on intake 1 (31 bytes are too few) before 3,
+abbrev row15 : Row
+row15 = record { start = numbersAt 0 0 9223372036854775807; calls = enqueue (2 ∷ replicate 30 0) ∷ enqueue (pk 2 0 0) ∷ []; said = refused 1 ∷ refused 3 ∷ [] }
+
+-- and 4 before 5.
+abbrev row16 : Row
+row16 = record {
+  start = Model.fresh 108 4 48;
+  calls = send ReplyWithFds ∷ enqueue (pk 1 0 1) ∷ enqueue (pk 1 1 1) ∷ enqueue (pk 1 0 1) ∷ [];
+  said = number 1 ∷ filed Replies 1 ∷ refused 4 ∷ refused 5 ∷ [];
+}
+
+-- 256 descriptors are inside, and no more
+abbrev row17 : Row
+row17 = record {
+  start = Model.fresh 108 4 500;
+  calls = enqueue-fds (replicate 256 7) ∷ enqueue-fds [] ∷ enqueue-fds (7 ∷ []) ∷ [];
+  said = done ∷ done ∷ refused 5 ∷ [];
+}
+
+-- next reply expected stays where it is higher than the packet's number
+abbrev row18 : Row
+row18 = record { start = numbersAt 10 8 0; calls = enqueue (pk 2 0 5) ∷ prepare 8 ∷ prepare 9 ∷ []; said = filed Events 5 ∷ answer false ∷ answer true ∷ [] }
+
+-- an error that a discard or a poll moves goes behind the events that are held
+abbrev row19 : Row
+row19 = record {
+  start = Model.fresh 108 4 500;
+  calls = send ReplyWithoutFds ∷ send ReplyWithoutFds ∷ enqueue (pk 2 0 1) ∷ enqueue (pk 0 7 1) ∷ enqueue (pk 0 8 2) ∷ discard 1 DiscardReply ∷ poll-reply 2 0 ∷ poll-event 32 ∷ poll-event 32 ∷ poll-event 32 ∷ [];
+  said = number 1 ∷ number 2 ∷ filed Events 1 ∷ filed Replies 1 ∷ filed Replies 2 ∷ done ∷ absent ∷ took (kept 1 (pk 2 0 1) []) ∷ took (kept 1 (pk 0 7 1) []) ∷ took (kept 2 (pk 0 8 2) []) ∷ [];
+}
+
 abbrev pub table : List Row
-table = row1 ∷ row2 ∷ row3 ∷ row4 ∷ row5 ∷ row6 ∷ row7 ∷ row8 ∷ row9 ∷ row10 ∷ row11 ∷ row12 ∷ []
+table = row1 ∷ row2 ∷ row3 ∷ row4 ∷ row5 ∷ row6 ∷ row7 ∷ row8 ∷ row9 ∷ row10 ∷ row11 ∷ row12 ∷ row13 ∷ row14 ∷ row15 ∷ row16 ∷ row17 ∷ row18 ∷ row19 ∷ []
 
 -- THE EXAMPLES: each row runs as it says.
 pub examples : All table
 unfolding run step Model.sendRequest Model.enqueueFds Model.enqueuePacket Model.discardReply Model.takeClosed Model.pollForReplyOrError Model.pollCheck Model.pollForReply Model.prepareCheck Model.pollForEvent Model.find pass refuse sending mustSync both either choose Model.numberOf inRange full field numberIn cut turned bytesOf lowBytes lowNumber Model.numbered Model.askedOf Model.headOf Model.placeOf Model.claimed Model.takeIn costs descriptorsOf Model.withMode underMode Model.ofNumber Model.notOf Model.above Model.errorsOf Model.turned
-examples = (refl, (refl, (refl, (refl, (refl, (refl, (refl, (refl, (refl, (refl, (refl, (refl, tt))))))))))))
+examples = (refl, (refl, (refl, (refl, (refl, (refl, (refl, (refl, (refl, (refl, (refl, (refl, (refl, (refl, (refl, (refl, (refl, (refl, (refl, tt)))))))))))))))))))
+
+-- `new`: the ranges of the two rooms to their ends, 9 before 13
+pub starts : (Model.new 108 1 48 ≡ gives (Model.fresh 108 1 48)) × (Model.new 66 65536 16777216 ≡ gives (Model.fresh 66 65536 16777216)) × (Model.new 108 0 48 ≡ refuses 9) × (Model.new 108 65537 48 ≡ refuses 9)
+    × (Model.new 108 1 47 ≡ refuses 9) × (Model.new 108 1 16777217 ≡ refuses 9) × (Model.new 0 1 48 ≡ refuses 13) × (Model.new 0 0 48 ≡ refuses 9)
+unfolding Model.new Model.roomy refuse both either legal
+starts = (refl, refl, refl, refl, refl, refl, refl, refl)
+
+-- A packet over 65,536 bytes is refused by 2, whatever its number would be; one of 32 to 65,536 is refused for no length.
+pub long-first : (c : Client) (p : List ℕ) → 65536 < length p → Model.enqueuePacket c p ≡ refuses 2
+unfolding Model.enqueuePacket refuse
+long-first c p h = let l : 32 ≤ length p = omega arith in simp (le-ltb (length p) 32 l, lt-ltb 65536 (length p) h)
+
+pub any-length : (c : Client) (p : List ℕ) → 32 ≤ length p → length p ≤ 65536 → Model.enqueuePacket c p ≡ pass (Model.numberOf c p) (λ n. Model.takeIn c p n (Model.askedOf c n))
+unfolding Model.enqueuePacket refuse
+any-length c p h k = simp (le-ltb (length p) 32 h, le-ltb 65536 (length p) k)
+
+-- ---- calls that make many steps
+
+-- what such a call says, without the state
+abbrev said : {A B : Type 0} → (A → B) → Answer (A × Client) → Answer B
+said f (gives x) = gives (f (x .0))
+said f (refuses n) = refuses n
+
+abbrev sendings : ℕ → List ℕ → Answer ShownSendings
+sendings k bytes = said shownSendings (sendRequests (Model.fresh 108 k 500) bytes)
+
+abbrev sent : ℕ → ℕ → Stop → Answer ShownSendings
+sent n last stop = gives (record { count = n; last = last; stopped = stop })
+
+-- a row of sends ends with its bytes, at a byte that is no kind, or at a refusal
+pub sends : (sendings 4 (0 ∷ 1 ∷ 2 ∷ []) ≡ sent 3 3 ended) × (sendings 4 (0 ∷ 2 ∷ 3 ∷ 1 ∷ []) ≡ sent 2 2 meaningless) × (sendings 2 (1 ∷ 1 ∷ 0 ∷ []) ≡ sent 2 2 (Batch.refused 5)) × (sendings 4 [] ≡ sent 0 0 ended)
+unfolding sendRequests sendTurn many onTurn modelTurn Model.sendRequest sending mustSync pass refuse both choose
+sends = (refl, refl, refl, refl)
+
+-- two events, of numbers 5 and 6
+abbrev twoEvents : Client
+twoEvents = record { order = 108; most-requests = 4; most-bytes = 500; numbers = record { written = 9; expected = 0; read = 6 }; outstanding = []; replies = []; events = kept 5 (pk 2 0 5) [] ∷ kept 6 (pk 3 0 6) [] ∷ []; waiting = []; closing = [] }
+
+abbrev handings : Client → ℕ → ℕ → Answer Handings
+handings c room marks = said (λ x. x) (pollForEvents c room marks)
+
+abbrev both-events : Answer Handings
+both-events = gives (record { events = kept 5 (pk 2 0 5) [] ∷ kept 6 (pk 3 0 6) [] ∷ []; stopped = ended })
+
+abbrev first-event : Answer Handings
+first-event = gives (record { events = kept 5 (pk 2 0 5) [] ∷ []; stopped = Batch.refused 8 })
+
+-- they are handed out as far as both outputs have room; 8 where there is no room for the first, and none where there is no event
+pub polls : (handings twoEvents 64 4 ≡ both-events) × (handings twoEvents 64 3 ≡ first-event) × (handings twoEvents 63 4 ≡ first-event) × (handings twoEvents 31 4 ≡ refuses 8) × (handings twoEvents 64 1 ≡ refuses 8)
+    × (handings (Model.fresh 108 4 500) 0 0 ≡ gives (record { events = []; stopped = ended }))
+unfolding pollForEvents handed orRefused eventTurn handing roomFor turns many onTurn modelTurn Model.pollForEvent refuse choose bytesOf turned lowBytes
+polls = (refl, refl, refl, refl, refl, refl)
+
+-- of the packets taken the bytes are shown, and how many they are
+abbrev took-two : Feeding
+took-two = record { packets = record { bytes = 32; filing = record { place = Events; number = 1 } } ∷ record { bytes = 36; filing = record { place = Replies; number = 2 } } ∷ []; stopped = partial }
+
+pub feeds : shownFed took-two ≡ record { bytes = 68; packets = 2; stopped = partial }
+unfolding Feed.bytesOf
+feeds = refl

@@ -8,14 +8,14 @@ use lib.ListN.{length, take, drop, getD, set}
 use Rattle.octets.specs.Logic.{choose, both, either}
 use Rattle.octets.specs.Bytes.{legal}
 use Rattle.octets.specs.Field.{field}
-use Rattle.refusal.specs.Answer.{Answer, gives, refuses, refuse, pass}
+use Rattle.refusal.specs.Answer.{Answer, gives, refuse, pass}
 use Rattle.sequence.specs.Numbering.{full, inRange}
 use Rattle.sequence.specs.Sending.{sending}
 use Rattle.requests.specs.Room.{underMode}
 use Rattle.requests.specs.declared.Request.{Request}
 use Rattle.requests.specs.declared.Mode.{Mode}
 use Rattle.requests.specs.declared.Mode.the-variants as Mode
-use Rattle.model.specs.Client.{Numbers, Held, Client, setNumbers, setOutstanding, setReplies, setEvents, setWaiting, setClosing, first, header, costs, used, descriptorsOf, inside}
+use Rattle.model.specs.Client.{Held, Client, setNumbers, setOutstanding, setReplies, setEvents, setWaiting, setClosing, first, header, used, descriptorsOf, inside}
 use Rattle.model.specs.declared.ReplyFdKind.{ReplyFdKind}
 use Rattle.model.specs.declared.ReplyFdKind.the-variants as ReplyFdKind
 use Rattle.model.specs.declared.DiscardMode.{DiscardMode}

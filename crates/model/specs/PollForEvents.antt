@@ -42,7 +42,7 @@ pub record Handings : Type 0 where
   pub events : List Held
   pub stopped : Stop
 
--- "8 where not even one fits"
+-- 8 where there is an event and not even one fits
 unfoldable pub orRefused : {B : Type 0} → List Held → Stop → Answer B → Answer B
 orRefused [] ended a = a
 orRefused [] (refused n) a = refuses n

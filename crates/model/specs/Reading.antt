@@ -1,8 +1,7 @@
 -- THE READING of a connection and its rooms as the model's state. Assumes nothing.
-use mathlib.Core.Bool.{Bool}
 use mathlib.Core.List.{List, [], _∷_, map}
 use Prim.Native.Nat.{ℕ, _+_, _-_}
-use lib.ListN.{length, take, drop}
+use lib.ListN.{take, drop}
 use Rattle.requests.specs.Room.{outstanding}
 use Rattle.held.specs.Head as Record
 use Rattle.held.specs.Reading as Store

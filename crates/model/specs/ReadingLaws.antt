@@ -1,13 +1,10 @@
 -- Laws of the reading: what the model's lists, counts and costs are in terms of the rooms. Assumes nothing.
 use mathlib.Core.Path.{_≡_, refl, sym, ap, _∙_}
-use mathlib.Core.Bool.{Bool, true, false}
-use mathlib.Core.List.{List, [], _∷_, _++_, map, append-assoc, append-nil}
-use Prim.Native.Nat.{ℕ, zero, suc, _+_, _-_, _≤_, _<_}
-use native.Mathlib.Nat.{zero-add}
+use mathlib.Core.List.{List, [], _∷_, _++_, map}
+use Prim.Native.Nat.{ℕ, _+_, _≤_}
 use native.Mathlib.Omega.{arith}
-use lib.ListN.{length, take, drop, length-append, length-take, length-drop, take-append-drop}
-use lib.Seq.{take-append-le, drop-append-le, drop-drop, take-take, length-take-le}
-use Rattle.octets.specs.Put.{take-drop}
+use lib.ListN.{length, take, drop, length-drop}
+use lib.Seq.{take-append-le, drop-append-le, drop-drop}
 use Rattle.requests.specs.Room.{outstanding}
 use Rattle.requests.specs.Theorems.{length-outstanding}
 use Rattle.held.specs.Head as Record
@@ -15,8 +12,8 @@ use Rattle.held.specs.Reading as Store
 use Rattle.held.specs.Theorems as Held
 use Rattle.descriptors.specs.Room as Slots
 use Rattle.descriptors.specs.Theorems as Fds
-use Rattle.model.specs.Client.{Client, first, header, costs, used, descriptorsOf, inside}
-use Rattle.model.specs.Reading.{Rooms, rooms, count, withDescriptors, eventOf, slotsOf, reads}
+use Rattle.model.specs.Client.{first, header, costs, used, descriptorsOf, inside}
+use Rattle.model.specs.Reading.{Rooms, count, withDescriptors, eventOf, slotsOf, reads}
 use Rattle.model.specs.Sound.{Sound}
 use Rattle.model.specs.declared.Connection.{Connection}
 

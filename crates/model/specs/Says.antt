@@ -6,7 +6,6 @@ use Prim.Native.Nat.{ℕ}
 use lib.ListN.{length}
 use Rattle.refusal.specs.Answer.{Answer, gives, refuses, decides}
 use Rattle.refusal.specs.Numbers.{numberOf, refusalOf, listed}
-use Rattle.model.specs.Client.{Held}
 use Rattle.model.specs.Model as Model
 use Rattle.model.specs.Model.{Filing}
 use Rattle.model.specs.declared.Connection.{Connection}

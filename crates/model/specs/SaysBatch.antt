@@ -1,6 +1,5 @@
 -- What the answers of calls that make many steps say. Assumes nothing.
 use mathlib.Core.Path.{_≡_, refl, sym, ap, _∙_}
-use Prim.Native.Nat.{ℕ}
 use Rattle.refusal.specs.Answer.{Answer, gives, refuses, decides}
 use Rattle.refusal.specs.Numbers.{numberOf, refusalOf, listed}
 use Rattle.model.specs.Batch as Batch

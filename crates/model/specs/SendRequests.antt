@@ -1,5 +1,4 @@
 -- `send_requests` in the model: a row of `send_request`, one for each byte. Assumes nothing.
-use mathlib.Core.Bool.{Bool}
 use mathlib.Core.List.{List}
 use Prim.Native.Nat.{ℕ, zero, suc}
 use lib.Dec.{ltb}

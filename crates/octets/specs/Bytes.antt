@@ -1,6 +1,6 @@
 -- Numbers as bytes, in either order. Assumes nothing.
 use mathlib.Core.Path.{_≡_, refl, sym, ap, _∙_}
-use Prim.Native.Nat.{ℕ, zero, suc, _+_, _*_, _/_, _%_, _≤_, _<_, _^_}
+use Prim.Native.Nat.{ℕ, zero, suc, _+_, _*_, _/_, _%_, _<_, _^_}
 use native.Mathlib.Nat.{mul-assoc, zero-add, suc-add}
 use native.Mathlib.Omega.{arith}
 use mathlib.Core.Bool.{Bool, true, false}
@@ -8,7 +8,7 @@ use mathlib.Core.List.{List, [], _∷_, _++_, reverse, reverse-append, reverse-r
 use lib.Dec.{eqb}
 use borrow.Author.Tests.{eq-eqb, ne-eqb}
 use lib.Pow.{field, mod-mod-pow, shr-shr, shr-lt, pow-add}
-use lib.ListN.{length, getD, length-append, length-reverse}
+use lib.ListN.{length, getD, length-reverse}
 use Rattle.octets.specs.Logic.{choose, either}
 
 -- Core, Connection Setup: the byte `l` (154 octal) says least significant byte first, `B` (102 octal) most significant byte first.

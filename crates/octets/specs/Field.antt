@@ -5,7 +5,7 @@ use native.Mathlib.Nat.{suc-add, mul-suc}
 use native.Mathlib.Omega.{arith}
 use mathlib.Core.List.{List, [], _∷_, _++_}
 use native.Mathlib.Decide.{decLt}
-use lib.ListN.{length, take, drop, getD, set, length-append, length-take, List·getD-eq-default}
+use lib.ListN.{length, drop, getD, set, length-append, length-take, List·getD-eq-default}
 use Rattle.octets.specs.Bytes.{littleOrder, word, Octets, word-number, bytesOf, numberIn, ordered, length-bytesOf, number-bytes, bytes-halves, number-halves, number-one, bytes-one}
 use Rattle.octets.specs.Put.{put, cut, put-put, put-next, getD-cut, cut-put, cut-put-before, cut-put-after, cut-add, cut-one, length-cut, set-one}
 

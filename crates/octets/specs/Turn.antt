@@ -1,10 +1,9 @@
 -- Three reversals exchange two neighbours. Assumes nothing.
-use mathlib.Core.Path.{_≡_, refl, sym, ap, _∙_}
-use Prim.Native.Nat.{ℕ, _+_, _-_, _≤_, _<_}
+use mathlib.Core.Path.{_≡_, sym, ap, _∙_}
+use Prim.Native.Nat.{ℕ, _+_, _-_, _≤_}
 use native.Mathlib.Omega.{arith}
-use mathlib.Core.List.{List, [], _∷_, _++_, reverse, reverse-append, reverse-reverse}
+use mathlib.Core.List.{List, _++_, reverse, reverse-append, reverse-reverse}
 use lib.ListN.{length, take, drop, length-append, length-reverse}
-use lib.Seq.{length-take-le}
 use Rattle.bytes.specs.Bytes.{rev, slice}
 use Rattle.octets.specs.Put.{put, cut, put-put, put-over, length-put, length-cut, take-drop, cut-put, cut-put-after}
 

@@ -1,8 +1,8 @@
 -- Laws of the length of a packet and of cutting a run. Assumes nothing.
 use mathlib.Core.Path.{_≡_, refl, sym, ap, _∙_}
 use mathlib.Core.Bool.{Bool, true, false}
-use mathlib.Core.List.{List, [], _∷_, _++_}
-use Prim.Native.Nat.{ℕ, zero, suc, _+_, _-_, _*_, _≤_, _<_}
+use mathlib.Core.List.{List, [], _++_}
+use Prim.Native.Nat.{ℕ, zero, suc, _+_, _*_, _≤_, _<_}
 use native.Mathlib.Omega.{arith}
 use lib.ListN.{length, take, drop, getD, length-append, take-append-drop, List·getD-append}
 use lib.Seq.{take-at, drop-at, length-take-le}
@@ -10,9 +10,9 @@ use lib.Dec.{ltb}
 use borrow.Author.Tests.{ltb-true, ltb-false, lt-ltb, le-ltb}
 use Rattle.octets.specs.Logic.{choose}
 use Rattle.octets.specs.Bytes.{numberIn}
-use Rattle.octets.specs.Put.{cut, cut-append}
+use Rattle.octets.specs.Put.{cut-append}
 use Rattle.octets.specs.Field.{field}
-use Rattle.packet_reader.specs.Frame.{fixed, hasLength, total, totalOf, aim, Cut, cons, cuts}
+use Rattle.packet_reader.specs.Frame.{hasLength, total, totalOf, aim, Cut, cons, cuts}
 
 -- ---- the length of a packet
 

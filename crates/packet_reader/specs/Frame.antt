@@ -1,14 +1,13 @@
 -- How long a packet is, and how a run of bytes is cut into packets. Assumes nothing.
-use mathlib.Core.Path.{_≡_, refl, sym, ap, _∙_}
-use mathlib.Core.Bool.{Bool, true, false}
-use mathlib.Core.List.{List, [], _∷_, _++_}
-use Prim.Native.Nat.{ℕ, zero, suc, _+_, _*_, _%_, _≤_, _<_}
+use mathlib.Core.Bool.{Bool}
+use mathlib.Core.List.{List, [], _∷_}
+use Prim.Native.Nat.{ℕ, zero, suc, _+_, _*_, _%_}
 use lib.Dec.{eqb, ltb}
 use lib.ListN.{length, take, drop, getD}
 use Rattle.octets.specs.Logic.{choose, either}
 use Rattle.octets.specs.Field.{field}
 
--- Core, Protocol Formats: errors and events have 32 bytes; a reply has 32 and those that its length field counts in units of four. The event GenericEvent, code 35, has such a length too; the top bit of an event's code says whether SendEvent made it, and a reply's code, 1, has no such bit.
+-- Core, Protocol Formats: errors and events have 32 bytes; a reply has 32 and those that its length field counts in units of four. Generic Event Extension: the event of code 35 has such a length too. The top bit of an event's code says whether SendEvent made it; a reply's code, 1, has no such bit.
 abbrev pub fixed : ℕ
 fixed = 32
 

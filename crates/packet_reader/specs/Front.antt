@@ -1,14 +1,14 @@
 -- What a run of bytes begins with, and that this is how the run is cut into packets. Assumes nothing.
 use mathlib.Core.Path.{_≡_, refl, sym, ap, _∙_, subst}
 use mathlib.Core.Bool.{Bool, true, false}
-use mathlib.Core.List.{List, [], _∷_, _++_, append-assoc}
-use Prim.Native.Nat.{ℕ, zero, suc, _+_, _-_, _≤_, _<_}
+use mathlib.Core.List.{List, [], _++_, append-assoc}
+use Prim.Native.Nat.{ℕ, zero, suc, _-_, _≤_, _<_}
 use native.Mathlib.Omega.{arith}
 use lib.Dec.{ltb, eqb}
 use lib.ListN.{length, take, drop, length-drop, take-append-drop}
 use borrow.Author.Tests.{ltb-true, ltb-false, lt-ltb, le-ltb, eqb-true, eqb-false, eq-eqb, ne-eqb}
 use Rattle.octets.specs.Logic.{choose}
-use Rattle.packet_reader.specs.Frame.{fixed, aim, Cut, cons, cuts, cutPackets}
+use Rattle.packet_reader.specs.Frame.{fixed, aim, cons, cuts, cutPackets}
 use Rattle.packet_reader.specs.CutLaws.{aim-least, aim-head, cut-rest}
 use Rattle.packet_reader.specs.Reader.{mostBuffer}
 use Rattle.packet_reader.specs.Stream.{joined}

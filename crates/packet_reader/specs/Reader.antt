@@ -1,8 +1,8 @@
 -- The reader over its lent buffer: when it is sound, and what its calls answer. Assumes nothing.
 use mathlib.Core.Path.{_≡_, refl, sym, ap, _∙_}
-use mathlib.Core.Bool.{Bool, true, false, not}
-use mathlib.Core.List.{List, [], _∷_}
-use Prim.Native.Nat.{ℕ, _+_, _-_, _≤_, _<_}
+use mathlib.Core.Bool.{Bool, not}
+use mathlib.Core.List.{List, []}
+use Prim.Native.Nat.{ℕ, _+_, _-_}
 use lib.Dec.{leb, ltb, eqb}
 use lib.ListN.{length}
 use denote.Ref.{RefT}
@@ -54,7 +54,7 @@ part r s = choose (soundb r s) (cut (r .filled) (r .target - r .filled) s) []
 unfoldable pub start : PacketReader → List ℕ → ℕ
 start r s = choose (soundb r s) (r .filled) 0
 
--- `buffer` lends p of the buffer b: it shows that part, and stands where the part stands in the buffer.
+-- `buffer` lends p of the buffer b: it shows that part, and stands where the part stands in the buffer (a place is a block of memory and an index in it).
 pub record Lent (r : PacketReader) (b p : RefT (List ℕ)) : Type 0 where
   pub shows : p .now ≡ part r (b .now)
   pub stands : p .ptr ≡ (b .ptr .0, start r (b .now) + b .ptr .1)
@@ -116,3 +116,7 @@ backAdvanced (refuses n) = Advanced.Refused (refusalOf n)
 pub advanced-one : (a b : Advanced) → saysAdvanced a ≡ saysAdvanced b → a ≡ b
 unfolding backAdvanced
 advanced-one = decides saysAdvanced backAdvanced (elim [ Advanced.NotYet r ↦ refl | Advanced.Packet n r ↦ refl | Advanced.Refused r ↦ ap Advanced.Refused (listed r) ])
+
+-- Any two parts that `buffer` may lend show the same and stand in the same place.
+pub lent-one : {r : PacketReader} {b p q : RefT (List ℕ)} → Lent r b p → Lent r b q → (p .now ≡ q .now) × (p .ptr ≡ q .ptr)
+lent-one x y = (x .shows ∙ sym (y .shows), x .stands ∙ sym (y .stands))

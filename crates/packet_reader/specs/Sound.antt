@@ -1,13 +1,12 @@
 -- Soundness of a reader in the rules' words, and the same as its test. Assumes nothing.
-use mathlib.Core.Path.{_≡_, refl, sym, ap, _∙_}
+use mathlib.Core.Path.{_≡_, sym, _∙_}
 use mathlib.Core.Bool.{Bool, true, false, not}
 use mathlib.Core.List.{List}
 use Prim.Native.Nat.{ℕ, _+_, _-_, _≤_, _<_}
 use native.Mathlib.Omega.{arith}
-use lib.Dec.{leb, ltb, eqb}
 use lib.ListN.{length}
 use borrow.Author.Tests.{leb-true, ltb-true, eqb-true, le-leb, lt-ltb, eq-eqb, not-false}
-use Rattle.octets.specs.Logic.{both, both-left, both-right, both-yes}
+use Rattle.octets.specs.Logic.{both-left, both-right, both-yes}
 use Rattle.octets.specs.Bytes.{legal}
 use Rattle.packet_reader.specs.Frame.{fixed, aim}
 use Rattle.refusal.specs.Answer.{gives, gives-past, gives-rest}

@@ -1,19 +1,19 @@
 -- A byte run that is fed to a reader in any pieces gives the packets that the run is cut into. Assumes nothing.
 use mathlib.Core.Path.{_≡_, refl, sym, ap, _∙_, subst}
-use mathlib.Core.Bool.{Bool, true, false, not}
+use mathlib.Core.Bool.{Bool, true, false}
 use mathlib.Core.List.{List, [], _∷_, _++_, append-assoc, append-nil}
-use Prim.Native.Nat.{ℕ, zero, suc, _+_, _-_, _*_, _≤_, _<_}
+use Prim.Native.Nat.{ℕ, _+_, _-_, _≤_, _<_}
 use native.Mathlib.Omega.{arith}
-use lib.ListN.{length, take, drop, length-append}
+use lib.ListN.{length, take}
 use lib.Seq.{length-take-le}
 use lib.Dec.{ltb}
 use borrow.Author.Tests.{ltb-true, ltb-false, not-false}
 use Rattle.octets.specs.Logic.{choose}
-use Rattle.octets.specs.Put.{put, length-put, take-put, take-put-before}
-use Rattle.refusal.specs.Answer.{Answer, gives, refuses, refuse, gives-past, gives-rest}
-use Rattle.packet_reader.specs.Frame.{fixed, aim, Cut, cons, cuts, cutPackets}
-use Rattle.packet_reader.specs.Reader.{Progress, waits, whole, fresh, soundb, reached, advanced}
-use Rattle.packet_reader.specs.Sound.{Sound, sound-is, is-sound}
+use Rattle.octets.specs.Put.{put, take-put}
+use Rattle.refusal.specs.Answer.{gives, gives-past, gives-rest}
+use Rattle.packet_reader.specs.Frame.{aim, cuts}
+use Rattle.packet_reader.specs.Reader.{Progress, waits, whole, fresh, reached, advanced}
+use Rattle.packet_reader.specs.Sound.{Sound, sound-is}
 use Rattle.packet_reader.specs.CutLaws.{aim-head, aim-held, aim-grows, cut-rest, cut-packet}
 use Rattle.packet_reader.specs.declared.PacketReader.{PacketReader}
 

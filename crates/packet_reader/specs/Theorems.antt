@@ -1,7 +1,7 @@
 -- What is certain of a reader that is fed a byte run piece by piece. Assumes nothing.
 use mathlib.Core.Path.{_≡_, refl, sym, ap, _∙_, subst}
-use mathlib.Core.Bool.{Bool, true, false, not}
-use mathlib.Core.List.{List, [], _∷_, _++_}
+use mathlib.Core.Bool.{Bool, true, false}
+use mathlib.Core.List.{List, _++_}
 use Prim.Native.Nat.{ℕ, _+_, _-_, _≤_, _<_}
 use native.Mathlib.Omega.{arith}
 use lib.ListN.{length, take}
@@ -14,7 +14,7 @@ use Rattle.packet_reader.specs.Frame.{aim, Cut, cutPackets}
 use Rattle.packet_reader.specs.Reader.{Progress, waits, whole, fresh, reached, advanced}
 use Rattle.packet_reader.specs.Sound.{Sound, is-sound}
 use Rattle.packet_reader.specs.CutLaws.{aim-held}
-use Rattle.packet_reader.specs.Stream.{joined, Feeds, done, more, packet, grown, Moved, from-more, from-packet, fed, sound-grown, sound-fresh}
+use Rattle.packet_reader.specs.Stream.{joined, Feeds, done, more, packet, Moved, from-more, from-packet, fed, sound-grown, sound-fresh}
 use Rattle.packet_reader.specs.declared.PacketReader.{PacketReader}
 
 -- Pieces put into the lent part one after the other, from a fresh reader and with no refusal, give the packets that their bytes in a row are cut into, and leave the bytes over filled.

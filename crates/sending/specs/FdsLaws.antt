@@ -1,20 +1,16 @@
 -- How the moves of descriptors come out. Assumes nothing.
-use mathlib.Core.Path.{_≡_, refl, sym, ap, _∙_}
-use mathlib.Core.Bool.{Bool, true, false}
-use mathlib.Core.List.{List, [], _∷_, _++_}
-use Prim.Native.Nat.{ℕ, _+_, _-_, _≤_, _<_}
-use native.Mathlib.Omega.{arith}
-use lib.Dec.{ltb}
+use mathlib.Core.Path.{_≡_, sym, ap, _∙_}
+use mathlib.Core.List.{List}
+use Prim.Native.Nat.{ℕ, _+_, _≤_, _<_}
 use lib.ListN.{length}
 use borrow.Author.Tests.{lt-ltb, le-ltb}
-use Rattle.octets.specs.Put.{put}
-use Rattle.refusal.specs.Answer.{Answer, gives, refuses, refuse}
+use Rattle.refusal.specs.Answer.{gives, refuse}
 use Rattle.descriptors.specs.Room as Slots
 use Rattle.descriptors.specs.Theorems as Fds
 use Rattle.descriptors.specs.declared.Counts.{Counts}
 use Rattle.model.specs.Model.{mostDescriptors}
-use Rattle.model.specs.Reading.{Rooms, rooms, slotsOf}
-use Rattle.model.specs.Promise.{Done, Exact, answerOf, roomsOf, outputOf, exact-refused}
+use Rattle.model.specs.Reading.{rooms, slotsOf}
+use Rattle.model.specs.Promise.{answerOf, roomsOf, outputOf, exact-refused}
 use Rattle.model.specs.declared.Connection.{Connection}
 use Rattle.model.specs.declared.Next.the-variants as Next
 use Rattle.model.specs.declared.Closed.the-variants as Closed

@@ -1,20 +1,17 @@
 -- How a send comes out, and what it is in the model's terms. Assumes nothing.
-use mathlib.Core.Path.{_≡_, refl, sym, ap, _∙_, subst}
-use mathlib.Core.Bool.{Bool, true, false}
-use mathlib.Core.List.{List, [], _∷_, _++_}
-use Prim.Native.Nat.{ℕ, _+_, _-_, _≤_, _<_}
-use native.Mathlib.Omega.{arith}
+use mathlib.Core.Path.{_≡_, sym, ap, _∙_, subst}
+use mathlib.Core.Bool.{Bool}
+use mathlib.Core.List.{List}
+use Prim.Native.Nat.{ℕ, _≤_, _<_}
 use lib.Dec.{leb}
-use lib.ListN.{length}
-use borrow.Author.Tests.{le-leb, lt-leb, leb-false}
-use Rattle.refusal.specs.Answer.{Answer, gives, refuses, refuse, pass, gives-past, gives-rest}
+use borrow.Author.Tests.{le-leb, lt-leb}
+use Rattle.refusal.specs.Answer.{Answer, gives, refuses, refuse, pass}
 use Rattle.sequence.specs.Sending.{Numbers, sending}
-use Rattle.requests.specs.Room.{putRequest, outstanding, capacity}
-use Rattle.model.specs.Model.{hasReply, joining, sendRequest}
-use Rattle.model.specs.Reading.{Rooms, rooms, count, reads}
-use Rattle.model.specs.Promise.{Done, Exact, answerOf, roomsOf, modelOf, exact-refused}
+use Rattle.requests.specs.Room.{putRequest, capacity}
+use Rattle.model.specs.Model.{hasReply, joining}
+use Rattle.model.specs.Reading.{Rooms, rooms, count}
+use Rattle.model.specs.Promise.{Done, Exact, answerOf, roomsOf, exact-refused}
 use Rattle.model.specs.Says.{saysSent}
-use Rattle.model.specs.Sound.{Sound}
 use Rattle.model.specs.declared.Connection.{Connection}
 use Rattle.model.specs.declared.ReplyFdKind.{ReplyFdKind}
 use Rattle.model.specs.declared.Sent.{Sent}

@@ -1,21 +1,21 @@
 -- The steps in the model's terms, and the states that they leave. Assumes nothing.
 use mathlib.Core.Path.{_≡_, refl, sym, ap, _∙_, subst}
-use mathlib.Core.Bool.{Bool, true, false, not}
+use mathlib.Core.Bool.{Bool, true, false}
 use mathlib.Core.List.{List, [], _∷_, _++_}
 use Prim.Native.Nat.{ℕ, _+_, _-_, _≤_, _<_}
 use native.Mathlib.Omega.{arith}
 use lib.Dec.{leb, ltb}
 use lib.ListN.{length}
 use borrow.Author.Tests.{leb-false, ltb-false}
-use Rattle.octets.specs.Logic.{both, choose}
-use Rattle.refusal.specs.Answer.{Answer, gives, refuses, refuse, pass, gives-past, gives-rest, refuse-under}
+use Rattle.octets.specs.Logic.{choose}
+use Rattle.refusal.specs.Answer.{gives, refuse, gives-past, gives-rest, refuse-under}
 use Rattle.sequence.specs.Numbering.{lastNumber}
-use Rattle.sequence.specs.Sending.{Numbers, mustSync, sending}
+use Rattle.sequence.specs.Sending.{Numbers, sending}
 use Rattle.requests.specs.Room.{putRequest, outstanding, capacity, legals}
 use Rattle.requests.specs.Theorems.{outstanding-send, legals-send, sized-is, sized-put}
 use Rattle.descriptors.specs.Room as Slots
 use Rattle.descriptors.specs.Theorems as Fds
-use Rattle.model.specs.Client.{Client, setNumbers, setOutstanding, setWaiting, setClosing, inside}
+use Rattle.model.specs.Client.{Client, setNumbers, setOutstanding, setWaiting, setClosing}
 use Rattle.model.specs.Model.{hasReply, joining, sendRequest, mostDescriptors, enqueueFds, takeClosed}
 use Rattle.held.specs.Reading as Store
 use Rattle.model.specs.Reading.{Rooms, rooms, count, slotsOf, withDescriptors, reads}
@@ -25,7 +25,7 @@ use Rattle.model.specs.Sound.{Sound}
 use Rattle.model.specs.declared.Connection.{Connection}
 use Rattle.model.specs.declared.ReplyFdKind.{ReplyFdKind}
 use Rattle.sending.specs.Send.{sentState, sendExact}
-use Rattle.sending.specs.Fds.{countedState, movedTo, enqueueExact, closeExact}
+use Rattle.sending.specs.Fds.{countedState, enqueueExact, closeExact}
 
 -- ---- sending
 

@@ -1,13 +1,11 @@
 -- 01, Numbering and filing: the full number of a packet. Assumes nothing.
-use mathlib.Core.Path.{_≡_, refl, sym, ap, _∙_}
-use mathlib.Core.Bool.{Bool, true, false}
+use mathlib.Core.Path.{_≡_, refl, ap, _∙_}
 use Prim.Native.Nat.{ℕ, _+_, _-_, _%_, _≤_, _<_}
 use native.Mathlib.Omega.{arith}
 use lib.Dec.{ltb}
 use borrow.Author.Tests.{lt-ltb, le-ltb}
 use Rattle.refusal.specs.Answer.{Answer, gives, refuses, refuse, decides}
 use Rattle.refusal.specs.Numbers.{numberOf, refusalOf, listed}
-use Rattle.sequence.specs.declared.SequenceNumber.{SequenceNumber}
 use Rattle.sequence.specs.declared.Full.{Full}
 use Rattle.sequence.specs.declared.Full.the-variants as Full
 

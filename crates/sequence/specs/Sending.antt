@@ -1,5 +1,5 @@
 -- 01, Sending. Assumes nothing.
-use mathlib.Core.Path.{_≡_, refl, sym, ap, _∙_}
+use mathlib.Core.Path.{_≡_, refl, sym, ap}
 use mathlib.Core.Bool.{Bool, true, false, not}
 use Prim.Native.Nat.{ℕ, _+_, _-_, _≤_, _<_}
 use native.Mathlib.Omega.{arith}
@@ -9,7 +9,6 @@ use Rattle.octets.specs.Logic.{both, choose}
 use Rattle.refusal.specs.Answer.{Answer, gives, refuses, refuse, decides}
 use Rattle.refusal.specs.Numbers.{numberOf, refusalOf, listed}
 use Rattle.sequence.specs.Numbering.{lastNumber}
-use Rattle.sequence.specs.declared.SequenceNumber.{SequenceNumber}
 use Rattle.sequence.specs.declared.Sent.{Sent}
 use Rattle.sequence.specs.declared.Sent.the-variants as Sent
 

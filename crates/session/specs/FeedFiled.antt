@@ -1,7 +1,7 @@
 -- DEMAND 3 for a run of bytes, packet by packet: with an honest server each packet of it that is taken is filed under its true number. Assumes nothing.
 use mathlib.Core.Bool.{Bool, true, false}
 use mathlib.Core.List.{List, [], _∷_}
-use mathlib.Core.Path.{_≡_, refl, sym, ap, _∙_, subst}
+use mathlib.Core.Path.{_≡_, refl, sym, subst}
 use Prim.Native.Nat.{ℕ}
 use lib.ListN.{length}
 use Rattle.octets.specs.Logic.{choose, apart}
@@ -11,11 +11,11 @@ use Rattle.model.specs.Client.{Client}
 use Rattle.model.specs.Model.{Filing, enqueuePacket}
 use Rattle.model.specs.Calls.{enqueue, step}
 use Rattle.model.specs.Reading.{Rooms, reads}
-use Rattle.model.specs.Batch.{Turn, goes, stops, onward, onTurn, many, notes}
+use Rattle.model.specs.Batch.{onward, onTurn, many, notes}
 use Rattle.model.specs.Feed.{Stopped, Took, modelTook}
 use Rattle.model.specs.declared.Connection.{Connection}
 use Rattle.batch.specs.Feed.{stopAt, enqueuePackets}
-use Rattle.honest.specs.Run.{Event, took, unnumbered, noteTook, noted, Runs, call, Fair, Each, Honest, Filed}
+use Rattle.honest.specs.Run.{Event, took, unnumbered, noteTook, noted, Runs, call, Fair, Honest, Filed}
 use Rattle.honest.specs.Calls.{taking, counted, uncounted}
 use Rattle.honest.specs.Public.{public-runs}
 use Rattle.honest.specs.Theorems.{next-filed}

@@ -1,9 +1,9 @@
 -- `enqueue_packets` is a row of single `enqueue_packet`s: so what holds of each of these holds of it. Assumes nothing.
-use mathlib.Core.List.{List, [], _∷_}
+use mathlib.Core.List.{List}
 use mathlib.Core.Path.{_≡_, sym, ap, _∙_, subst}
 use Prim.Native.Nat.{ℕ, _<_}
 use lib.ListN.{length, getD}
-use Rattle.refusal.specs.Answer.{Answer, gives, refuses}
+use Rattle.refusal.specs.Answer.{Answer, gives}
 use Rattle.packet_reader.specs.Frame.{cutPackets}
 use Rattle.intake.specs.Exact.{enqueueExact, shown}
 use Rattle.intake.specs.Theorems.{enqueue-model, enqueue-sound}

@@ -5,3 +5,4 @@ pub mod FeedRow
 pub mod Theorems
 pub mod Engines
 pub mod FeedFiled
+pub mod Examples

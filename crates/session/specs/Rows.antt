@@ -6,25 +6,24 @@ use Prim.Native.Nat.{ℕ}
 use lib.ListN.{length, take}
 use Rattle.refusal.specs.Answer.{Answer, gives, refuses}
 use Rattle.model.specs.Client.{Held, Client}
-use Rattle.model.specs.Model.{hasReply, packet, sendRequest, pollForEvent}
-use Rattle.model.specs.Calls as Calls
+use Rattle.model.specs.Model.{hasReply, packet, pollForEvent}
 use Rattle.model.specs.Promise.{Done, answerOf, roomsOf, modelOf, guarded, Promise, exact-given, guarded-on, promise-sound}
 use Rattle.model.specs.Reading.{Rooms, reads}
 use Rattle.model.specs.Says.{shownEvent}
 use Rattle.model.specs.Sound.{Sound, is-sound}
-use Rattle.model.specs.Batch.{goes, Many, many, Stop, ended, Site, site, exactMany, notes}
+use Rattle.model.specs.Batch.{goes, Many, many, Stop, ended, Site, site, notes}
 use Rattle.model.specs.BatchLaws.{many-row}
-use Rattle.model.specs.SendRequests.{kindOf, ShownSendings, sendings, shownSendings}
+use Rattle.model.specs.SendRequests.{kindOf, ShownSendings, shownSendings}
 use Rattle.model.specs.PollForEvents.{turns, Lent, lent, roomFor, Handings, ShownHandings, shownHandings}
 use Rattle.model.specs.declared.Connection.{Connection}
-use Rattle.sending.specs.Send.{same, sendExact}
+use Rattle.sending.specs.Send.{same}
 use Rattle.sending.specs.Theorems.{send-model, send-sound}
 use Rattle.polling.specs.Exact.{eventExact}
 use Rattle.polling.specs.Theorems.{event-model, event-leaves}
 use Rattle.batch.specs.Send.{sendStep, sendsExact}
-use Rattle.batch.specs.Events.{eventStep, handedExact, eventsExact}
+use Rattle.batch.specs.Events.{eventStep, eventsExact}
 use Rattle.batch.specs.Theorems.{Any, all-any, send-gave, event-gave, handed-done}
-use Rattle.connection.specs.Calls.{Sends, PollsEvent, SendsMany, PollsEvents}
+use Rattle.connection.specs.Calls.{Sends, SendsMany, PollsEvents}
 use Rattle.honest.specs.Run.{Event, sent}
 use Rattle.honest.specs.Public.{stateOf}
 use Rattle.session.specs.Session.{sentAll, noteSends}

@@ -147,3 +147,9 @@ backList (refuses n) = ListAnswer.Refused (refusalOf n)
 pub list-one : (a b : ListAnswer) → saysList a ≡ saysList b → a ≡ b
 unfolding backList
 list-one = decides saysList backList (elim [ ListAnswer.Reply x ↦ refl | ListAnswer.Refused r ↦ ap ListAnswer.Refused (listed r) ])
+
+-- So any two outcomes of a call that reads a list are equal, its answer and the room that it leaves.
+pub lists-one : {o : ℕ} {p before u v : List ℕ} (a b : ListAnswer) → Lists o p before (saysList a) u → Lists o p before (saysList b) v → (a ≡ b) × (u ≡ v)
+lists-one {o} {p = p} {before = before} a b x y =
+    let e : saysList a ≡ saysList b = x .answers ∙ sym (y .answers) in
+    (list-one a b e, x .left-is ∙ ap (λ (k : Answer GetXIDListReply). leaves k (idsOf o (listOf o p .count) p) before) e ∙ sym (y .left-is))

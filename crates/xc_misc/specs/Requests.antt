@@ -116,3 +116,9 @@ back (refuses n) = Written.Refused (refusalOf n)
 pub written-one : (a b : Written) → saysWritten a ≡ saysWritten b → a ≡ b
 unfolding back
 written-one = decides saysWritten back (elim [ Written.Bytes n ↦ refl | Written.Refused r ↦ ap Written.Refused (listed r) ])
+
+-- So any two outcomes of a call that writes a request are equal, its answer and the output that it leaves.
+pub writes-one : {o : ℕ} {request before u v : List ℕ} (a b : Written) → Writes o request before (saysWritten a) u → Writes o request before (saysWritten b) v → (a ≡ b) × (u ≡ v)
+writes-one {request = request} {before = before} a b p q =
+    let e : saysWritten a ≡ saysWritten b = p .answers ∙ sym (q .answers) in
+    (written-one a b e, p .left-is ∙ ap (λ (k : Answer ℕ). leaves k request before) e ∙ sym (q .left-is))

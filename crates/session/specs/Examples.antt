@@ -1,0 +1,38 @@
+-- The log at work, computed: each packet of a run of bytes is noted with the true number that is its own, whatever number the engine gives it. Assumes nothing.
+use mathlib.Core.Path.{_≡_, refl}
+use mathlib.Core.List.{List, [], _∷_, _++_}
+use Prim.Native.Nat.{ℕ}
+use lib.ListN.{replicate}
+use Rattle.refusal.specs.Answer.{gives, refuses, refuse, pass}
+use Rattle.octets.specs.Logic.{choose, both, either}
+use Rattle.octets.specs.Bytes.{bytesOf, numberIn, lowBytes, lowNumber, turned}
+use Rattle.octets.specs.Put.{cut}
+use Rattle.octets.specs.Field.{field}
+use Rattle.sequence.specs.Numbering.{full, inRange}
+use Rattle.packet_reader.specs.Frame.{hasLength, total, totalOf, aim, cuts, cutPackets}
+use Rattle.model.specs.Client.{costs}
+use Rattle.model.specs.Model as Model
+use Rattle.model.specs.Batch.{many, onTurn, notes}
+use Rattle.model.specs.Feed.{modelTook}
+use Rattle.model.specs.declared.Place.the-variants.{Events}
+use Rattle.batch.specs.Feed.{stopAt, enqueuePackets}
+use Rattle.honest.specs.Run.{Event, took, noteTook}
+use Rattle.session.specs.Noting.{notePacket, tookOf, noteFed}
+
+-- an event of 32 bytes: its code and its wire number
+abbrev event : ℕ → ℕ → List ℕ
+event code wire = code ∷ 0 ∷ (bytesOf 108 2 wire ++ replicate 28 0)
+
+-- an event that was taken, with its true number and the engine's
+abbrev taken : ℕ → List ℕ → ℕ → Event
+taken t p n = took t p (record { place = Events; number = n })
+
+-- true numbers 70, 80 and 90 of a run of three events, of which that of code 11 carries no number; the engine reads 1 and 2 from the wire
+pub fed : noteFed (70 ∷ 80 ∷ 90 ∷ []) (Model.fresh 108 4 500) (event 2 1 ++ (event 11 0 ++ event 3 2)) (gives (tt {0})) [] ≡ taken 90 (event 3 2) 2 ∷ taken 70 (event 2 1) 1 ∷ []
+unfolding noteFed notes notePacket tookOf noteTook enqueuePackets cutPackets cuts aim totalOf total hasLength field numberIn cut lowNumber turned bytesOf lowBytes choose both either many onTurn modelTook stopAt Model.enqueuePacket Model.numberOf inRange full Model.numbered Model.askedOf Model.headOf Model.placeOf Model.claimed Model.takeIn costs refuse pass
+fed = refl
+
+-- a packet alone, taken and refused
+pub alone : (noteTook 70 (event 2 1) (gives (record { place = Events; number = 1 }, tt {0})) [] ≡ taken 70 (event 2 1) 1 ∷ []) × (noteTook {A = Unit {0}} 70 (event 2 1) (refuses 5) [] ≡ [])
+unfolding noteTook choose bytesOf lowBytes turned
+alone = (refl, refl)
