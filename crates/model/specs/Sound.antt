@@ -124,6 +124,75 @@ is-sound c r h =
     (both-yes _ _ (h .legal-bytes)
     (both-yes _ _ (h .slots) (both-yes _ _ (h .held) (eq-eqb _ _ (h .descriptors))))))))
 
+-- a state that is not sound
+pub not-sound : (c : Connection) (r : Rooms) → (Sound c r → ⊥) → false ≡ soundb c r
+not-sound c r h = go (soundb c r) refl
+  where
+    go : (b : Bool) → soundb c r ≡ b → false ≡ soundb c r
+    go true e = absurd (h (sound-is c r e))
+    go false e = sym e
+
+-- ---- the tests of the code, in its order: the store's length and the full numbers, then the run of outstanding requests, then the rooms
+
+unfoldable pub limitsb : Connection → Bool
+limitsb c =
+    both (leb leastBytes (c .room))
+    (both (leb (c .room) mostBytes) (both (leb (c .written) lastNumber) (both (leb (c .expected) lastNumber) (leb (c .read) lastNumber))))
+
+unfoldable pub runb : ℕ → ℕ → ℕ → Bool
+runb first written most = both (leb 1 first) (both (leb first (written + 1)) (leb (written + 1 - first) most))
+
+abbrev pub windowOf : ℕ → ℕ → Window
+windowOf start end = record { start = start; end = end }
+
+both-on : {a b : Bool} → a ≡ true → b ≡ both a b
+unfolding both
+both-on {b = b} e = ap (λ (k : Bool). both k b) (sym e)
+
+pub limits-last : (c : Connection) → leastBytes ≤ c .room → c .room ≤ mostBytes → c .written ≤ lastNumber → c .expected ≤ lastNumber → leb (c .read) lastNumber ≡ limitsb c
+unfolding limitsb
+limits-last c l m w e =
+    both-on (le-leb (c .expected) lastNumber e) ∙ both-on (le-leb (c .written) lastNumber w) ∙ both-on (le-leb (c .room) mostBytes m) ∙ both-on (le-leb leastBytes (c .room) l)
+
+pub limits-written : (c : Connection) → limitsb c ≡ true → c .written ≤ lastNumber
+unfolding limitsb
+limits-written c h = leb-true _ _ (both-left _ _ (both-right _ _ (both-right _ _ h)))
+
+pub limits-run : (c : Connection) → limitsb c ≡ true → runb (c .first) (c .written) (c .capacity) ≡ true → Numbers c
+unfolding limitsb runb
+limits-run c h k =
+    let h₁ = both-right _ _ h in let h₂ = both-right _ _ h₁ in let h₃ = both-right _ _ h₂ in
+    record {
+      store-least = leb-true _ _ (both-left _ _ h);
+      store-most = leb-true _ _ (both-left _ _ h₁);
+      written-most = leb-true _ _ (both-left _ _ h₂);
+      expected-most = leb-true _ _ (both-left _ _ h₃);
+      read-most = leb-true _ _ (both-right _ _ h₃);
+      first-least = leb-true _ _ (both-left _ _ k);
+      first-most = leb-true _ _ (both-left _ _ (both-right _ _ k));
+      count-most = leb-true _ _ (both-right _ _ (both-right _ _ k));
+    }
+
+pub numbers-limits : (c : Connection) → Numbers c → limitsb c ≡ true
+unfolding limitsb
+numbers-limits c n =
+    both-yes _ _ (le-leb leastBytes (c .room) (n .store-least))
+    (both-yes _ _ (le-leb (c .room) mostBytes (n .store-most))
+    (both-yes _ _ (le-leb (c .written) lastNumber (n .written-most))
+    (both-yes _ _ (le-leb (c .expected) lastNumber (n .expected-most)) (le-leb (c .read) lastNumber (n .read-most)))))
+
+pub numbers-run : (c : Connection) → Numbers c → runb (c .first) (c .written) (c .capacity) ≡ true
+unfolding runb
+numbers-run c n =
+    both-yes _ _ (le-leb 1 (c .first) (n .first-least))
+    (both-yes _ _ (le-leb (c .first) (c .written + 1) (n .first-most)) (le-leb (c .written + 1 - c .first) (c .capacity) (n .count-most)))
+
+-- what is left to test once all but the rooms was found
+pub rooms-left : (c : Connection) (r : Rooms) → legal (c .order) ≡ true → sized (c .capacity) (r .requests) ≡ true → length (r .store) ≡ c .room → Numbers c → Slots.sound (slotsOf c r) ≡ true
+    → both (legals (r .requests) (c .first) (count c)) (heldb c (r .store)) ≡ soundb c r
+unfolding soundb both
+rooms-left c r o q l n s = simp (o, q, eq-eqb (length (r .store)) (c .room) l, is-numbers c n, s)
+
 -- what a walk over the store tells
 pub walked-sound : (read : ℕ) (w : Window) (held : ℕ) (s : List ℕ) (n : ℕ) → Walked.Sound n ≡ walked read w s → eqb n held ≡ holdsb read w held s
 unfolding walked holdsb choose both

@@ -1,6 +1,6 @@
 -- `model::soundness::held_sound` meets its contract. Assumes nothing.
-use Rattle.model.specs.Sound.{walked-sound, walked-unsound}
 use mathlib.Core.Path.{sym, _∙_}
+use Rattle.model.specs.Sound.{walked-sound, walked-unsound}
 use borrow.Author.Needs.{needs}
 use Rattle.model.proofs.soundness.held_sound.Statement.{statement}
 use Rattle.model.proofs.soundness.held_sound.Tie as tie
