@@ -1,130 +1,190 @@
-// Inside: the calls of a connection by name, for a program that reads them from a script.
+// Inside: the commands of a connection, for a program that reads them from a script.
 //
-// A call is a value, and so is its answer: state and answer come back side by side, and a refused
-// call hands back the state that it was given. Packets go in and out of one lent run of bytes,
-// descriptors of one lent list. No call has a `requires`.
+// A command is carried out and its answer written behind what waits (`text`); state and end of the
+// text come back side by side, and a refused call hands back the state that it was given. Packets go
+// in and out of one lent run of bytes, in which the text stands too. No call has a `requires`.
+mod feeds;
 mod many;
 mod polls;
 mod sends;
 
-pub use many::drain;
 use model::Closed;
 use model::Connection;
-use model::DiscardMode;
-use model::ReplyFdKind;
-pub use polls::intake;
-use refusal::Refusal;
+use packet_reader::PacketReader;
+use script::Op;
+use text::Answer;
 
-// A call. A packet to take in stands in the bytes from one index to another; descriptors are the
-// first of the list, so many of them.
-pub enum Call {
-    Send(ReplyFdKind),
-    SendMany(ReplyFdKind, u64),
-    Fds(usize),
-    Intake(usize, usize),
-    Discard(u64, DiscardMode),
-    PollReplyOrError(u64),
-    PollCheck(u64),
-    PollReply(u64),
-    Prepare(u64),
-    PollEvent,
-    // Requests of kinds that stand in the bytes from one index to another: 0, 1 and 2 are `none`,
-    // `reply` and `fds`.
-    SendAll(usize, usize),
-    // Packets that stand there one behind the other.
-    IntakeAll(usize, usize),
-}
-
-// What a call answers. Packets are at the start of the bytes, so many of them; descriptors at the
-// start of the list.
-pub enum Answer {
-    Done,
-    Number(u64),
-    // Of several sends: the last number, and how many were accepted.
-    Numbers(u64, u64),
-    // The refusal of the last, and how many were accepted before.
-    Stopped(Refusal, u64),
-    Nothing,
-    Packet(usize, usize),
-    Event(u64, usize),
-    TryAgain,
-    NoReply,
-    Reply(usize),
-    Whether(bool),
-    Refused(Refusal),
-    // Of a row of sends: how many, the last number written, and the number of the refusal that
-    // stopped it, or 0.
-    Sent(usize, u64, u8),
-    // Of a row of packets: how many, their bytes, and the number of the refusal, or 0.
-    Taken(usize, usize, u8),
-    // So many events: their packets one behind the other, two marks for each.
-    Events(usize),
-}
-
+// What a call answers: the connection to go on with, and what is written.
 pub struct Called {
     pub connection: Connection,
     pub answer: Answer,
 }
 
-pub fn make(
-    c: Connection,
-    call: Call,
+// What a command leaves: connection, reader, and where the text ends.
+pub struct Done {
+    pub connection: Connection,
+    pub reader: PacketReader,
+    pub waiting: usize,
+}
+
+pub fn left(connection: Connection, reader: PacketReader, waiting: usize) -> Done {
+    Done {
+        connection: connection,
+        reader: reader,
+        waiting: waiting,
+    }
+}
+
+// A command of the connection, over rooms as long as it was opened with.
+pub fn line(
+    start: Done,
+    op: Op,
     requests: &mut [u8],
     store: &mut [u8],
     slots: &mut [u32],
     bytes: &mut [u8],
-    list: &mut [u32],
-) -> Called {
-    match call {
-        Call::Send(kind) => {
-            return sends::send(c, kind, requests, store, slots);
+) -> Done {
+    let k = start.connection.capacity;
+    let s = start.connection.room;
+    if requests.len() < k {
+        return start;
+    }
+    if store.len() < s {
+        return start;
+    }
+    ended(start, op, &mut requests[..k], &mut store[..s], slots, bytes)
+}
+
+// The command, and what it put on the close list.
+fn ended(
+    start: Done,
+    op: Op,
+    requests: &mut [u8],
+    store: &mut [u8],
+    slots: &mut [u32],
+    bytes: &mut [u8],
+) -> Done {
+    let done = carried(start, op, requests, store, slots, bytes);
+    if done.connection.counts.closed == 0 {
+        return done;
+    }
+    close(done, requests, store, slots, bytes)
+}
+
+// The commands that write more than one call's answer, and the others.
+fn carried(
+    start: Done,
+    op: Op,
+    requests: &mut [u8],
+    store: &mut [u8],
+    slots: &mut [u32],
+    bytes: &mut [u8],
+) -> Done {
+    let code = op.code;
+    match code {
+        script::FEED | script::FEEDIN => {
+            return feeds::line(start, op, requests, store, slots, bytes);
         }
-        Call::SendMany(kind, count) => {
-            return sends::send_many(c, kind, count, requests, store, slots);
+        script::DRAIN => {
+            return many::drain(start, requests, store, slots, bytes);
         }
-        Call::SendAll(from, end) => {
-            return many::send(c, from, end, requests, store, slots, bytes);
+        script::POLL_REPLY_OR_ERROR => {
+            return polls::reply_or_error(start, op.a, requests, store, slots, bytes);
         }
-        Call::Fds(count) => {
-            return sends::fds(c, count, requests, store, slots, list);
-        }
-        Call::Discard(n, mode) => {
-            return sends::discard(c, n, mode, requests, store, slots);
+        script::STATE => {
+            return told(start, requests, store, slots, bytes);
         }
         _ => {
-            return answered(c, call, requests, store, slots, bytes, list);
+            return single(start, op, requests, store, slots, bytes);
         }
     }
 }
 
-// The calls that take packets in and hand them out.
-fn answered(
+fn told(start: Done, requests: &[u8], store: &[u8], slots: &[u32], bytes: &mut [u8]) -> Done {
+    let c = start.connection;
+    let mut done = start;
+    done.waiting = shown::line(c, requests, store, slots, bytes, start.waiting);
+    done
+}
+
+fn single(
+    start: Done,
+    op: Op,
+    requests: &mut [u8],
+    store: &mut [u8],
+    slots: &mut [u32],
+    bytes: &mut [u8],
+) -> Done {
+    let c = start.connection;
+    let called = make(c, op, requests, store, slots, bytes);
+    answered(start, called, bytes)
+}
+
+// The answer written.
+pub(crate) fn answered(start: Done, called: Called, bytes: &mut [u8]) -> Done {
+    let c = called.connection;
+    let answer = called.answer;
+    let waiting = text::tell(bytes, start.waiting, answer);
+    left(c, start.reader, waiting)
+}
+
+// A call that writes nothing but its answer.
+fn make(
     c: Connection,
-    call: Call,
+    op: Op,
+    requests: &mut [u8],
+    store: &mut [u8],
+    slots: &mut [u32],
+    bytes: &mut [u8],
+) -> Called {
+    let code = op.code;
+    match code {
+        script::SEND => {
+            return sends::send(c, op.a, requests, store, slots);
+        }
+        script::SENDMANY => {
+            return sends::send_many(c, op.a, op.b, requests, store, slots);
+        }
+        script::SENDALL => {
+            return many::send(c, op, requests, store, slots, bytes);
+        }
+        script::DISCARD => {
+            return sends::discard(c, op, requests, store, slots);
+        }
+        _ => {
+            return taken(c, op, requests, store, slots, bytes);
+        }
+    }
+}
+
+// The calls that leave the requests as they are.
+fn taken(
+    c: Connection,
+    op: Op,
     requests: &[u8],
     store: &mut [u8],
     slots: &mut [u32],
     bytes: &mut [u8],
-    list: &mut [u32],
 ) -> Called {
-    match call {
-        Call::Intake(from, end) => {
-            return polls::intake(c, from, end, requests, store, slots, bytes);
+    let code = op.code;
+    match code {
+        script::INTAKE => {
+            return polls::intake(c, op, requests, store, slots, bytes);
         }
-        Call::IntakeAll(from, end) => {
-            return many::intake(c, from, end, requests, store, slots, bytes);
+        script::FEEDALL => {
+            return many::intake(c, op, requests, store, slots, bytes);
         }
-        Call::PollReplyOrError(n) => {
-            return polls::reply_or_error(c, n, requests, store, slots, bytes, list);
+        script::FDS => {
+            return sends::fds(c, op, requests, store, slots, bytes);
         }
-        Call::PollCheck(n) => {
-            return polls::check(c, n, requests, store, slots, bytes);
+        script::PREPARE => {
+            return sends::prepare(c, op.a, requests, store, slots);
         }
-        Call::PollReply(n) => {
-            return polls::reply(c, n, requests, store, slots, bytes);
+        script::POLL_CHECK => {
+            return polls::check(c, op.a, requests, store, slots, bytes);
         }
-        Call::Prepare(n) => {
-            return sends::prepare(c, n, requests, store, slots);
+        script::POLL_REPLY => {
+            return polls::reply(c, op.a, requests, store, slots, bytes);
         }
         _ => {
             return polls::event(c, requests, store, slots, bytes);
@@ -132,28 +192,39 @@ fn answered(
     }
 }
 
-// After a call: the connection, and how many descriptors it had to close. They are at the start of
-// the list.
-pub struct Closing {
-    pub connection: Connection,
-    pub count: usize,
+// The close list, taken whole and listed.
+fn close(start: Done, requests: &[u8], store: &[u8], slots: &mut [u32], bytes: &mut [u8]) -> Done {
+    let mut space = [0u32; LIST];
+    let list: &mut [u32] = &mut space;
+    let c = start.connection;
+    match connection::take_closed_fds(c, requests, store, slots, list) {
+        Closed::Taken(count, next) => {
+            return listed(
+                left(next, start.reader, start.waiting),
+                b" closed",
+                count,
+                list,
+                bytes,
+            );
+        }
+        Closed::Refused(_) => {
+            return start;
+        }
+    }
 }
 
-pub fn close(
-    c: Connection,
-    requests: &[u8],
-    store: &[u8],
-    slots: &mut [u32],
-    list: &mut [u32],
-) -> Closing {
-    match connection::take_closed_fds(c, requests, store, slots, list) {
-        Closed::Taken(count, next) => Closing {
-            connection: next,
-            count: count,
-        },
-        Closed::Refused(_) => Closing {
-            connection: c,
-            count: 0,
-        },
-    }
+// More than there can be inside.
+pub(crate) const LIST: usize = 257;
+
+// A word, and the first descriptors of a list.
+pub(crate) fn listed(
+    start: Done,
+    word: &[u8],
+    count: usize,
+    list: &[u32],
+    bytes: &mut [u8],
+) -> Done {
+    let mut done = start;
+    done.waiting = text::first(bytes, start.waiting, word, list, count);
+    done
 }

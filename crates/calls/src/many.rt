@@ -1,6 +1,6 @@
 // The calls that make a row of steps: `send_requests`, `enqueue_packets` and `poll_for_events`.
-use crate::Answer;
 use crate::Called;
+use crate::Done;
 use crate::sends;
 use model::Connection;
 use model::Events;
@@ -9,18 +9,18 @@ use model::Halt;
 use model::SentMany;
 use model::Stop;
 use refusal::Refusal;
+use script::Op;
 
 // The bytes from one index to another are the kinds of requests.
 pub(crate) fn send(
     c: Connection,
-    from: usize,
-    end: usize,
+    op: Op,
     requests: &mut [u8],
     store: &[u8],
     slots: &[u32],
     bytes: &[u8],
 ) -> Called {
-    let kinds = cut(bytes, from, end);
+    let kinds = cut(bytes, op.a as usize, op.b as usize);
     sent(
         c,
         connection::send_requests(c, requests, store, slots, kinds),
@@ -29,12 +29,15 @@ pub(crate) fn send(
 
 fn sent(c: Connection, answer: SentMany) -> Called {
     match answer {
-        SentMany::Sent(count, last, stop, next) => Called {
-            connection: next,
-            answer: Answer::Sent(count, last.0, by(stop)),
-        },
+        SentMany::Sent(count, last, stop, next) => {
+            row(next, text::SENT, count, text::LAST, last.0, by(stop))
+        }
         SentMany::Refused(refusal) => sends::refused(c, refusal),
     }
+}
+
+fn row(c: Connection, word: u64, count: usize, also: u64, m: u64, stop: u8) -> Called {
+    sends::with(c, text::both(word, count as u64, also, m, stop))
 }
 
 // The number of the refusal that stopped a row, or 0.
@@ -48,14 +51,13 @@ fn by(stop: Stop) -> u8 {
 // The bytes from one index to another came from the server.
 pub(crate) fn intake(
     c: Connection,
-    from: usize,
-    end: usize,
+    op: Op,
     requests: &[u8],
     store: &mut [u8],
     slots: &mut [u32],
     bytes: &[u8],
 ) -> Called {
-    let came = cut(bytes, from, end);
+    let came = cut(bytes, op.a as usize, op.b as usize);
     fed(
         c,
         connection::enqueue_packets(c, requests, store, slots, came),
@@ -64,10 +66,16 @@ pub(crate) fn intake(
 
 fn fed(c: Connection, answer: Fed) -> Called {
     match answer {
-        Fed::Taken(n, packets, halt, next) => Called {
-            connection: next,
-            answer: Answer::Taken(packets, n, halted(halt)),
-        },
+        Fed::Taken(n, packets, halt, next) => {
+            row(
+                next,
+                text::PACKETS,
+                packets,
+                text::BYTES,
+                n as u64,
+                halted(halt),
+            )
+        }
         Fed::Refused(refusal) => sends::refused(c, refusal),
     }
 }
@@ -80,38 +88,8 @@ fn halted(halt: Halt) -> u8 {
     }
 }
 
-// As many events as fit into the first bytes, so many of them, and into the marks.
-pub fn drain(
-    c: Connection,
-    room: usize,
-    requests: &[u8],
-    store: &mut [u8],
-    slots: &[u32],
-    bytes: &mut [u8],
-    marks: &mut [u64],
-) -> Called {
-    if bytes.len() < room {
-        return sends::refused(c, Refusal::OutShort);
-    }
-    let out = &mut bytes[..room];
-    handed(
-        c,
-        connection::poll_for_events(c, requests, store, slots, out, marks),
-    )
-}
-
-fn handed(c: Connection, answer: Events) -> Called {
-    match answer {
-        Events::Handed(count, _, _, next) => Called {
-            connection: next,
-            answer: Answer::Events(count),
-        },
-        Events::Refused(refusal) => sends::refused(c, refusal),
-    }
-}
-
 // The bytes from one index to another, or none where they aren't there.
-fn cut<'a>(bytes: &'a [u8], from: usize, end: usize) -> &'a [u8] {
+pub(crate) fn cut<'a>(bytes: &'a [u8], from: usize, end: usize) -> &'a [u8] {
     if bytes.len() < end {
         return &bytes[0..0];
     }
@@ -119,4 +97,96 @@ fn cut<'a>(bytes: &'a [u8], from: usize, end: usize) -> &'a [u8] {
         return &bytes[0..0];
     }
     &bytes[from..end]
+}
+
+// ---- `drain`
+
+// Two for each event of the least length that the bytes can hold.
+const MARKS: usize = 4096;
+
+// One call that hands out many events. Their packets go to the start of the run of bytes, up to the
+// reader's buffer.
+pub(crate) fn drain(
+    start: Done,
+    requests: &[u8],
+    store: &mut [u8],
+    slots: &[u32],
+    bytes: &mut [u8],
+) -> Done {
+    let mut space = [0u64; MARKS];
+    let marks: &mut [u64] = &mut space;
+    let c = start.connection;
+    let answer = polled(c, leaves::READER, requests, store, slots, bytes, marks);
+    drained(start, answer, bytes, marks)
+}
+
+// As many as fit into the first bytes, so many of them, and into the marks.
+fn polled(
+    c: Connection,
+    room: usize,
+    requests: &[u8],
+    store: &mut [u8],
+    slots: &[u32],
+    bytes: &mut [u8],
+    marks: &mut [u64],
+) -> Events {
+    if bytes.len() < room {
+        return Events::Refused(Refusal::OutShort);
+    }
+    connection::poll_for_events(c, requests, store, slots, &mut bytes[..room], marks)
+}
+
+fn drained(start: Done, answer: Events, bytes: &mut [u8], marks: &[u64]) -> Done {
+    match answer {
+        Events::Handed(count, _, _, next) => {
+            let a = text::counted(bytes, start.waiting, b" events ", count as u64);
+            let b = events(count, marks, bytes, a);
+            return crate::left(next, start.reader, b);
+        }
+        Events::Refused(refusal) => {
+            let c = start.connection;
+            return crate::answered(start, sends::refused(c, refusal), bytes);
+        }
+    }
+}
+
+fn events(count: usize, marks: &[u64], bytes: &mut [u8], waiting: usize) -> usize {
+    let mut next = waiting;
+    let mut from = 0;
+    let mut i = 0;
+    while i < count {
+        let len = length_at(marks, i);
+        next = event(number_at(marks, i), from, len, bytes, next);
+        from = after(from, len);
+        i += 1;
+    }
+    next
+}
+
+// An event's number, and its packet, which stands from an index on.
+fn event(number: u64, from: usize, len: usize, bytes: &mut [u8], waiting: usize) -> usize {
+    let a = text::counted(bytes, waiting, b" ", number);
+    text::packet(bytes, a, from, len)
+}
+
+// The two marks of an event: its number and the length of its packet.
+fn number_at(marks: &[u64], i: usize) -> u64 {
+    if marks.len() / 2 <= i {
+        return 0;
+    }
+    marks[2 * i]
+}
+
+fn length_at(marks: &[u64], i: usize) -> usize {
+    if marks.len() / 2 <= i {
+        return 0;
+    }
+    marks[2 * i + 1] as usize
+}
+
+pub(crate) fn after(from: usize, len: usize) -> usize {
+    if usize::MAX - from < len {
+        return from;
+    }
+    from + len
 }

@@ -1,72 +1,35 @@
-// `enqueue_packet`, the polls, and `take_closed_fds`.
-use crate::Answer;
+// `enqueue_packet`, and the polls. Packets are handed out at the start of the run of bytes.
 use crate::Called;
+use crate::Done;
+use crate::many;
 use crate::sends;
 use model::Connection;
 use model::Enqueued;
 use model::Event;
 use model::PollReply;
 use model::Polled;
-use refusal::Refusal;
+use script::Op;
 
 // The bytes from one index to another are a packet.
-pub fn intake(
+pub(crate) fn intake(
     c: Connection,
-    from: usize,
-    end: usize,
+    op: Op,
     requests: &[u8],
     store: &mut [u8],
     slots: &mut [u32],
     bytes: &[u8],
 ) -> Called {
-    if bytes.len() < end {
-        return sends::refused(c, Refusal::LongPacket);
-    }
-    if end < from {
-        return sends::refused(c, Refusal::ShortPacket);
-    }
+    let packet = many::cut(bytes, op.a as usize, op.b as usize);
     filed(
         c,
-        connection::enqueue_packet(c, requests, store, slots, &bytes[from..end]),
+        connection::enqueue_packet(c, requests, store, slots, packet),
     )
 }
 
 fn filed(c: Connection, answer: Enqueued) -> Called {
     match answer {
-        Enqueued::Filed(_, _, next) => Called {
-            connection: next,
-            answer: Answer::Done,
-        },
+        Enqueued::Filed(_, _, next) => sends::with(next, text::say(text::OK)),
         Enqueued::Refused(refusal) => sends::refused(c, refusal),
-    }
-}
-
-pub(crate) fn reply_or_error(
-    c: Connection,
-    number: u64,
-    requests: &[u8],
-    store: &mut [u8],
-    slots: &mut [u32],
-    bytes: &mut [u8],
-    list: &mut [u32],
-) -> Called {
-    polled(
-        c,
-        connection::poll_for_reply_or_error(c, requests, store, slots, number, bytes, list),
-    )
-}
-
-fn polled(c: Connection, answer: Polled) -> Called {
-    match answer {
-        Polled::Packet(len, count, next) => Called {
-            connection: next,
-            answer: Answer::Packet(len, count),
-        },
-        Polled::Nothing(next) => Called {
-            connection: next,
-            answer: Answer::Nothing,
-        },
-        Polled::Refused(refusal) => sends::refused(c, refusal),
     }
 }
 
@@ -100,18 +63,9 @@ pub(crate) fn reply(
 
 fn replied(c: Connection, answer: PollReply) -> Called {
     match answer {
-        PollReply::TryAgain(next) => Called {
-            connection: next,
-            answer: Answer::TryAgain,
-        },
-        PollReply::NoReply(next) => Called {
-            connection: next,
-            answer: Answer::NoReply,
-        },
-        PollReply::Reply(len, next) => Called {
-            connection: next,
-            answer: Answer::Reply(len),
-        },
+        PollReply::TryAgain(next) => sends::with(next, text::say(text::AGAIN)),
+        PollReply::NoReply(next) => sends::with(next, text::say(text::NOREPLY)),
+        PollReply::Reply(len, next) => sends::with(next, text::shown(text::REPLY, 0, len)),
         PollReply::Refused(refusal) => sends::refused(c, refusal),
     }
 }
@@ -131,14 +85,63 @@ pub(crate) fn event(
 
 fn happened(c: Connection, answer: Event) -> Called {
     match answer {
-        Event::Packet(number, len, next) => Called {
-            connection: next,
-            answer: Answer::Event(number.0, len),
-        },
-        Event::Nothing(next) => Called {
-            connection: next,
-            answer: Answer::Nothing,
-        },
+        Event::Packet(number, len, next) => sends::with(next, shown(number.0, len)),
+        Event::Nothing(next) => sends::with(next, text::say(text::NONE)),
         Event::Refused(refusal) => sends::refused(c, refusal),
+    }
+}
+
+fn shown(number: u64, len: usize) -> text::Answer {
+    let mut answer = text::count(text::EVENT, number);
+    answer.len = len;
+    answer
+}
+
+// The one call that hands out descriptors besides, which are listed behind its packet.
+pub(crate) fn reply_or_error(
+    start: Done,
+    number: u64,
+    requests: &[u8],
+    store: &mut [u8],
+    slots: &mut [u32],
+    bytes: &mut [u8],
+) -> Done {
+    let mut space = [0u32; crate::LIST];
+    let list: &mut [u32] = &mut space;
+    let c = start.connection;
+    let answer = connection::poll_for_reply_or_error(
+        c,
+        requests,
+        store,
+        slots,
+        number,
+        bytes,
+        list,
+    );
+    handed(start, answer, list, bytes)
+}
+
+fn handed(start: Done, answer: Polled, list: &[u32], bytes: &mut [u8]) -> Done {
+    let c = start.connection;
+    let done = crate::answered(start, polled(c, answer), bytes);
+    let count = count_of(answer);
+    if count == 0 {
+        return done;
+    }
+    crate::listed(done, b" fds", count, list, bytes)
+}
+
+fn polled(c: Connection, answer: Polled) -> Called {
+    match answer {
+        Polled::Packet(len, _, next) => sends::with(next, text::shown(text::PACKET, 0, len)),
+        Polled::Nothing(next) => sends::with(next, text::say(text::NONE)),
+        Polled::Refused(refusal) => sends::refused(c, refusal),
+    }
+}
+
+fn count_of(answer: Polled) -> usize {
+    match answer {
+        Polled::Packet(_, count, _) => count,
+        _ => 0,
     }
 }

@@ -1,5 +1,4 @@
 // `send_request`, `enqueue_fds`, `discard_reply` and `prepare_check_for_reply_or_error`.
-use crate::Answer;
 use crate::Called;
 use model::Connection;
 use model::DiscardMode;
@@ -8,43 +7,59 @@ use model::Prepared;
 use model::ReplyFdKind;
 use model::Sent;
 use refusal::Refusal;
+use script::Bytes;
+use script::Op;
+use text::Answer;
 
-pub(crate) fn send(
-    c: Connection,
-    kind: ReplyFdKind,
-    requests: &mut [u8],
-    store: &[u8],
-    slots: &[u32],
-) -> Called {
-    sent(c, connection::send_request(c, requests, store, slots, kind))
-}
-
-fn sent(c: Connection, answer: Sent) -> Called {
-    match answer {
-        Sent::Number(number, next) => Called {
-            connection: next,
-            answer: Answer::Number(number.0),
-        },
-        Sent::Refused(refusal) => refused(c, refusal),
+pub(crate) fn with(connection: Connection, answer: Answer) -> Called {
+    Called {
+        connection: connection,
+        answer: answer,
     }
 }
 
 pub(crate) fn refused(c: Connection, refusal: Refusal) -> Called {
-    Called {
-        connection: c,
-        answer: Answer::Refused(refusal),
+    with(c, text::refusal(refusal))
+}
+
+fn kind_of(kind: u64) -> ReplyFdKind {
+    match kind {
+        0 => ReplyFdKind::NoReply,
+        1 => ReplyFdKind::ReplyWithoutFds,
+        _ => ReplyFdKind::ReplyWithFds,
+    }
+}
+
+pub(crate) fn send(
+    c: Connection,
+    kind: u64,
+    requests: &mut [u8],
+    store: &[u8],
+    slots: &[u32],
+) -> Called {
+    sent(
+        c,
+        connection::send_request(c, requests, store, slots, kind_of(kind)),
+    )
+}
+
+fn sent(c: Connection, answer: Sent) -> Called {
+    match answer {
+        Sent::Number(number, next) => with(next, text::count(0, number.0)),
+        Sent::Refused(refusal) => refused(c, refusal),
     }
 }
 
 // A refused send leaves the state as it was, so those after it are refused alike.
 pub(crate) fn send_many(
     start: Connection,
-    kind: ReplyFdKind,
+    kind: u64,
     count: u64,
     requests: &mut [u8],
     store: &[u8],
     slots: &[u32],
 ) -> Called {
+    let kind = kind_of(kind);
     let mut c = start;
     let mut done: u64 = 0;
     while done < count {
@@ -53,22 +68,43 @@ pub(crate) fn send_many(
                 c = next;
             }
             Sent::Refused(refusal) => {
-                return Called {
-                    connection: c,
-                    answer: Answer::Stopped(refusal, done),
-                };
+                return stopped(c, refusal, done);
             }
         }
         done += 1;
     }
-    Called {
-        connection: c,
-        answer: Answer::Numbers(c.written, done),
-    }
+    accepted(c, done)
 }
 
-// The first count numbers of the list join the waiting ones.
+fn stopped(c: Connection, refusal: Refusal, done: u64) -> Called {
+    let stop = refusal.number() as u64;
+    with(c, text::both(text::REFUSED, stop, text::ACCEPTED, done, 0))
+}
+
+// The number of the last, if there was one.
+fn accepted(c: Connection, done: u64) -> Called {
+    if done == 0 {
+        return with(c, text::also(0, text::ACCEPTED, done));
+    }
+    with(c, text::both(0, c.written, text::ACCEPTED, done, 0))
+}
+
+// The descriptors of the line join the waiting ones.
 pub(crate) fn fds(
+    c: Connection,
+    op: Op,
+    requests: &[u8],
+    store: &[u8],
+    slots: &mut [u32],
+    bytes: &[u8],
+) -> Called {
+    let mut space = [0u32; crate::LIST];
+    let list: &mut [u32] = &mut space;
+    let count = count_of(script::fds(bytes, op.a as usize, op.b as usize, list));
+    join(c, count, requests, store, slots, list)
+}
+
+fn join(
     c: Connection,
     count: usize,
     requests: &[u8],
@@ -85,28 +121,40 @@ pub(crate) fn fds(
     )
 }
 
+// A line that names none has no words to read.
+fn count_of(read: Bytes) -> usize {
+    match read {
+        Bytes::End(count) => count,
+        Bytes::Bad => 0,
+    }
+}
+
 // The answer of a call that only hands back the state.
 fn next(c: Connection, answer: Next) -> Called {
     match answer {
-        Next::State(next) => Called {
-            connection: next,
-            answer: Answer::Done,
-        },
+        Next::State(next) => with(next, text::say(text::OK)),
         Next::Refused(refusal) => refused(c, refusal),
+    }
+}
+
+fn mode_of(mode: u64) -> DiscardMode {
+    match mode {
+        0 => DiscardMode::DiscardReply,
+        _ => DiscardMode::DiscardReplyAndError,
     }
 }
 
 pub(crate) fn discard(
     c: Connection,
-    number: u64,
-    mode: DiscardMode,
+    op: Op,
     requests: &mut [u8],
     store: &mut [u8],
     slots: &mut [u32],
 ) -> Called {
+    let mode = mode_of(op.b);
     next(
         c,
-        connection::discard_reply(c, requests, store, slots, number, mode),
+        connection::discard_reply(c, requests, store, slots, op.a, mode),
     )
 }
 
@@ -118,10 +166,7 @@ pub(crate) fn prepare(
     slots: &[u32],
 ) -> Called {
     match connection::prepare_check_for_reply_or_error(c, requests, store, slots, number) {
-        Prepared::Answer(yes) => Called {
-            connection: c,
-            answer: Answer::Whether(yes),
-        },
+        Prepared::Answer(yes) => with(c, text::whether(yes)),
         Prepared::Refused(refusal) => refused(c, refusal),
     }
 }

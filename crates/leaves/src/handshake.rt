@@ -1,14 +1,15 @@
 // The handshake.
 use crate::Leaves;
-use crate::Said;
 use crate::Turned;
 use crate::moves;
 use crate::refused;
+use crate::roomed;
 use connect::Advanced;
 use connect::Capacity;
 use connect::Connect;
 use connect::Made;
 use refusal::Refusal;
+use text::Answer;
 
 // The bytes that a setup reply begins with.
 pub(crate) const HEAD: usize = 8;
@@ -18,18 +19,18 @@ fn buffer<'a>(bytes: &'a [u8]) -> &'a [u8] {
     moves::part(bytes, crate::SETUP, crate::END)
 }
 
-fn with(leaves: Leaves, handshake: Connect, said: Said) -> Turned {
+fn with(leaves: Leaves, handshake: Connect, answer: Answer) -> Turned {
     let mut next = leaves;
     next.handshake = handshake;
     Turned {
         leaves: next,
-        said: said,
+        answer: answer,
     }
 }
 
 pub(crate) fn new(leaves: Leaves, order: u8, bytes: &[u8]) -> Turned {
     match Connect::new(order, buffer(bytes)) {
-        Made::Handshake(handshake) => with(leaves, handshake, Said::Done),
+        Made::Handshake(handshake) => with(leaves, handshake, text::say(text::OK)),
         Made::Refused(refusal) => refused(leaves, refusal),
     }
 }
@@ -57,15 +58,15 @@ pub(crate) fn fill(leaves: Leaves, bytes: &mut [u8], from: usize, end: usize) ->
     );
     Turned {
         leaves: leaves,
-        said: Said::Done,
+        answer: text::say(text::OK),
     }
 }
 
 pub(crate) fn advance(leaves: Leaves, bytes: &[u8], n: usize) -> Turned {
     let handshake = leaves.handshake;
     match handshake.advance(buffer(bytes), n) {
-        Advanced::NotYet(next) => with(leaves, next, Said::Complete(false, room(next, bytes))),
-        Advanced::Complete(next) => with(leaves, next, Said::Complete(true, room(next, bytes))),
+        Advanced::NotYet(next) => with(leaves, next, roomed(text::FALSE, room(next, bytes))),
+        Advanced::Complete(next) => with(leaves, next, roomed(text::TRUE, room(next, bytes))),
         Advanced::Refused(refusal) => refused(leaves, refusal),
     }
 }

@@ -1,5 +1,6 @@
 // Inside: a packet reader, a handshake and an allocator of ids, for a program that reads calls from
-// a script.
+// a script. State and answer come back side by side, and a refused call hands back the state that it
+// was given.
 //
 // One lent run of bytes holds the buffers of reader and handshake, each at its own place, and the
 // bytes that a script puts into them somewhere behind. No call has a `requires`: where the run is
@@ -16,6 +17,8 @@ pub use reader::Fed;
 pub use reader::feed;
 pub use reader::room;
 use refusal::Refusal;
+use script::Op;
+use text::Answer;
 
 // Where the reader's buffer begins, where it ends and that of the handshake begins, and where that
 // ends.
@@ -25,31 +28,6 @@ pub const SETUP: usize = 131072;
 
 pub const END: usize = 393220;
 
-// A call. Bytes to be put into a buffer stand in the run from one index to another.
-pub enum Leaf {
-    Reader,
-    Room,
-    Fill(usize, usize),
-    Advance(u64),
-    Hello,
-    HFill(usize, usize),
-    HAdvance(u64),
-    Ids(u32, u32),
-    Gen,
-    Range(u32, u32),
-}
-
-// What a call answers. A packet of so many bytes is at the start of the reader's buffer.
-pub enum Said {
-    Done,
-    Room(usize),
-    NotYet(usize),
-    Packet(usize),
-    Complete(bool, usize),
-    Id(u32),
-    Refused(Refusal),
-}
-
 pub struct Leaves {
     pub reader: PacketReader,
     pub handshake: Connect,
@@ -58,7 +36,7 @@ pub struct Leaves {
 
 pub struct Turned {
     pub leaves: Leaves,
-    pub said: Said,
+    pub answer: Answer,
 }
 
 // What a script finds before its first line: a reader and a handshake in an order, and no ids.
@@ -83,37 +61,34 @@ pub fn fresh(order: u8) -> Leaves {
 }
 
 // A call. New readers and handshakes have the given order.
-pub fn make(leaves: Leaves, leaf: Leaf, order: u8, bytes: &mut [u8]) -> Turned {
-    match leaf {
-        Leaf::Reader => {
+pub fn make(leaves: Leaves, op: Op, order: u8, bytes: &mut [u8]) -> Turned {
+    let code = op.code;
+    let a = op.a;
+    let b = op.b;
+    match code {
+        script::READER => {
             return reader::new(leaves, order, bytes);
         }
-        Leaf::Room => {
+        script::ROOM => {
             return reader::left(leaves, bytes);
         }
-        Leaf::Fill(from, end) => {
-            return reader::fill(leaves, bytes, from, end);
+        script::FILL => {
+            return reader::fill(leaves, bytes, a as usize, b as usize);
         }
-        Leaf::Advance(n) => {
-            return reader::advance(leaves, bytes, n as usize);
+        script::ADVANCE => {
+            return reader::advance(leaves, bytes, a as usize);
         }
-        Leaf::Hello => {
+        script::HELLO => {
             return handshake::new(leaves, order, bytes);
         }
-        Leaf::HFill(from, end) => {
-            return handshake::fill(leaves, bytes, from, end);
+        script::HFILL => {
+            return handshake::fill(leaves, bytes, a as usize, b as usize);
         }
-        Leaf::HAdvance(n) => {
-            return handshake::advance(leaves, bytes, n as usize);
+        script::HADVANCE => {
+            return handshake::advance(leaves, bytes, a as usize);
         }
-        Leaf::Ids(base, mask) => {
-            return ids::new(leaves, base, mask);
-        }
-        Leaf::Gen => {
-            return ids::generate(leaves);
-        }
-        Leaf::Range(start, count) => {
-            return ids::range(leaves, start, count);
+        _ => {
+            return ids::make(leaves, op);
         }
     }
 }
@@ -121,6 +96,11 @@ pub fn make(leaves: Leaves, leaf: Leaf, order: u8, bytes: &mut [u8]) -> Turned {
 pub(crate) fn refused(leaves: Leaves, refusal: Refusal) -> Turned {
     Turned {
         leaves: leaves,
-        said: Said::Refused(refusal),
+        answer: text::refusal(refusal),
     }
+}
+
+// A word, and the room that is left.
+pub(crate) fn roomed(word: u64, room: usize) -> Answer {
+    text::also(word, text::ROOM, room as u64)
 }

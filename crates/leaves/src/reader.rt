@@ -1,32 +1,33 @@
 // The packet reader.
 use crate::Leaves;
-use crate::Said;
 use crate::Turned;
 use crate::moves;
 use crate::refused;
+use crate::roomed;
 use packet_reader::Advanced;
 use packet_reader::Capacity;
 use packet_reader::Made;
 use packet_reader::PacketReader;
 use refusal::Refusal;
+use text::Answer;
 
 // Its buffer.
 fn buffer<'a>(bytes: &'a [u8]) -> &'a [u8] {
     moves::part(bytes, crate::READER, crate::SETUP)
 }
 
-fn with(leaves: Leaves, reader: PacketReader, said: Said) -> Turned {
+fn with(leaves: Leaves, reader: PacketReader, answer: Answer) -> Turned {
     let mut next = leaves;
     next.reader = reader;
     Turned {
         leaves: next,
-        said: said,
+        answer: answer,
     }
 }
 
 pub(crate) fn new(leaves: Leaves, order: u8, bytes: &[u8]) -> Turned {
     match PacketReader::new(order, buffer(bytes)) {
-        Made::Reader(reader) => with(leaves, reader, Said::Done),
+        Made::Reader(reader) => with(leaves, reader, text::say(text::OK)),
         Made::Refused(refusal) => refused(leaves, refusal),
     }
 }
@@ -44,7 +45,7 @@ pub(crate) fn left(leaves: Leaves, bytes: &[u8]) -> Turned {
     match reader.remaining_capacity(buffer(bytes)) {
         Capacity::Bytes(n) => Turned {
             leaves: leaves,
-            said: Said::Room(n),
+            answer: text::count(text::ROOM, n as u64),
         },
         Capacity::Refused(refusal) => refused(leaves, refusal),
     }
@@ -60,7 +61,7 @@ pub(crate) fn fill(leaves: Leaves, bytes: &mut [u8], from: usize, end: usize) ->
     put(reader, bytes, from, n);
     Turned {
         leaves: leaves,
-        said: Said::Done,
+        answer: text::say(text::OK),
     }
 }
 
@@ -72,8 +73,12 @@ fn put(reader: PacketReader, bytes: &mut [u8], from: usize, n: usize) {
 pub(crate) fn advance(leaves: Leaves, bytes: &[u8], n: usize) -> Turned {
     let reader = leaves.reader;
     match reader.advance(buffer(bytes), n) {
-        Advanced::NotYet(next) => with(leaves, next, Said::NotYet(room(next, bytes))),
-        Advanced::Packet(len, next) => with(leaves, next, Said::Packet(len)),
+        Advanced::NotYet(next) => with(leaves, next, roomed(text::NONE, room(next, bytes))),
+        Advanced::Packet(len, next) => with(
+            leaves,
+            next,
+            text::shown(text::PACKET, crate::READER, len),
+        ),
         Advanced::Refused(refusal) => refused(leaves, refusal),
     }
 }

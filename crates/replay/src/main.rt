@@ -2,27 +2,21 @@
 // run, of the Rust, of a restored client, of last week's build.
 //
 // The language is in docs/REPLAY.md. Scripts may be of any length; memory stays as it is.
-mod feeds;
-mod input;
-mod many;
 mod run;
 
-use model::Connection;
+ghost use mathlib.Core.Path.{_≡_};
+ghost use lib.ListN.{length};
 use model::Next;
 use run::State;
 
-// The packet store; the packets handed out, the buffers of reader and handshake, and the input; the
-// text that is not written yet.
+// The packet store; and the packets handed out, the buffers of reader and handshake, the input, and
+// the text that is not written yet.
 const STORE: usize = 4194304;
 
-const BYTES: usize = 525316;
+const BYTES: usize = 1049604;
 
-const TEXT: usize = 524288;
-
-// Descriptors inside at most, and one more.
+// Descriptors inside at most.
 const SLOTS: usize = 256;
-
-const LIST: usize = 257;
 
 fn main() {
     let mut space = [0u8; STORE];
@@ -31,73 +25,57 @@ fn main() {
 }
 
 fn with_bytes(store: &mut [u8]) {
-    let mut space = [0u8; BYTES];
+    let mut space = zeros();
     let bytes: &mut [u8] = &mut space;
-    with_text(store, bytes);
+    with_rooms(store, bytes);
 }
 
-fn with_text(store: &mut [u8], bytes: &mut [u8]) {
-    let mut space = [0u8; TEXT];
-    let out: &mut [u8] = &mut space;
-    with_rooms(store, bytes, out);
+// By a call, so that no proof counts them.
+fn zeros() -> [u8; BYTES]
+    ensures { λ r. ⌜ 1049604 ≡ length r ⌝ }
+{
+    [0; BYTES]
 }
 
-fn with_rooms(store: &mut [u8], bytes: &mut [u8], out: &mut [u8]) {
+fn with_rooms(store: &mut [u8], bytes: &mut [u8]) {
     let mut a = io::large_buffer();
     let requests: &mut [u8] = &mut a;
     let mut b = [0u32; SLOTS];
     let slots: &mut [u32] = &mut b;
-    let mut c = [0u32; LIST];
-    let list: &mut [u32] = &mut c;
-    start(requests, store, slots, list, bytes, out);
+    start(requests, store, slots, bytes);
 }
 
 // Before the first line: a connection as `new` makes it.
-fn start(
-    requests: &mut [u8],
-    store: &mut [u8],
-    slots: &mut [u32],
-    list: &mut [u32],
-    bytes: &mut [u8],
-    out: &mut [u8],
-) {
+fn start(requests: &mut [u8], store: &mut [u8], slots: &mut [u32], bytes: &mut [u8]) {
     match connection::new(octets::LITTLE, requests, store, slots) {
-        Next::State(c) => script(run::fresh(c), requests, store, slots, list, bytes, out),
+        Next::State(c) => lines(run::fresh(c), requests, store, slots, bytes),
         Next::Refused(_) => {}
     }
 }
 
 // The whole input. A proved loop has to end, so it counts turns down from a number that no run uses
 // up.
-fn script(
-    fresh: State,
-    requests: &mut [u8],
-    store: &mut [u8],
-    slots: &mut [u32],
-    list: &mut [u32],
-    bytes: &mut [u8],
-    out: &mut [u8],
-) {
+fn lines(fresh: State, requests: &mut [u8], store: &mut [u8], slots: &mut [u32], bytes: &mut [u8]) {
     let mut state = fresh;
-    let mut place = input::start();
+    let mut place = script::start();
     let mut turns = u64::MAX;
     while turns > 0 {
         turns -= 1;
-        place = input::next(place, bytes);
+        place = script::next(place, bytes);
         if !place.more {
-            end(state, place.number, out);
+            end(state, place.number, bytes);
             return;
         }
-        state = run::line(state, place, requests, store, slots, list, bytes, out);
+        state = run::line(state, place, requests, store, slots, bytes);
     }
 }
 
 // The last line of the output, and everything is written. number is one more than there are lines.
-fn end(state: State, number: u64, out: &mut [u8]) {
-    let a = text::counted(out, state.waiting, b"end ", before(number));
-    let b = text::counted(out, a, b" ", state.ops);
-    let c = text::word(out, b, b"\n");
-    text::flush(out, c);
+fn end(state: State, number: u64, bytes: &mut [u8]) {
+    let a = text::counted(bytes, state.waiting, b"end ", before(number));
+    let b = text::counted(bytes, a, b" ", state.ops);
+    let c = text::word(bytes, b, b"\n");
+    text::flush(bytes, c);
 }
 
 fn before(n: u64) -> u64 {

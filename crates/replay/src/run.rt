@@ -1,21 +1,13 @@
 // A line of a script, carried out and answered.
-use crate::feeds;
-use crate::input;
-use crate::input::Place;
-use crate::many;
-use calls::Answer;
-use calls::Call;
-use calls::Called;
-use calls::Closing;
-use leaves::Leaf;
+use calls::Done;
 use leaves::Leaves;
-use leaves::Turned;
 use model::Connection;
 use model::Next;
 use refusal::Refusal;
-use script::Command;
+use script::Op;
+use script::Place;
 
-// What a script works on; how many bytes of text wait; and how many commands there were.
+// What a script works on; where the text ends that waits; and how many commands there were.
 pub struct State {
     pub connection: Connection,
     pub leaves: Leaves,
@@ -27,7 +19,7 @@ pub(crate) fn fresh(c: Connection) -> State {
     State {
         connection: c,
         leaves: leaves::fresh(octets::LITTLE),
-        waiting: 0,
+        waiting: text::START,
         ops: 0,
     }
 }
@@ -38,56 +30,91 @@ pub(crate) fn line(
     requests: &mut [u8],
     store: &mut [u8],
     slots: &mut [u32],
-    list: &mut [u32],
     bytes: &mut [u8],
-    out: &mut [u8],
 ) -> State {
     if place.lost {
-        return lost(state, place, out);
+        return lost(state, place, bytes);
     }
-    let task = script::parse(bytes, place.from, place.end, list);
-    match task {
-        Command::Nothing => {
+    let begun = begin(state.waiting, place, bytes);
+    let op = begun.op;
+    let code = op.code;
+    match code {
+        script::NOTHING => {
             return state;
         }
-        Command::Bad => {
-            return bad(state, place, out);
+        script::BAD => {
+            return bad(state, place.number, bytes);
         }
-        Command::New(k, s, order) => {
-            return opened(state, place, k, s, order, requests, store, slots, out);
-        }
-        Command::Leaf(leaf) => {
-            return leafed(state, place, leaf, bytes, out);
+        script::NEW => {
+            return opened(state, place.number, op, requests, store, slots, bytes);
         }
         _ => {
-            return lent(state, place, task, requests, store, slots, list, bytes, out);
+            let next = at(state, begun.waiting);
+            return command(next, op, requests, store, slots, bytes);
         }
     }
 }
 
-// A command more, answered: the end of its line.
-pub(crate) fn ended(state: State, connection: Connection, out: &mut [u8], waiting: usize) -> State {
+// What a line says, and where the text ends with its first word.
+pub struct Begun {
+    pub op: Op,
+    pub waiting: usize,
+}
+
+fn begin(waiting: usize, place: Place, bytes: &mut [u8]) -> Begun {
+    let op = script::parse(bytes, place.from, place.end);
+    if !is_named(op.code) {
+        return Begun {
+            op: op,
+            waiting: waiting,
+        };
+    }
+    let end = script::name_end(bytes, place.from, place.end);
+    Begun {
+        op: op,
+        waiting: text::part(bytes, waiting, place.from, end),
+    }
+}
+
+// Whether the answer begins with the name whatever it is.
+fn is_named(code: u8) -> bool {
+    match code {
+        script::NOTHING | script::BAD | script::NEW => false,
+        _ => true,
+    }
+}
+
+fn at(state: State, waiting: usize) -> State {
     let mut next = state;
-    next.connection = connection;
-    next.waiting = text::word(out, waiting, b"\n");
-    next.ops = input::up(state.ops);
+    next.waiting = waiting;
     next
+}
+
+// A command more, answered up to an index: the end of its line.
+fn ended(state: State, waiting: usize, bytes: &mut [u8]) -> State {
+    let mut next = state;
+    next.waiting = text::word(bytes, waiting, b"\n");
+    next.ops = up(state.ops);
+    next
+}
+
+fn up(n: u64) -> u64 {
+    if n < u64::MAX { n + 1 } else { n }
 }
 
 // ---- lines that cannot be read
 
 // A line that is too long, unless it is a remark.
-fn lost(state: State, place: Place, out: &mut [u8]) -> State {
+fn lost(state: State, place: Place, bytes: &mut [u8]) -> State {
     if place.remark {
         return state;
     }
-    bad(state, place, out)
+    bad(state, place.number, bytes)
 }
 
-fn bad(state: State, place: Place, out: &mut [u8]) -> State {
-    let c = state.connection;
-    let a = text::counted(out, state.waiting, b"bad line ", place.number);
-    ended(state, c, out, a)
+fn bad(state: State, number: u64, bytes: &mut [u8]) -> State {
+    let a = text::counted(bytes, state.waiting, b"bad line ", number);
+    ended(state, a, bytes)
 }
 
 // ---- `new`
@@ -96,239 +123,110 @@ fn bad(state: State, place: Place, out: &mut [u8]) -> State {
 // a line that asks for more cannot be read here.
 fn opened(
     state: State,
-    place: Place,
-    k: usize,
-    s: usize,
-    order: u8,
+    number: u64,
+    op: Op,
     requests: &[u8],
     store: &[u8],
     slots: &[u32],
-    out: &mut [u8],
+    bytes: &mut [u8],
 ) -> State {
+    let s = op.b as usize;
     if store.len() < s {
         if s <= model::MOST_STORE {
-            return bad(state, place, out);
+            return bad(state, number, bytes);
         }
     }
-    let next = open(k, s, order, requests, store, slots);
-    answered(state, next, out)
+    answered(state, open(op, requests, store, slots), bytes)
 }
 
-fn answered(state: State, answer: Next, out: &mut [u8]) -> State {
-    let a = text::word(out, state.waiting, b"new");
+fn answered(state: State, answer: Next, bytes: &mut [u8]) -> State {
     match answer {
-        Next::State(next) => {
-            let b = text::word(out, a, b" ok");
-            return ended(state, next, out, b);
+        Next::State(c) => {
+            let a = text::word(bytes, state.waiting, b"new ok");
+            return ended(with(state, c), a, bytes);
         }
         Next::Refused(refusal) => {
-            let c = state.connection;
-            let b = text::refused(out, a, refusal);
-            return ended(state, c, out, b);
+            let a = text::counted(
+                bytes,
+                state.waiting,
+                b"new refused ",
+                refusal.number() as u64,
+            );
+            return ended(state, a, bytes);
         }
     }
+}
+
+fn with(state: State, c: Connection) -> State {
+    let mut next = state;
+    next.connection = c;
+    next
 }
 
 // A room longer than any that there is has no length that the rules allow.
-fn open(k: usize, s: usize, order: u8, requests: &[u8], store: &[u8], slots: &[u32]) -> Next {
+fn open(op: Op, requests: &[u8], store: &[u8], slots: &[u32]) -> Next {
+    let k = op.a as usize;
+    let s = op.b as usize;
     if requests.len() < k {
         return Next::Refused(Refusal::BadRoom);
     }
     if store.len() < s {
         return Next::Refused(Refusal::BadRoom);
     }
-    connection::new(order, &requests[..k], &store[..s], slots)
+    connection::new((op.c % 256) as u8, &requests[..k], &store[..s], slots)
 }
 
-// ---- the other commands: the name, the answer, what it closed, and the end of the line
+// ---- the other commands: the answer behind the name, and the end of the line
 
-// The first word of the line.
-pub(crate) fn named(place: Place, bytes: &[u8], out: &mut [u8], waiting: usize) -> usize {
-    let end = script::name_end(bytes, place.from, place.end);
-    text::part(out, waiting, bytes, place.from, end)
+fn command(
+    state: State,
+    op: Op,
+    requests: &mut [u8],
+    store: &mut [u8],
+    slots: &mut [u32],
+    bytes: &mut [u8],
+) -> State {
+    if script::is_leaf(op.code) {
+        return leafed(state, op, bytes);
+    }
+    let done = calls::line(started(state), op, requests, store, slots, bytes);
+    finished(state, done, bytes)
 }
 
-fn leafed(state: State, place: Place, leaf: Leaf, bytes: &mut [u8], out: &mut [u8]) -> State {
+fn leafed(state: State, op: Op, bytes: &mut [u8]) -> State {
     let leaves = state.leaves;
-    let turned = leaves::make(leaves, leaf, state.connection.order, bytes);
-    said(state, place, turned, bytes, out)
+    let turned = leaves::make(leaves, op, state.connection.order, bytes);
+    let answer = turned.answer;
+    let a = text::tell(bytes, state.waiting, answer);
+    ended(turned_to(state, turned), a, bytes)
 }
 
-fn said(state: State, place: Place, turned: Turned, bytes: &[u8], out: &mut [u8]) -> State {
-    let c = state.connection;
-    let said = turned.said;
+fn turned_to(state: State, turned: leaves::Turned) -> State {
     let mut next = state;
     let leaves = turned.leaves;
     next.leaves = leaves;
-    let a = named(place, bytes, out, state.waiting);
-    let b = shown::said(said, bytes, out, a);
-    ended(next, c, out, b)
+    next
 }
 
-// The rooms, as long as the connection was opened with.
-fn lent(
-    state: State,
-    place: Place,
-    command: Command,
-    requests: &mut [u8],
-    store: &mut [u8],
-    slots: &mut [u32],
-    list: &mut [u32],
-    bytes: &mut [u8],
-    out: &mut [u8],
-) -> State {
+// What a command of the connection works on.
+fn started(state: State) -> Done {
     let c = state.connection;
-    let k = c.capacity;
-    let s = c.room;
-    if requests.len() < k {
-        return state;
-    }
-    if store.len() < s {
-        return state;
-    }
-    done(
-        state,
-        place,
-        command,
-        &mut requests[..k],
-        &mut store[..s],
-        slots,
-        list,
-        bytes,
-        out,
-    )
+    let leaves = state.leaves;
+    let reader = leaves.reader;
+    calls::left(c, reader, state.waiting)
 }
 
-fn done(
-    state: State,
-    place: Place,
-    command: Command,
-    requests: &mut [u8],
-    store: &mut [u8],
-    slots: &mut [u32],
-    list: &mut [u32],
-    bytes: &mut [u8],
-    out: &mut [u8],
-) -> State {
-    match command {
-        Command::Call(call) => {
-            return called(state, place, call, requests, store, slots, list, bytes, out);
-        }
-        Command::Feed(from, end, take) => {
-            return feeds::line(
-                state,
-                place,
-                from,
-                end,
-                take,
-                requests,
-                store,
-                slots,
-                list,
-                bytes,
-                out,
-            );
-        }
-        Command::Drain => {
-            return many::drain(state, place, requests, store, slots, bytes, out);
-        }
-        _ => {
-            return told(state, place, requests, store, slots, bytes, out);
-        }
-    }
+fn finished(state: State, done: Done, bytes: &mut [u8]) -> State {
+    ended(done_to(state, done), done.waiting, bytes)
 }
 
-fn called(
-    state: State,
-    place: Place,
-    call: Call,
-    requests: &mut [u8],
-    store: &mut [u8],
-    slots: &mut [u32],
-    list: &mut [u32],
-    bytes: &mut [u8],
-    out: &mut [u8],
-) -> State {
-    let c = state.connection;
-    let called = calls::make(c, call, requests, store, slots, bytes, list);
-    finished(
-        state,
-        place,
-        called,
-        requests,
-        store,
-        slots,
-        list,
-        bytes,
-        out,
-    )
-}
-
-fn finished(
-    state: State,
-    place: Place,
-    called: Called,
-    requests: &[u8],
-    store: &[u8],
-    slots: &mut [u32],
-    list: &mut [u32],
-    bytes: &[u8],
-    out: &mut [u8],
-) -> State {
-    let c = called.connection;
-    let answer = called.answer;
-    let a = answer_line(state.waiting, place, answer, list, bytes, out);
-    closed(state, c, requests, store, slots, list, out, a)
-}
-
-fn answer_line(
-    waiting: usize,
-    place: Place,
-    answer: Answer,
-    list: &[u32],
-    bytes: &[u8],
-    out: &mut [u8],
-) -> usize {
-    let a = named(place, bytes, out, waiting);
-    shown::answer(answer, bytes, list, out, a)
-}
-
-// What the command put on the close list, and the end of the line.
-pub(crate) fn closed(
-    state: State,
-    c: Connection,
-    requests: &[u8],
-    store: &[u8],
-    slots: &mut [u32],
-    list: &mut [u32],
-    out: &mut [u8],
-    waiting: usize,
-) -> State {
-    if c.counts.closed == 0 {
-        return ended(state, c, out, waiting);
-    }
-    let closing = calls::close(c, requests, store, slots, list);
-    listed(state, closing, list, out, waiting)
-}
-
-fn listed(state: State, closing: Closing, list: &[u32], out: &mut [u8], waiting: usize) -> State {
-    let c = closing.connection;
-    let a = text::first(out, waiting, b" closed", list, closing.count);
-    ended(state, c, out, a)
-}
-
-// `state`.
-fn told(
-    state: State,
-    place: Place,
-    requests: &[u8],
-    store: &[u8],
-    slots: &[u32],
-    bytes: &[u8],
-    out: &mut [u8],
-) -> State {
-    let c = state.connection;
-    let a = named(place, bytes, out, state.waiting);
-    let b = shown::line(c, requests, store, slots, out, a);
-    ended(state, c, out, b)
+fn done_to(state: State, done: Done) -> State {
+    let c = done.connection;
+    let reader = done.reader;
+    let mut leaves = state.leaves;
+    leaves.reader = reader;
+    let mut next = state;
+    next.connection = c;
+    next.leaves = leaves;
+    next
 }

@@ -1,14 +1,11 @@
-// The kinds of `sendall`: a word for each, as `send` has them.
-use super::line;
-use super::line::Kind;
+// Kinds of requests, as `send` has one and `sendall` a row.
 use super::number::Bytes;
 use super::words;
-use model::ReplyFdKind;
 ghost use Prim.Native.Nat.{_≤_};
 ghost use lib.ListN.{length};
 
 // No kind.
-const NONE: u8 = 3;
+pub(crate) const NONE: u8 = 3;
 
 // The words from one index to another: their bytes go to the start of them. Where they can't be
 // read some may be gone.
@@ -49,18 +46,11 @@ fn all(rest: &mut [u8]) -> Bytes {
 fn byte_at(rest: &[u8], start: usize, end: usize) -> u8
     requires { ⌜ (start ≤ end) × (end ≤ length (now rest)) ⌝ }
 {
-    match line::kind_of(words::part(rest, start, end)) {
-        Kind::Of(kind) => byte_of(kind),
-        Kind::Bad => NONE,
-    }
+    of(words::part(rest, start, end))
 }
 
-fn byte_of(kind: ReplyFdKind) -> u8 {
-    match kind {
-        ReplyFdKind::NoReply => 0,
-        ReplyFdKind::ReplyWithoutFds => 1,
-        ReplyFdKind::ReplyWithFds => 2,
-    }
+pub(crate) fn of(word: &[u8]) -> u8 {
+    words::find(b"none reply fds", word, NONE)
 }
 
 // The byte in the next place, and how many places are taken then. A word is longer than its byte,

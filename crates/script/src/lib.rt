@@ -1,59 +1,108 @@
-// Inside: the language of `replay`, a line at a time.
+// Inside: the language of `replay`, a line at a time, and where lines come from.
 //
 // A line is a command or cannot be read; nothing here knows what a command does. Words are parted
-// by single blanks. The bytes that a line has in hex are put over their digits, and descriptors
-// into a lent list. No call has a `requires`.
-mod hex;
+// by single blanks. The bytes that a line has in hex are put over their digits. No call has a
+// `requires`.
+mod input;
 mod kinds;
 mod line;
+mod names;
 mod number;
 mod words;
 
-use calls::Call;
-use hex::Digits;
-use leaves::Leaf;
+pub use input::Place;
+pub use input::next;
+pub use input::start;
+pub use line::fds;
+pub use names::ADVANCE;
+pub use names::BAD;
+pub use names::DISCARD;
+pub use names::DRAIN;
+pub use names::FDS;
+pub use names::FEED;
+pub use names::FEEDALL;
+pub use names::FEEDIN;
+pub use names::FILL;
+pub use names::GEN;
+pub use names::HADVANCE;
+pub use names::HELLO;
+pub use names::HFILL;
+pub use names::IDS;
+pub use names::INTAKE;
+pub use names::NEW;
+pub use names::NOTHING;
+pub use names::POLL_CHECK;
+pub use names::POLL_EVENT;
+pub use names::POLL_REPLY;
+pub use names::POLL_REPLY_OR_ERROR;
+pub use names::PREPARE;
+pub use names::RANGE;
+pub use names::READER;
+pub use names::ROOM;
+pub use names::SEND;
+pub use names::SENDALL;
+pub use names::SENDMANY;
+pub use names::STATE;
+pub use names::is_leaf;
+pub use number::Bytes;
 pub use words::name_end;
 
-// What a line says.
-pub enum Command {
-    // An empty line, or a remark.
-    Nothing,
-    Bad,
-    // `new`: request room, packet store and byte order.
-    New(usize, usize, u8),
-    State,
-    Call(Call),
-    Leaf(Leaf),
-    // `feed`, and `feedin`, which also takes in: bytes of the input from one index to another.
-    Feed(usize, usize, bool),
-    Drain,
+// What a line says: the number of a command, and up to three more. Bytes, and words that are read
+// where they are used, stand in the input from index a to b; kinds of requests are 0, 1 and 2 for
+// `none`, `reply` and `fds`.
+pub struct Op {
+    pub code: u8,
+    pub a: u64,
+    pub b: u64,
+    pub c: u64,
+}
+
+pub(crate) fn make(code: u8, a: u64, b: u64, c: u64) -> Op {
+    Op {
+        code: code,
+        a: a,
+        b: b,
+        c: c,
+    }
+}
+
+pub(crate) fn bad() -> Op {
+    make(BAD, 0, 0, 0)
 }
 
 // What the line says that stands in the input from one index to another.
-pub fn parse(input: &mut [u8], from: usize, end: usize, list: &mut [u32]) -> Command {
-    let named = hex::named(words::cut(input, from, end));
-    let op = named.op;
-    match op {
-        Digits::None => {
-            return line::read(words::cut(input, from, end), list);
+pub fn parse(input: &mut [u8], from: usize, end: usize) -> Op {
+    let named = names::read(words::cut(input, from, end));
+    let code = named.code;
+    if named.alone {
+        return line::bare(code);
+    }
+    let start = words::after(from, named.at, end);
+    match names::rest_of(code) {
+        names::DIGITS => {
+            return made(code, start, number::unhex(input, start, end));
         }
-        Digits::Kinds => {
-            let start = words::after(from, named.at, end);
-            return made(op, start, kinds::read(input, start, end));
+        names::KINDS => {
+            return made(code, start, kinds::read(input, start, end));
+        }
+        names::LIST => {
+            return line::listed(input, start, end);
+        }
+        names::NUMBER => {
+            return line::numbered(code, number::read(words::cut(input, start, end)));
+        }
+        names::WORDS => {
+            return line::read(code, words::cut(input, start, end));
         }
         _ => {
-            return decoded(op, input, words::after(from, named.at, end), end);
+            return bad();
         }
     }
 }
 
-fn decoded(op: Digits, input: &mut [u8], start: usize, end: usize) -> Command {
-    made(op, start, number::unhex(input, start, end))
-}
-
-fn made(op: Digits, start: usize, bytes: number::Bytes) -> Command {
+fn made(code: u8, start: usize, bytes: Bytes) -> Op {
     match bytes {
-        number::Bytes::End(last) => hex::command(op, start, last),
-        number::Bytes::Bad => Command::Bad,
+        Bytes::End(last) => make(code, start as u64, last as u64, 0),
+        Bytes::Bad => bad(),
     }
 }

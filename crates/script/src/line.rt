@@ -1,189 +1,96 @@
-// A line as a command.
-use super::Command;
+// What a line says behind its name.
+use super::Op;
+use super::bad;
+use super::kinds;
+use super::make;
+use super::names;
 use super::number;
+use super::number::Bytes;
 use super::number::Number;
 use super::words;
-use calls::Call;
-use leaves::Leaf;
-use model::DiscardMode;
-use model::ReplyFdKind;
-ghost use Prim.Native.Nat.{_≤_};
-ghost use lib.ListN.{length};
 
 // The rooms of a connection where the line names none.
-const K: usize = 65536;
+const K: u64 = 65536;
 
-const S: usize = 4194304;
+const S: u64 = 4194304;
 
-// What the line says; its descriptors are in the list.
-pub(crate) fn read(line: &[u8], list: &mut [u32]) -> Command {
-    if line.len() == 0 {
-        return Command::Nothing;
+// A command of one word: a list may be empty.
+pub(crate) fn bare(code: u8) -> Op {
+    if code == names::NEW {
+        return make(code, K, S, octets::LITTLE as u64);
     }
-    if line[0] == b'#' {
-        return Command::Nothing;
+    match names::rest_of(code) {
+        names::EMPTY | names::KINDS | names::LIST => make(code, 0, 0, 0),
+        _ => bad(),
     }
-    let end = words::end(line, 0);
-    if end == line.len() {
-        return bare(line);
-    }
-    let start = end + 1;
-    let name = words::part(line, 0, end);
-    let rest = words::part(line, start, line.len());
-    with_rest(name, rest, list)
 }
 
-// A command of one word.
-fn bare(name: &[u8]) -> Command {
-    if words::same(name, b"new") {
-        return Command::New(K, S, octets::LITTLE);
-    }
-    if words::same(name, b"poll_event") {
-        return Command::Call(Call::PollEvent);
-    }
-    if words::same(name, b"state") {
-        return Command::State;
-    }
-    if words::same(name, b"reader") {
-        return Command::Leaf(Leaf::Reader);
-    }
-    if words::same(name, b"room") {
-        return Command::Leaf(Leaf::Room);
-    }
-    if words::same(name, b"hello") {
-        return Command::Leaf(Leaf::Hello);
-    }
-    if words::same(name, b"gen") {
-        return Command::Leaf(Leaf::Gen);
-    }
-    if words::same(name, b"fds") {
-        return Command::Call(Call::Fds(0));
-    }
-    if words::same(name, b"sendall") {
-        return Command::Call(Call::SendAll(0, 0));
-    }
-    if words::same(name, b"drain") {
-        return Command::Drain;
-    }
-    Command::Bad
-}
-
-fn with_rest(name: &[u8], rest: &[u8], list: &mut [u32]) -> Command {
-    if words::same(name, b"fds") {
-        return fds(rest, list);
-    }
-    if words::same(name, b"send") {
-        return send(rest);
-    }
-    if words::same(name, b"discard") {
-        return discard(rest);
-    }
-    if words::same(name, b"new") {
-        return opening(rest);
-    }
-    if words::same(name, b"ids") {
-        return ids(rest);
-    }
-    if words::same(name, b"range") {
-        return range(rest);
-    }
-    with_number(name, number::read(rest))
-}
-
-fn with_number(name: &[u8], word: Number) -> Command {
+pub(crate) fn numbered(code: u8, word: Number) -> Op {
     match word {
-        Number::Value(n) => of_number(name, n),
-        Number::Bad => Command::Bad,
+        Number::Value(n) => make(code, n, 0, 0),
+        Number::Bad => bad(),
     }
 }
 
-fn of_number(name: &[u8], n: u64) -> Command {
-    if words::same(name, b"poll_reply_or_error") {
-        return Command::Call(Call::PollReplyOrError(n));
+pub(crate) fn read(code: u8, rest: &[u8]) -> Op {
+    match code {
+        names::SEND => {
+            return send(rest);
+        }
+        names::DISCARD => {
+            return discard(rest);
+        }
+        names::NEW => {
+            return opening(rest);
+        }
+        _ => {
+            return narrow(code, rest);
+        }
     }
-    if words::same(name, b"poll_check") {
-        return Command::Call(Call::PollCheck(n));
-    }
-    if words::same(name, b"poll_reply") {
-        return Command::Call(Call::PollReply(n));
-    }
-    if words::same(name, b"prepare") {
-        return Command::Call(Call::Prepare(n));
-    }
-    if words::same(name, b"advance") {
-        return Command::Leaf(Leaf::Advance(n));
-    }
-    if words::same(name, b"hadvance") {
-        return Command::Leaf(Leaf::HAdvance(n));
-    }
-    Command::Bad
 }
 
 // ---- commands of several words
 
 // KIND, or KIND COUNT.
-fn send(rest: &[u8]) -> Command {
+fn send(rest: &[u8]) -> Op {
     let end = words::end(rest, 0);
-    match kind_of(words::part(rest, 0, end)) {
-        Kind::Of(kind) => {
-            if end == rest.len() {
-                return Command::Call(Call::Send(kind));
-            }
-            let start = end + 1;
-            let word = words::part(rest, start, rest.len());
-            many(kind, number::read(word))
-        }
-        Kind::Bad => Command::Bad,
+    let kind = kinds::of(words::part(rest, 0, end));
+    if kind == kinds::NONE {
+        return bad();
     }
+    if end == rest.len() {
+        return make(names::SEND, kind as u64, 0, 0);
+    }
+    let start = end + 1;
+    many(kind, number::read(words::part(rest, start, rest.len())))
 }
 
-fn many(kind: ReplyFdKind, count: Number) -> Command {
+fn many(kind: u8, count: Number) -> Op {
     match count {
-        Number::Value(n) => Command::Call(Call::SendMany(kind, n)),
-        Number::Bad => Command::Bad,
+        Number::Value(n) => make(names::SENDMANY, kind as u64, n, 0),
+        Number::Bad => bad(),
     }
-}
-
-pub(crate) enum Kind {
-    Of(ReplyFdKind),
-    Bad,
-}
-
-pub(crate) fn kind_of(word: &[u8]) -> Kind {
-    if words::same(word, b"none") {
-        return Kind::Of(ReplyFdKind::NoReply);
-    }
-    if words::same(word, b"reply") {
-        return Kind::Of(ReplyFdKind::ReplyWithoutFds);
-    }
-    if words::same(word, b"fds") {
-        return Kind::Of(ReplyFdKind::ReplyWithFds);
-    }
-    Kind::Bad
 }
 
 // N reply, or N both.
-fn discard(rest: &[u8]) -> Command {
+fn discard(rest: &[u8]) -> Op {
     let end = words::end(rest, 0);
     if end == rest.len() {
-        return Command::Bad;
+        return bad();
     }
     let start = end + 1;
-    let word = words::part(rest, start, rest.len());
-    match number::read(words::part(rest, 0, end)) {
-        Number::Value(n) => mode(n, word),
-        Number::Bad => Command::Bad,
-    }
+    let mode = words::find(b"reply both", words::part(rest, start, rest.len()), 2);
+    dropped(number::read(words::part(rest, 0, end)), mode)
 }
 
-fn mode(n: u64, word: &[u8]) -> Command {
-    if words::same(word, b"reply") {
-        return Command::Call(Call::Discard(n, DiscardMode::DiscardReply));
+fn dropped(word: Number, mode: u8) -> Op {
+    if 1 < mode {
+        return bad();
     }
-    if words::same(word, b"both") {
-        return Command::Call(Call::Discard(n, DiscardMode::DiscardReplyAndError));
+    match word {
+        Number::Value(n) => make(names::DISCARD, n, mode as u64, 0),
+        Number::Bad => bad(),
     }
-    Command::Bad
 }
 
 // Two numbers, and where the second ends.
@@ -215,69 +122,70 @@ fn both(a: Number, b: Number, last: usize) -> Pair {
 }
 
 // K S l, or K S B.
-fn opening(rest: &[u8]) -> Command {
+fn opening(rest: &[u8]) -> Op {
     match pair_of(rest) {
-        Pair::Both(k, s, last) => opened(k as usize, s as usize, rest, last),
-        Pair::Bad => Command::Bad,
+        Pair::Both(k, s, last) => opened(k, s, order(rest, last)),
+        Pair::Bad => bad(),
     }
 }
 
-fn opened(k: usize, s: usize, rest: &[u8], last: usize) -> Command {
+fn opened(k: u64, s: u64, order: u8) -> Op {
+    if !octets::is_legal(order) {
+        return bad();
+    }
+    make(names::NEW, k, s, order as u64)
+}
+
+// The byte order behind the second number, or 0.
+fn order(rest: &[u8], last: usize) -> u8 {
     if rest.len() <= last {
-        return Command::Bad;
+        return 0;
     }
     if rest.len() - last != 2 {
-        return Command::Bad;
+        return 0;
     }
-    let order = rest[last + 1];
-    if !octets::is_legal(order) {
-        return Command::Bad;
-    }
-    Command::New(k, s, order)
+    rest[last + 1]
 }
 
 // Two numbers of 32 bits and nothing behind them.
-enum Narrow {
-    Both(u32, u32),
-    Bad,
-}
-
-fn narrow_of(rest: &[u8]) -> Narrow {
+fn narrow(code: u8, rest: &[u8]) -> Op {
     match pair_of(rest) {
-        Pair::Both(a, b, last) => cut(a, b, last == rest.len()),
-        Pair::Bad => Narrow::Bad,
+        Pair::Both(a, b, last) => cut(code, a, b, last == rest.len()),
+        Pair::Bad => bad(),
     }
 }
 
-fn cut(a: u64, b: u64, whole: bool) -> Narrow {
+fn cut(code: u8, a: u64, b: u64, whole: bool) -> Op {
     if !whole {
-        return Narrow::Bad;
+        return bad();
     }
     if (u32::MAX as u64) < a {
-        return Narrow::Bad;
+        return bad();
     }
     if (u32::MAX as u64) < b {
-        return Narrow::Bad;
+        return bad();
     }
-    Narrow::Both(a as u32, b as u32)
+    make(code, a, b, 0)
 }
 
-fn ids(rest: &[u8]) -> Command {
-    match narrow_of(rest) {
-        Narrow::Both(base, mask) => Command::Leaf(Leaf::Ids(base, mask)),
-        Narrow::Bad => Command::Bad,
-    }
-}
+// ---- descriptors
 
-fn range(rest: &[u8]) -> Command {
-    match narrow_of(rest) {
-        Narrow::Both(start, count) => Command::Leaf(Leaf::Range(start, count)),
-        Narrow::Bad => Command::Bad,
+// They are read once more where they are used.
+pub(crate) fn listed(input: &[u8], start: usize, end: usize) -> Op {
+    let mut none = [0u32; 1];
+    match fds(input, start, end, &mut none) {
+        Bytes::End(_) => make(names::FDS, start as u64, end as u64, 0),
+        Bytes::Bad => bad(),
     }
 }
 
-// Descriptors, as many as the lent room takes; those past it are read, and not kept.
-fn fds(rest: &[u8], list: &mut [u32]) -> Command {
+// Descriptors that stand in the input from one index to another, as many as the lent room takes;
+// those past it are read, and not kept. How many are kept.
+pub fn fds(input: &[u8], from: usize, end: usize, list: &mut [u32]) -> Bytes {
+    all(words::cut(input, from, end), list)
+}
+
+fn all(rest: &[u8], list: &mut [u32]) -> Bytes {
     let mut start = 0;
     let mut count = 0;
     while start <= rest.len() {
@@ -285,17 +193,17 @@ fn fds(rest: &[u8], list: &mut [u32]) -> Command {
         match number::read(words::part(rest, start, end)) {
             Number::Value(n) => {
                 if (u32::MAX as u64) < n {
-                    return Command::Bad;
+                    return Bytes::Bad;
                 }
                 count = keep(list, count, n as u32);
             }
             Number::Bad => {
-                return Command::Bad;
+                return Bytes::Bad;
             }
         }
         start = end + 1;
     }
-    Command::Call(Call::Fds(count))
+    Bytes::End(count)
 }
 
 // The number in the next place, if there is one; how many places are taken then.

@@ -23,6 +23,25 @@ pub(crate) fn end(line: &[u8], start: usize) -> usize
     at
 }
 
+// Which word of a row another word is, counted from 0, or a number where it is none.
+pub(crate) fn find(row: &[u8], word: &[u8], none: u8) -> u8 {
+    let mut start = 0;
+    let mut count: u8 = 0;
+    while start < row.len() {
+        let end = end(row, start);
+        if same(part(row, start, end), word) {
+            return count;
+        }
+        count = next(count);
+        start = end + 1;
+    }
+    none
+}
+
+fn next(n: u8) -> u8 {
+    if n < u8::MAX { n + 1 } else { n }
+}
+
 pub(crate) fn same(a: &[u8], b: &[u8]) -> bool {
     if a.len() != b.len() {
         return false;

@@ -1,10 +1,40 @@
-// Inside: what programs write to standard output, gathered in a lent buffer.
+// Inside: what `replay` writes to standard output, gathered in the run of bytes that it works on.
 //
-// The bytes of the buffer before `waiting` are not written yet: each call puts text behind them and
-// answers how many wait then. Where a text would pass the buffer's end, what waits is written first,
-// and at the end of a run the caller writes the rest by `flush`.
+// Text stands in the run from an index on, and what is before `waiting` is not written yet: each call
+// puts text behind it and answers where it ends then. Where a text would pass the run's end, what
+// waits is written first, and at the end of a run the caller writes the rest by `flush`. Packets that
+// are shown stand in the same run, somewhere before.
+mod answers;
+
+pub use answers::ACCEPTED;
+pub use answers::AGAIN;
+pub use answers::Answer;
+pub use answers::BYTES;
+pub use answers::EVENT;
+pub use answers::FALSE;
+pub use answers::LAST;
+pub use answers::NONE;
+pub use answers::NOREPLY;
+pub use answers::OK;
+pub use answers::PACKET;
+pub use answers::PACKETS;
+pub use answers::REFUSED;
+pub use answers::REPLY;
+pub use answers::ROOM;
+pub use answers::SENT;
+pub use answers::TRUE;
+pub use answers::also;
+pub use answers::both;
+pub use answers::count;
+pub use answers::refusal;
+pub use answers::say;
+pub use answers::shown;
+pub use answers::tell;
+pub use answers::whether;
 use libc::STDOUT_FILENO;
-use refusal::Refusal;
+
+// Where the text begins.
+pub const START: usize = 525316;
 
 pub fn word(out: &mut [u8], waiting: usize, text: &[u8]) -> usize {
     let end = out.len();
@@ -16,17 +46,22 @@ pub fn word(out: &mut [u8], waiting: usize, text: &[u8]) -> usize {
     }
     flush(out, waiting);
     io::write_all(STDOUT_FILENO, text);
-    0
+    START
 }
 
 pub fn flush(out: &[u8], waiting: usize) {
-    if waiting <= out.len() {
-        io::write_all(STDOUT_FILENO, &out[..waiting]);
+    if out.len() < waiting {
+        return;
     }
+    let start = START;
+    if waiting < start {
+        return;
+    }
+    io::write_all(STDOUT_FILENO, &out[start..waiting]);
 }
 
 // A number in decimal digits.
-pub fn number(out: &mut [u8], waiting: usize, n: u64) -> usize {
+fn number(out: &mut [u8], waiting: usize, n: u64) -> usize {
     let mut digits = [0u8; 20];
     let k = io::decimal(n, &mut digits);
     word(out, waiting, &digits[..k])
@@ -38,16 +73,24 @@ pub fn counted(out: &mut [u8], waiting: usize, text: &[u8], n: u64) -> usize {
     number(out, next, n)
 }
 
-pub fn refused(out: &mut [u8], waiting: usize, refusal: Refusal) -> usize {
-    counted(out, waiting, b" refused ", refusal.number() as u64)
+// The len bytes of the run from an index on as lower-case hex digits, behind a blank.
+pub fn packet(out: &mut [u8], waiting: usize, from: usize, len: usize) -> usize {
+    let next = word(out, waiting, b" ");
+    hex(out, next, from, len)
 }
 
-// Bytes as lower-case hex digits.
-pub fn hex(out: &mut [u8], waiting: usize, bytes: &[u8]) -> usize {
+fn hex(out: &mut [u8], waiting: usize, from: usize, len: usize) -> usize {
+    if out.len() < from {
+        return waiting;
+    }
+    if out.len() - from < len {
+        return waiting;
+    }
     let mut next = waiting;
     let mut i = 0;
-    while i < bytes.len() {
-        next = byte(out, next, bytes[i]);
+    while i < len {
+        let x = out[from + i];
+        next = byte(out, next, x);
         i += 1;
     }
     next
@@ -67,8 +110,16 @@ fn digit(x: u8) -> u8 {
     b'?'
 }
 
-// Numbers, a blank before each.
-pub fn list(out: &mut [u8], waiting: usize, numbers: &[u32]) -> usize {
+// A word, and the first count numbers behind it, a blank before each, if there are so many.
+pub fn first(out: &mut [u8], waiting: usize, text: &[u8], numbers: &[u32], count: usize) -> usize {
+    let next = word(out, waiting, text);
+    if numbers.len() < count {
+        return next;
+    }
+    list(out, next, &numbers[..count])
+}
+
+fn list(out: &mut [u8], waiting: usize, numbers: &[u32]) -> usize {
     let mut next = waiting;
     let mut i = 0;
     while i < numbers.len() {
@@ -82,25 +133,7 @@ fn narrow(out: &mut [u8], waiting: usize, n: u32) -> usize {
     counted(out, waiting, b" ", n as u64)
 }
 
-// A word, and the first len bytes behind it, if there are so many.
-pub fn packet(out: &mut [u8], waiting: usize, text: &[u8], bytes: &[u8], len: usize) -> usize {
-    let next = word(out, waiting, text);
-    if bytes.len() < len {
-        return next;
-    }
-    hex(out, next, &bytes[..len])
-}
-
-// A word, and the first count numbers behind it, if there are so many.
-pub fn first(out: &mut [u8], waiting: usize, text: &[u8], numbers: &[u32], count: usize) -> usize {
-    let next = word(out, waiting, text);
-    if numbers.len() < count {
-        return next;
-    }
-    list(out, next, &numbers[..count])
-}
-
-// At least n bytes free, where the buffer has so many: what waits is written if there are fewer.
+// At least n bytes free, where the run has so many: what waits is written if there are fewer.
 pub fn ready(out: &[u8], waiting: usize, n: usize) -> usize {
     if waiting <= out.len() {
         if n <= out.len() - waiting {
@@ -108,10 +141,10 @@ pub fn ready(out: &[u8], waiting: usize, n: usize) -> usize {
         }
     }
     flush(out, waiting);
-    0
+    START
 }
 
-// Text that stands in the buffer from one index to another, moved up behind what waits.
+// Text that stands in the run from one index to another, moved up behind what waits.
 pub fn join(out: &mut [u8], waiting: usize, from: usize, end: usize) -> usize {
     if out.len() < end {
         return waiting;
@@ -126,13 +159,22 @@ pub fn join(out: &mut [u8], waiting: usize, from: usize, end: usize) -> usize {
     waiting + (end - from)
 }
 
-// The bytes of a text from one index to another.
-pub fn part(out: &mut [u8], waiting: usize, text: &[u8], from: usize, end: usize) -> usize {
-    if text.len() < end {
+// The bytes of the run from one index to another, put behind what waits.
+pub fn part(out: &mut [u8], waiting: usize, from: usize, end: usize) -> usize {
+    if out.len() < end {
         return waiting;
     }
     if end < from {
         return waiting;
     }
-    word(out, waiting, &text[from..end])
+    let n = end - from;
+    let next = ready(out, waiting, n);
+    if out.len() < n {
+        return next;
+    }
+    if out.len() - n < next {
+        return next;
+    }
+    octets::slide(out, from, next, n);
+    next + n
 }

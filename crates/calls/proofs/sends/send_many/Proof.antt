@@ -1,16 +1,19 @@
 -- `calls::sends::send_many` meets its contract. Assumes nothing.
 use mathlib.Core.Path.{_≡_}
-use Prim.Native.Nat.{_-_, _≤_}
+use Prim.Native.Nat.{_≤_, _-_}
 use lib.ListN.{length}
 use borrow.Author.Needs.{needs}
 use Rattle.calls.proofs.sends.send_many.Statement.{statement}
 use Rattle.calls.proofs.sends.send_many.Tie as tie
 
 abbrev Inv-loop : tie.InvT-loop
-Inv-loop kind count requests₀ store slots c₀ done₀ requests c done = (done ≤ count) × (length requests ≡ length requests₀)
+Inv-loop kind count requests₀ store slots kind' c₀ done₀ requests c done = (done ≤ count) × (length requests ≡ length requests₀)
 
 abbrev μ-loop : tie.MeasureT-loop
-μ-loop kind count requests₀ store slots c₀ done₀ requests c done = count - done
+μ-loop kind count requests₀ store slots kind' c₀ done₀ requests c done = count - done
+
+kind-of-requires : tie.Need-kind-of-requires Inv-loop μ-loop
+kind-of-requires c κs = search needs
 
 loop-holds : tie.Need-loop-holds Inv-loop μ-loop
 loop-holds c = search needs
@@ -23,6 +26,9 @@ enum-known-next c = search needs
 
 enum-known-refusal : tie.Need-enum-known-refusal Inv-loop μ-loop
 enum-known-refusal c = search needs
+
+stopped-requires : tie.Need-stopped-requires Inv-loop μ-loop
+stopped-requires c κs = search needs
 
 same-length : tie.Need-same-length Inv-loop μ-loop
 same-length c = search needs
@@ -39,6 +45,9 @@ loop-less c = search needs
 loop-again : tie.Need-loop-again Inv-loop μ-loop
 loop-again c = search needs
 
+accepted-requires : tie.Need-accepted-requires Inv-loop μ-loop
+accepted-requires c κs = search needs
+
 same-length-2 : tie.Need-same-length-2 Inv-loop μ-loop
 same-length-2 c = search needs
 
@@ -51,14 +60,17 @@ send-many-spec =
     (tie.spec
     Inv-loop
     μ-loop
+    kind-of-requires
     loop-holds
     send-request-requires
     enum-known-next
     enum-known-refusal
+    stopped-requires
     same-length
     returns
     add-done
     loop-less
     loop-again
+    accepted-requires
     same-length-2
     returns-2)

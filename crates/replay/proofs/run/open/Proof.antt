@@ -12,6 +12,9 @@ returns c = search needs
 returns-2 : tie.Need-returns-2
 returns-2 c = search needs
 
+cast-new : tie.Need-cast-new
+cast-new c = search needs
+
 slice-aggregate-new : tie.Need-slice-aggregate-new
 slice-aggregate-new c = sym (length-take-le _ _ (omega arith))
 
@@ -27,4 +30,11 @@ returns-3 c = search needs
 pub open-spec : {M : Type 1} → statement M
 open-spec =
     tie.close
-    (tie.spec returns returns-2 slice-aggregate-new slice-aggregate-new-2 new-requires returns-3)
+    (tie.spec
+    returns
+    returns-2
+    cast-new
+    slice-aggregate-new
+    slice-aggregate-new-2
+    new-requires
+    returns-3)

@@ -1,0 +1,193 @@
+// Standard input, a line at a time. In the run of bytes it stands before the text.
+use libc::STDIN_FILENO;
+
+const NEWLINE: u8 = 10;
+
+// Where the input begins in the run of bytes.
+const INPUT: usize = 393220;
+
+// Where a run is.
+pub struct Place {
+    // The line stands from one index to another.
+    pub from: usize,
+    pub end: usize,
+    // The next line begins here, or is looked for from here on.
+    pub next: usize,
+    // Up to here there is input.
+    pub filled: usize,
+    // Whether the line has lost bytes because it is too long to be kept, and whether it is a remark
+    // then.
+    pub lost: bool,
+    pub remark: bool,
+    // Whether there is a line.
+    pub more: bool,
+    // Which line it is, from 1 on.
+    pub number: u64,
+}
+
+pub fn start() -> Place {
+    Place {
+        from: INPUT,
+        end: INPUT,
+        next: INPUT,
+        filled: INPUT,
+        lost: false,
+        remark: false,
+        more: true,
+        number: 0,
+    }
+}
+
+// The next line. A proved loop has to end, so it counts turns down from a number that no run uses
+// up.
+pub fn next(place: Place, bytes: &mut [u8]) -> Place {
+    let mut now = begin(place);
+    let mut turns = u64::MAX;
+    while turns > 0 {
+        turns -= 1;
+        let end = newline(bytes, now.next, now.filled);
+        if end < now.filled {
+            return found(now, end);
+        }
+        now = more(kept(now, bytes), bytes);
+        if !now.more {
+            return last(now);
+        }
+    }
+    last(now)
+}
+
+// Behind the line before.
+fn begin(place: Place) -> Place {
+    let mut now = place;
+    now.from = place.next;
+    now.lost = false;
+    now.remark = false;
+    now.number = up(place.number);
+    now
+}
+
+fn up(n: u64) -> u64 {
+    if n < u64::MAX { n + 1 } else { n }
+}
+
+fn after(n: usize) -> usize {
+    if n < usize::MAX { n + 1 } else { n }
+}
+
+// The line ends at the newline at an index.
+fn found(place: Place, end: usize) -> Place {
+    let mut now = place;
+    now.end = end;
+    now.next = after(end);
+    now.more = true;
+    now
+}
+
+// The input ends: what is left is a line, if there is something.
+fn last(place: Place) -> Place {
+    let mut now = place;
+    now.end = place.filled;
+    now.next = place.filled;
+    now.more = left(place);
+    now
+}
+
+fn left(place: Place) -> bool {
+    if place.from < place.filled {
+        return true;
+    }
+    place.lost
+}
+
+// Where a newline is from an index on, or the end of what is there.
+fn newline(bytes: &[u8], from: usize, filled: usize) -> usize {
+    if bytes.len() < filled {
+        return filled;
+    }
+    let mut at = from;
+    while at < filled {
+        if bytes[at] == NEWLINE {
+            return at;
+        }
+        at += 1;
+    }
+    filled
+}
+
+// Room for more input: where there is none, the line that has begun goes to the start, or goes if
+// it is there already.
+fn kept(place: Place, bytes: &mut [u8]) -> Place {
+    let mut now = place;
+    now.next = place.filled;
+    if place.filled < text::START {
+        return now;
+    }
+    if INPUT < place.from {
+        return slid(now, bytes);
+    }
+    if !place.lost {
+        now.remark = is_remark(bytes);
+    }
+    now.lost = true;
+    now.from = INPUT;
+    now.next = INPUT;
+    now.filled = INPUT;
+    now
+}
+
+fn is_remark(bytes: &[u8]) -> bool {
+    if bytes.len() <= INPUT {
+        return false;
+    }
+    bytes[INPUT] == b'#'
+}
+
+fn slid(place: Place, bytes: &mut [u8]) -> Place {
+    let from = place.from;
+    let filled = place.filled;
+    let mut now = place;
+    if bytes.len() < filled {
+        return now;
+    }
+    if filled < from {
+        return now;
+    }
+    if from < INPUT {
+        return now;
+    }
+    octets::slide(bytes, from, INPUT, filled - from);
+    now.from = INPUT;
+    now.filled = INPUT + (filled - from);
+    now.next = INPUT + (filled - from);
+    now
+}
+
+// What a read puts behind the input that is there.
+fn more(place: Place, bytes: &mut [u8]) -> Place {
+    let filled = place.filled;
+    let n = read(bytes, filled);
+    let mut now = place;
+    now.more = 0 < n;
+    now.filled = sum(filled, n);
+    now
+}
+
+fn sum(a: usize, b: usize) -> usize {
+    if usize::MAX - a < b {
+        return a;
+    }
+    a + b
+}
+
+fn read(bytes: &mut [u8], from: usize) -> usize {
+    let end = text::START;
+    if bytes.len() < end {
+        return 0;
+    }
+    if end < from {
+        return 0;
+    }
+    let part = &mut bytes[from..end];
+    io::count(libc::read(STDIN_FILENO, part), part)
+}
