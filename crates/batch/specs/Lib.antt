@@ -7,4 +7,5 @@ pub mod Theorems
 pub mod Feed
 pub mod FeedLaws
 pub mod FeedLoop
+pub mod Plain
 pub mod FeedTheorems
