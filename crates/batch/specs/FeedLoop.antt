@@ -39,7 +39,7 @@ use Rattle.batch.specs.FeedLaws.{Goes, turn-goes, turn-stops, stop-nothi
 
 -- ---- a packet
 
-took-on : (n : ℕ) (e : Answer (Done Filing)) (r r' : Rooms) (v : Filing) (c : Connection) → gives (v, c) ≡ answerOf shown e → r' ≡ roomsOf e r → TurnIs (exactTook n e) r (Turned.On n c) r'
+pub took-on : (n : ℕ) (e : Answer (Done Filing)) (r r' : Rooms) (v : Filing) (c : Connection) → gives (v, c) ≡ answerOf shown e → r' ≡ roomsOf e r → TurnIs (exactTook n e) r (Turned.On n c) r'
 unfolding answerOf roomsOf exactTook shownTurn leftBy
 took-on n (gives d) r r' v c a l = record { answers = ap (λ (x : Filing × Connection). on n (x .1)) (gives-same a); leaves = l }
 took-on n (refuses k) r r' v c a l = absurd (let z : _≡_ {A = ℕ} 0 1 = cc in omega arith)

@@ -7,5 +7,6 @@ pub mod Theorems
 pub mod Feed
 pub mod FeedLaws
 pub mod FeedLoop
+pub mod Plain
 pub mod FeedTheorems
 pub mod Examples

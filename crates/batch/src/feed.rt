@@ -1,14 +1,21 @@
 // Many packets come from the server.
+//
+// Most are events that go the short way in, so each turn tries that first: there the state changes in
+// a few numbers and is not handed from call to call.
+use intake::Plain;
 use model::Connection;
 use model::Enqueued;
 use model::Fed;
 use model::Halt;
 use packet_reader::Begins;
 use refusal::Refusal;
+use sequence::SequenceNumber;
 ghost use Rattle.intake.specs.Plan.{Ready};
+ghost use Rattle.intake.specs.Event.{Writable};
 ghost use Rattle.model.specs.Reading.{rooms};
 ghost use Rattle.model.specs.Sound.{Sound};
 ghost use Rattle.batch.specs.Feed.{PacketTurn, FrontTurn, FeedStep};
+ghost use Rattle.batch.specs.Plain.{IsAhead, EventAhead, PlainTurn};
 
 // What came of the bytes ahead: a packet of so many was taken, or the row stops here.
 pub(crate) enum Turned {
@@ -53,6 +60,28 @@ fn front_turn(
     }
 }
 
+// Whether the bytes begin with an event of 32 bytes that goes the short way in, and its number.
+fn plain_ahead(c: Connection, store: &[u8], bytes: &[u8]) -> Plain
+    requires { ⌜ Writable c (now store) ⌝ }
+    ensures { λ r. ⌜ IsAhead c (now (store .entry)) (now (bytes .entry)) r ⌝ }
+{
+    if bytes.len() < packet_reader::FIXED {
+        return Plain::Other;
+    }
+    if packet_reader::has_length(bytes[0]) {
+        return Plain::Other;
+    }
+    intake::plain_of(c, store, &bytes[..packet_reader::FIXED])
+}
+
+// That event is taken in.
+fn plain_turn(c: Connection, store: &mut [u8], bytes: &[u8], number: SequenceNumber) -> Connection
+    requires { ⌜ Writable c (now store) × EventAhead c (now store) (now bytes) (number .0) ⌝ }
+    ensures { λ r. ⌜ PlainTurn c (now (store .entry)) (now (bytes .entry)) r (now (store .exit)) ⌝ }
+{
+    intake::take_plain(c, store, &bytes[..packet_reader::FIXED], number)
+}
+
 // Every whole packet that the bytes begin with is taken in, up to the first that is refused.
 pub fn enqueue_packets(
     c: Connection,
@@ -69,7 +98,17 @@ pub fn enqueue_packets(
     let mut at: usize = 0;
     let mut packets: usize = 0;
     while at < bytes.len() {
-        match front_turn(order, state, requests, store, slots, &bytes[at..]) {
+        let ahead = &bytes[at..];
+        match plain_ahead(state, store, ahead) {
+            Plain::Event(number) => {
+                state = plain_turn(state, store, ahead, number);
+                at += packet_reader::FIXED;
+                packets += 1;
+                continue;
+            }
+            Plain::Other => {}
+        }
+        match front_turn(order, state, requests, store, slots, ahead) {
             Turned::On(n, next) => {
                 state = next;
                 at += n;

@@ -1,5 +1,5 @@
 -- What each move leaves: the window that comes back, and every byte of the store. Assumes nothing.
-use mathlib.Core.Path.{_≡_, sym, ap, _∙_}
+use mathlib.Core.Path.{_≡_, refl, sym, ap, _∙_}
 use mathlib.Core.Bool.{Bool, true, false}
 use mathlib.Core.List.{List, [], _∷_, _++_}
 use Prim.Native.Nat.{ℕ, _+_, _-_, _≤_, _<_}
@@ -112,20 +112,23 @@ unfolding stays both choose
 stays-behind w s n h k = simp (lt-ltb (w .start) (w .end) h, le-leb (w .end + n) (length s) k)
 
 module _ (w : Window) (s : List ℕ) (h : Held) where
-  pub append-behind : (s₁ : List ℕ) → stays w s (cost h) ≡ true → s₁ ≡ put s (w .end) (encoded h) → Leaves (appended w s h) (window (w .start) (w .end + cost h)) s₁
-  unfolding appended behind
-  append-behind s₁ r e =
-      let t = choose-yes (stays w s (cost h)) (behind (left w s) h) (behind (slid (left w s)) h) r in
-      record { window = ap (λ (l : Left). l .window) (sym t); store = e ∙ ap (λ (l : Left). l .store) (sym t) }
+  -- a record behind the window,
+  pub behind-is : (s₁ : List ℕ) → s₁ ≡ put s (w .end) (encoded h) → Leaves (behind (left w s) h) (window (w .start) (w .end + cost h)) s₁
+  unfolding behind
+  behind-is s₁ e = record { window = refl; store = e }
 
-  pub append-slid : (s₁ s₂ : List ℕ) → stays w s (cost h) ≡ false → s₁ ≡ put s 0 (inside w s) → s₂ ≡ put s₁ (used w) (encoded h) → Leaves (appended w s h) (window 0 (used w + cost h)) s₂
-  unfolding appended behind slid
-  append-slid s₁ s₂ r e f =
-      let t = choose-no (stays w s (cost h)) (behind (left w s) h) (behind (slid (left w s)) h) r in
-      record {
-        window = ap (λ (l : Left). l .window) (sym t);
-        store = f ∙ ap (λ (x : List ℕ). put x (used w) (encoded h)) e ∙ ap (λ (l : Left). l .store) (sym t);
-      }
+  -- and one that is appended there, or once the window slid
+  pub append-behind : (w₁ : Window) (s₁ : List ℕ) → stays w s (cost h) ≡ true → Leaves (behind (left w s) h) w₁ s₁ → Leaves (appended w s h) w₁ s₁
+  unfolding appended
+  append-behind w₁ s₁ r l =
+      let t = choose-yes (stays w s (cost h)) (behind (left w s) h) (behind (slid (left w s)) h) r in
+      record { window = l .window ∙ ap (λ (x : Left). x .window) (sym t); store = l .store ∙ ap (λ (x : Left). x .store) (sym t) }
+
+  pub append-slid : (s₁ : List ℕ) (w₂ : Window) (s₂ : List ℕ) → stays w s (cost h) ≡ false → s₁ ≡ put s 0 (inside w s) → Leaves (behind (left (window 0 (used w)) s₁) h) w₂ s₂ → Leaves (appended w s h) w₂ s₂
+  unfolding appended slid
+  append-slid s₁ w₂ s₂ r e l =
+      let t = ap (λ (x : List ℕ). behind (left (window 0 (used w)) x) h) e ∙ sym (choose-no (stays w s (cost h)) (behind (left w s) h) (behind (slid (left w s)) h) r) in
+      record { window = l .window ∙ ap (λ (x : Left). x .window) t; store = l .store ∙ ap (λ (x : Left). x .store) t }
 
 module _ (w : Window) (s : List ℕ) (p : Place) where
   abbrev one : Left

@@ -24,9 +24,11 @@ pub use head::length_at;
 pub use head::number_at;
 pub use head::size_at;
 pub use moves::append;
+pub use moves::behind;
 pub use moves::demote;
 pub use moves::first_byte;
 pub use moves::remove;
+pub use moves::stays;
 pub use moves::take;
 pub use soundness::walk;
 

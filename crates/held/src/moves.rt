@@ -2,15 +2,15 @@
 ghost use mathlib.Core.Path.{_≡_};
 ghost use Prim.Native.Nat.{_+_, _≤_, _<_};
 ghost use lib.ListN.{length, getD};
-ghost use Rattle.held.specs.Head.{headerSize, held};
-ghost use Rattle.held.specs.Moves.{Room, Within, Leaves, Takes, stays, appended, removed, demoted};
+ghost use Rattle.held.specs.Head.{headerSize, mostPacket, held};
+ghost use Rattle.held.specs.Moves.{Room, Within, Leaves, Takes, left, stays, behind, appended, removed, demoted};
 use crate::Place;
 use crate::Window;
 use crate::head;
 
 // Whether the window stays where it is for n bytes more: it holds something, and there is room
 // behind it. An empty one begins at 0 again, so that few held packets keep to few bytes.
-fn stays(store: &[u8], window: Window, n: usize) -> bool
+pub fn stays(store: &[u8], window: Window, n: usize) -> bool
     requires { ⌜ window .end ≤ length (now store) ⌝ }
     ensures { λ r. ⌜ r ≡ stays window (now (store .entry)) n ⌝ }
 {
@@ -39,16 +39,33 @@ pub fn append(
 {
     let start = window.start;
     let end = window.end;
-    let cost = head::HEADER + packet.len();
-    if !stays(store, window, cost) {
+    if !stays(store, window, head::HEADER + packet.len()) {
         let used = end - start;
         octets::slide(store, start, 0, used);
-        head::put_record(store, used, number, fds, kind, packet);
-        return Window {
+        let front = Window {
             start: 0,
-            end: used + cost,
+            end: used,
         };
+        return behind(store, front, number, fds, kind, packet);
     }
+    behind(store, window, number, fds, kind, packet)
+}
+
+// A record is written behind the window, which stays where it is.
+pub fn behind(
+    store: &mut [u8],
+    window: Window,
+    number: u64,
+    fds: u8,
+    kind: u8,
+    packet: &[u8],
+) -> Window
+    requires { ⌜ (window .end + (headerSize + length (now packet)) ≤ length (now store)) × (length (now packet) ≤ mostPacket) ⌝ }
+    ensures { λ r. ⌜ Leaves (behind (left window (now (store .entry))) (held number fds kind (now (packet .entry)))) r (now (store .exit)) ⌝ }
+{
+    let start = window.start;
+    let end = window.end;
+    let cost = head::HEADER + packet.len();
     head::put_record(store, end, number, fds, kind, packet);
     Window {
         start: start,

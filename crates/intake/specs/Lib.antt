@@ -3,6 +3,7 @@ pub mod Exact
 pub mod General
 pub mod Planned
 pub mod Steps
+pub mod Event
 pub mod Numbered
 pub mod Filed
 pub mod Theorems

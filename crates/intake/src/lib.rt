@@ -6,7 +6,12 @@
 // requests go writes nothing, so the request room is only read. The step is exact: its answer and
 // every room at exit are one definition of what it was given. Laws say what it is in the model's
 // terms, and that the state it leaves is sound.
+mod event;
+
 use descriptors::Counts;
+pub use event::Plain;
+pub use event::plain_of;
+pub use event::take_plain;
 use held::Window;
 use model::Connection;
 use model::Enqueued;
@@ -34,7 +39,7 @@ const MOST_PACKET: usize = 65536;
 // The codes that matter: an error's, a reply's, and that of KeymapNotify, which carries no number.
 const ERROR: u8 = 0;
 
-const REPLY: u8 = 1;
+pub(crate) const REPLY: u8 = 1;
 
 const KEYMAP_NOTIFY: u8 = 11;
 
@@ -55,7 +60,7 @@ enum Plan {
 }
 
 // The number that a packet is filed under.
-fn number_of(c: Connection, packet: &[u8]) -> Full
+pub(crate) fn number_of(c: Connection, packet: &[u8]) -> Full
     requires { ⌜ 32 ≤ length (now packet) ⌝ }
     ensures { λ r. ⌜ saysFull r ≡ numberIn c (now (packet .entry)) ⌝ }
 {
@@ -234,7 +239,7 @@ fn plan_of(c: Connection, requests: &[u8], packet: &[u8]) -> Plan
 }
 
 // The state once a packet of the code has that number.
-fn numbered(c: Connection, code: u8, number: u64) -> Connection
+pub(crate) fn numbered(c: Connection, code: u8, number: u64) -> Connection
     requires { ⌜ c .written ≤ lastNumber ⌝ }
     ensures { λ r. ⌜ r ≡ numberedState c code number ⌝ }
 {
@@ -245,7 +250,7 @@ fn numbered(c: Connection, code: u8, number: u64) -> Connection
     next
 }
 
-fn moved(c: Connection, window: Window, counts: Counts) -> Connection
+pub(crate) fn moved(c: Connection, window: Window, counts: Counts) -> Connection
     ensures { λ r. ⌜ r ≡ movedState c window counts ⌝ }
 {
     let mut next = c;

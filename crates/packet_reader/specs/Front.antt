@@ -5,11 +5,11 @@ use mathlib.Core.List.{List, [], _++_, append-assoc}
 use Prim.Native.Nat.{ℕ, zero, suc, _-_, _≤_, _<_}
 use native.Mathlib.Omega.{arith}
 use lib.Dec.{ltb, eqb}
-use lib.ListN.{length, take, drop, length-drop, take-append-drop}
+use lib.ListN.{length, take, drop, getD, length-drop, take-append-drop}
 use borrow.Author.Tests.{ltb-true, ltb-false, lt-ltb, le-ltb, eqb-true, eqb-false, eq-eqb, ne-eqb}
 use Rattle.octets.specs.Logic.{choose}
-use Rattle.packet_reader.specs.Frame.{fixed, aim, cons, cuts, cutPackets}
-use Rattle.packet_reader.specs.CutLaws.{aim-least, aim-head, cut-rest}
+use Rattle.packet_reader.specs.Frame.{fixed, hasLength, total, totalOf, aim, Cut, cons, cuts, cutPackets}
+use Rattle.packet_reader.specs.CutLaws.{aim-least, aim-head, aim-total, cut-rest}
 use Rattle.packet_reader.specs.Reader.{mostBuffer}
 use Rattle.packet_reader.specs.Stream.{joined}
 use Rattle.packet_reader.specs.declared.Begins.{Begins}
@@ -77,6 +77,14 @@ module _ (o : ℕ) (s : List ℕ) where
     pub front-whole : t ≤ mostBuffer → t ≤ length s → whole t ≡ frontOf o s
     unfolding frontOf choose
     front-whole k l = simp (ne-eqb (length s) 0 h, sym e, le-ltb mostBuffer t k, le-ltb (length s) t l)
+
+-- a packet that has no length of its own has 32 bytes
+total-fixed : (o : ℕ) (s : List ℕ) → hasLength (getD s 0 0) ≡ false → totalOf o s ≡ fixed
+unfolding totalOf total choose
+total-fixed o s e = simp e
+
+pub front-fixed : (o : ℕ) (s : List ℕ) → fixed ≤ length s → hasLength (getD s 0 0) ≡ false → whole fixed ≡ frontOf o s
+front-fixed o s h e = front-whole o s fixed (sym (aim-total o s (length s) h ∙ total-fixed o s e)) (λ z. omega arith) (omega arith) h
 
 -- ---- and what each tells
 

@@ -23,7 +23,8 @@ const REPLY: u8 = 1;
 
 const GENERIC_EVENT: u8 = 35;
 
-fn has_length(code: u8) -> bool
+// Whether a packet of the code has a length of its own; the others have 32 bytes.
+pub fn has_length(code: u8) -> bool
     ensures { λ r. ⌜ r ≡ hasLength code ⌝ }
 {
     if code == REPLY {

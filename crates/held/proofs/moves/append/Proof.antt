@@ -7,8 +7,8 @@ use borrow.Author.Needs.{needs}
 use Rattle.held.proofs.moves.append.Statement.{statement}
 use Rattle.held.proofs.moves.append.Tie as tie
 
-add-cost : tie.Need-add-cost
-add-cost c = search needs
+add-stays : tie.Need-add-stays
+add-stays c = search needs
 
 stays-requires : tie.Need-stays-requires
 stays-requires c κs = search needs
@@ -19,43 +19,35 @@ sub-used c = search needs
 slide-requires : tie.Need-slide-requires
 slide-requires c κs = search needs
 
-put-record-requires : tie.Need-put-record-requires
-put-record-requires c κs = search needs
-
-add-t21 : tie.Need-add-t21
-add-t21 c = search needs
+behind-requires : tie.Need-behind-requires
+behind-requires c κs = search needs
 
 same-length : tie.Need-same-length
 same-length c = search needs
 
 returns : tie.Need-returns
-returns c = append-slid _ _ _ _ _ (sym (c .before .before .before .before .before .before .before .before .before .stays .ensures) ∙ not-true _ (c .before .before .before .before .before .before .before .before .if1 .taken)) (c .before .before .before .before .before .before .slide .ensures) (c .before .before .put-record .ensures)
+returns c = append-slid _ _ _ _ _ _ (sym (c .before .before .before .before .before .before .before .before .before .stays .ensures) ∙ not-true _ (c .before .before .before .before .before .before .before .before .if1 .taken)) (c .before .before .before .before .before .before .slide .ensures) (c .before .before .behind .ensures)
 
-put-record-requires-2 : tie.Need-put-record-requires-2
-put-record-requires-2 c κs = omega (arith, stays-room _ _ _ (sym (c .before .before .stays .ensures) ∙ not-false _ (c .before .if1 .left)))
-
-add-t11 : tie.Need-add-t11
-add-t11 c = search needs
+behind-requires-2 : tie.Need-behind-requires-2
+behind-requires-2 c κs = (stays-room _ _ _ (sym (c .before .before .stays .ensures) ∙ not-false _ (c .before .if1 .left)), omega arith)
 
 same-length-2 : tie.Need-same-length-2
 same-length-2 c = search needs
 
 returns-2 : tie.Need-returns-2
-returns-2 c = append-behind _ _ _ _ (sym (c .before .before .before .before .before .stays .ensures) ∙ not-false _ (c .before .before .before .before .if1 .left)) (c .before .before .put-record2 .ensures)
+returns-2 c = append-behind _ _ _ _ _ (sym (c .before .before .before .before .before .stays .ensures) ∙ not-false _ (c .before .before .before .before .if1 .left)) (c .before .before .behind2 .ensures)
 
 pub append-spec : {M : Type 1} → statement M
 append-spec =
     tie.close
     (tie.spec
-    add-cost
+    add-stays
     stays-requires
     sub-used
     slide-requires
-    put-record-requires
-    add-t21
+    behind-requires
     same-length
     returns
-    put-record-requires-2
-    add-t11
+    behind-requires-2
     same-length-2
     returns-2)

@@ -1,0 +1,62 @@
+-- A turn over an event of 32 bytes that goes the short way in. Assumes nothing.
+use mathlib.Core.Path.{_≡_, refl, sym, ap, _∙_, subst}
+use mathlib.Core.Bool.{false}
+use mathlib.Core.List.{List}
+use Prim.Native.Nat.{ℕ, _≤_}
+use native.Mathlib.Omega.{arith}
+use lib.ListN.{length, take, getD}
+use lib.Seq.{length-take-le}
+use Rattle.refusal.specs.Answer.{gives}
+use Rattle.sequence.specs.declared.SequenceNumber.{SequenceNumber}
+use Rattle.packet_reader.specs.Frame.{fixed, hasLength}
+use Rattle.packet_reader.specs.Front.{Front, whole, frontOf, front-fixed}
+use Rattle.intake.specs.Exact.{enqueueExact, shown}
+use Rattle.intake.specs.Event.{Writable, PlainEvent, IsPlain, PlainStep, ready-writable}
+use Rattle.intake.specs.Theorems.{ready}
+use Rattle.intake.specs.declared.event.Plain.{Plain}
+use Rattle.intake.specs.declared.event.Plain.the-variants as Plain
+use Rattle.model.specs.Reading.{rooms}
+use Rattle.model.specs.Promise.{answerOf, roomsOf}
+use Rattle.model.specs.Sound.{Sound}
+use Rattle.model.specs.Batch.{site}
+use Rattle.model.specs.declared.Connection.{Connection}
+use Rattle.batch.specs.declared.feed.Turned.the-variants as Turned
+use Rattle.batch.specs.Feed.{turnBy, TurnIs, FrontTurn}
+use Rattle.batch.specs.FeedLoop.{took-on}
+
+-- the bytes begin with such an event, and its number is n
+pub record EventAhead (c : Connection) (s b : List ℕ) (n : ℕ) : Type 0 where
+  pub there : fixed ≤ length b
+  pub short : hasLength (getD b 0 0) ≡ false
+  pub plain : PlainEvent c s (take fixed b) n
+
+abbrev pub IsAhead : Connection → List ℕ → List ℕ → Plain → Type 0
+IsAhead c s b (Plain.Event n) = EventAhead c s b (n .0)
+IsAhead c s b Plain.Other = Unit {0}
+
+-- To take it in is the turn over the bytes ahead, whatever the byte order and the rooms that are not lent.
+pub record PlainTurn (c : Connection) (s b : List ℕ) (a : Connection) (s' : List ℕ) : Type 0 where
+  pub turn : (o : ℕ) (q f : List ℕ) → FrontTurn o c q s f b (Turned.On fixed a) s' f
+
+-- ---- laws
+
+pub ahead-is : (c : Connection) (s b : List ℕ) (x : Plain) → fixed ≤ length b → hasLength (getD b 0 0) ≡ false → IsPlain c s (take fixed b) x → IsAhead c s b x
+ahead-is c s b (Plain.Event n) h e P = record { there = h; short = e; plain = P }
+ahead-is c s b Plain.Other h e P = tt
+
+pub plain-turn : (c : Connection) (s b : List ℕ) (n : ℕ) (a : Connection) (s' : List ℕ) → EventAhead c s b n → PlainStep c s (take fixed b) n a s' → PlainTurn c s b a s'
+unfolding turnBy answerOf roomsOf
+plain-turn c s b n a s' A S =
+    let l : length (take fixed b) ≡ fixed = length-take-le fixed b (A .there) in
+    record {
+      turn = λ o q f.
+          subst (λ (y : Front). TurnIs (turnBy (site c (rooms q s f)) b y) (rooms q s f) (Turned.On fixed a) (rooms q s' f)) (front-fixed o b (A .there) (A .short))
+          (subst (λ (k : ℕ). TurnIs (turnBy (site c (rooms q s f)) b (whole fixed)) (rooms q s f) (Turned.On k a) (rooms q s' f)) l
+          (took-on (length (take fixed b)) (enqueueExact c (rooms q s f) (take fixed b)) (rooms q s f) (rooms q s' f) _ a (ap (answerOf shown) (S .exact q f)) (ap (λ y. roomsOf y (rooms q s f)) (S .exact q f))));
+    }
+
+pub ahead-event : (c : Connection) (s b : List ℕ) (x : Plain) (n : SequenceNumber) → IsAhead c s b x → x ≡ Plain.Event n → EventAhead c s b (n .0)
+ahead-event c s b x n A e = subst (IsAhead c s b) e A
+
+pub sound-writable : (c : Connection) (q s f : List ℕ) → Sound c (rooms q s f) → Writable c s
+sound-writable c q s f S = ready-writable c q s f (ready c (rooms q s f) S)

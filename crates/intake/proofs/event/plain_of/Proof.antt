@@ -1,0 +1,53 @@
+-- `intake::event::plain_of` meets its contract. Assumes nothing.
+use Rattle.intake.specs.Event.{plain-numbered}
+use native.Mathlib.Omega.{arith}
+use mathlib.Core.Path.{sym, _∙_}
+use borrow.Author.Tests.{not-false}
+use borrow.Author.Needs.{needs}
+use Rattle.intake.proofs.event.plain_of.Statement.{statement}
+use Rattle.intake.proofs.event.plain_of.Tie as tie
+
+shared-slice-read-if1 : tie.Need-shared-slice-read-if1
+shared-slice-read-if1 c = search needs
+
+returns : tie.Need-returns
+returns c = search needs
+
+add-stays : tie.Need-add-stays
+add-stays c = search needs
+
+stays-requires : tie.Need-stays-requires
+stays-requires c κs = search needs
+
+returns-2 : tie.Need-returns-2
+returns-2 c = search needs
+
+number-of-requires : tie.Need-number-of-requires
+number-of-requires c κs = search needs
+
+enum-known-number : tie.Need-enum-known-number
+enum-known-number c = search needs
+
+enum-told : tie.Need-enum-told
+enum-told c = search needs
+
+returns-3 : tie.Need-returns-3
+returns-3 c = plain-numbered _ _ _ _ (c .before .before .before .number-of .ensures) _ (c .before .number .given .1) (omega arith) (omega arith) (omega arith) (sym (c .before .before .before .before .before .stays .ensures) ∙ not-false _ (c .before .before .before .before .if2 .left))
+
+returns-4 : tie.Need-returns-4
+returns-4 c = search needs
+
+pub plain-of-spec : {M : Type 1} → statement M
+plain-of-spec =
+    tie.close
+    (tie.spec
+    shared-slice-read-if1
+    returns
+    add-stays
+    stays-requires
+    returns-2
+    number-of-requires
+    enum-known-number
+    enum-told
+    returns-3
+    returns-4)

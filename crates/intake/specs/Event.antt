@@ -1,0 +1,114 @@
+-- The short way in: an event whose record goes behind the window as it stands, and that this is the step. Assumes nothing.
+use mathlib.Core.Path.{_≡_, refl, sym, ap, _∙_}
+use mathlib.Core.Bool.{Bool, true, false}
+use mathlib.Core.List.{List}
+use Prim.Native.Nat.{ℕ, _+_, _≤_, _<_}
+use native.Mathlib.Omega.{arith}
+use lib.Dec.{ltb, eqb}
+use lib.ListN.{length, getD}
+use borrow.Author.Tests.{le-ltb, ne-eqb}
+use Rattle.octets.specs.Logic.{choose, both}
+use Rattle.refusal.specs.Answer.{Answer, gives, refuses, refuse, pass}
+use Rattle.sequence.specs.Numbering.{lastNumber, saysFull}
+use Rattle.sequence.specs.declared.SequenceNumber.{SequenceNumber}
+use Rattle.sequence.specs.declared.Full.{Full}
+use Rattle.sequence.specs.declared.Full.the-variants as Full
+use Rattle.held.specs.Head.{headerSize, leastPacket, mostPacket, held, event}
+use Rattle.held.specs.Reading.{used}
+use Rattle.held.specs.Moves.{left, Leaves, stays, behind, stays-room, append-behind}
+use Rattle.held.specs.declared.Window.{Window}
+use Rattle.model.specs.Client.{header}
+use Rattle.model.specs.Model.{errorCode, replyCode, codeOf, errorPlace, replyPlace, wantsDescriptors, placeOf, claimed}
+use Rattle.model.specs.Model as Model
+use Rattle.model.specs.Reading.{Rooms, rooms}
+use Rattle.model.specs.declared.Connection.{Connection}
+use Rattle.model.specs.declared.Place.{Place}
+use Rattle.model.specs.declared.Place.the-variants as Place
+use Rattle.intake.specs.declared.event.Plain.{Plain}
+use Rattle.intake.specs.declared.event.Plain.the-variants as Plain
+use Rattle.intake.specs.Plan.{Ready, Task, task, numberIn, askedIn, overRoom, planBy, planOf}
+use Rattle.intake.specs.Exact.{numberedState, movedState, filing, filedAs, carriedOut, enqueueExact}
+use Rattle.intake.specs.Steps.{file-event}
+
+-- what is asked of the state: the window lies in its store, and there is a number after the last written
+pub record Writable (c : Connection) (s : List ℕ) : Type 0 where
+  pub within : c .window .end ≤ length s
+  pub store : length s ≡ c .room
+  pub written : c .written ≤ lastNumber
+
+pub ready-writable : (c : Connection) (q s f : List ℕ) → Ready c q s f → Writable c s
+ready-writable c q s f R = record { within = R .within; store = R .store; written = R .numbers .written-most }
+
+-- an event with the number n for which the window stays where it is
+pub record PlainEvent (c : Connection) (s p : List ℕ) (n : ℕ) : Type 0 where
+  pub code : replyCode < codeOf p
+  pub least : leastPacket ≤ length p
+  pub most : length p ≤ mostPacket
+  pub number : gives n ≡ numberIn c p
+  pub stays-there : stays (c .window) s (headerSize + length p) ≡ true
+
+abbrev pub IsPlain : Connection → List ℕ → List ℕ → Plain → Type 0
+IsPlain c s p (Plain.Event n) = PlainEvent c s p (n .0)
+IsPlain c s p Plain.Other = Unit {0}
+
+-- THE SHORT WAY leaves what the step gives, whatever the rooms that it is not lent.
+pub record PlainStep (c : Connection) (s p : List ℕ) (n : ℕ) (a : Connection) (s' : List ℕ) : Type 0 where
+  pub exact : (q f : List ℕ) → gives (record { value = filing Place.Events n; state = a; left = rooms q s' f }) ≡ enqueueExact c (rooms q s f) p
+
+-- ---- laws
+
+pub plain-numbered : (c : Connection) (s p : List ℕ) (x : Full) → saysFull x ≡ numberIn c p → (n : SequenceNumber) → x ≡ Full.Number n
+    → replyCode < codeOf p → leastPacket ≤ length p → length p ≤ mostPacket → stays (c .window) s (headerSize + length p) ≡ true → PlainEvent c s p (n .0)
+plain-numbered c s p x e n g h least most t = record { code = h; least = least; most = most; number = ap saysFull (sym g) ∙ e; stays-there = t }
+
+module _ (c : Connection) (s p : List ℕ) (n : ℕ) (W : Writable c s) (P : PlainEvent c s p n) where
+  -- the record has its place behind the window
+  pub plain-room : c .window .end + (headerSize + length p) ≤ length s
+  plain-room = stays-room (c .window) s (headerSize + length p) (P .stays-there)
+
+  -- it is filed as an event, and claims nothing
+  place-event : (a : Model.Asked) → placeOf (codeOf p) a ≡ Place.Events
+  unfolding placeOf choose
+  place-event a =
+      let x : codeOf p ≡ errorCode → ⊥ = λ e. omega (arith, P .code) in
+      let y : codeOf p ≡ replyCode → ⊥ = λ e. omega (arith, P .code) in
+      simp (ne-eqb (codeOf p) errorCode x, ne-eqb (codeOf p) replyCode y)
+
+  claims-no : (a : Model.Asked) → claimed p a ≡ 0
+  unfolding claimed choose both
+  claims-no a =
+      let y : codeOf p ≡ replyCode → ⊥ = λ e. omega (arith, P .code) in
+      simp (ne-eqb (codeOf p) replyCode y)
+
+  -- it finds room
+  over-no : overRoom c Place.Events (length p) ≡ false
+  unfolding overRoom both
+  over-no = le-ltb (c .room) (used (c .window) + (header + length p)) (omega (arith, plain-room, W .store))
+
+  plan-plain : (a : Model.Asked) → planBy c p n a ≡ gives (task Place.Events n 0)
+  unfolding planBy refuse
+  plan-plain a =
+      (λ i. refuse (ltb (c .counts .waiting) (claims-no a i)) 4 (refuse (overRoom c (place-event a i) (length p)) 5 (gives (task (place-event a i) n (claims-no a i)))))
+      ∙ (simp (le-ltb (c .counts .waiting) 0 (omega arith), over-no))
+
+  plan-is : (q : List ℕ) → planOf c q p ≡ gives (task Place.Events n 0)
+  unfolding planOf refuse pass
+  plan-is q =
+      let x : planOf c q p ≡ pass (numberIn c p) (λ m. planBy c p m (askedIn c q m)) = simp (le-ltb (length p) leastPacket (P .least), le-ltb mostPacket (length p) (P .most)) in
+      x
+      ∙ ap (λ (z : Answer ℕ). pass z (λ m. planBy c p m (askedIn c q m))) (sym (P .number))
+      ∙ plan-plain (askedIn c q n)
+
+  -- THE SHORT WAY IS THE STEP.
+  pub plain-step : (next : Connection) → next ≡ numberedState c (codeOf p) n → (w : Window) (s' : List ℕ) → Leaves (behind (left (c .window) s) (held n 0 event p)) w s'
+      → (a : Connection) → a ≡ movedState next w (c .counts) → PlainStep c s p n a s'
+  unfolding enqueueExact carriedOut pass
+  plain-step next N w s' L a A =
+      let d : Connection = numberedState c (codeOf p) n in
+      let B : a ≡ movedState d w (c .counts) = A ∙ ap (λ (x : Connection). movedState x w (c .counts)) N in
+      let K = append-behind (c .window) s (held n 0 event p) w s' (P .stays-there) L in
+      record {
+        exact = λ q f.
+            ap gives (file-event d s f Place.Events 0 p w (c .counts) a B refl s' K refl .done q)
+            ∙ ap (λ y. pass y (λ t. gives (carriedOut c (rooms q s f) p t))) (sym (plan-is q));
+      }

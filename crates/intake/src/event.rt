@@ -1,0 +1,53 @@
+// The short way in: an event whose record goes behind the window as it stands.
+//
+// It asks nothing of the requests and claims no descriptors, so all that happens to the rooms is one
+// record written. A row of such packets keeps what changes in a few numbers.
+use model::Connection;
+use sequence::Full;
+use sequence::SequenceNumber;
+ghost use Prim.Native.Nat.{_≤_};
+ghost use lib.ListN.{length};
+ghost use Rattle.intake.specs.Event.{Writable, IsPlain, PlainEvent, PlainStep};
+use super::REPLY;
+use super::moved;
+use super::number_of;
+use super::numbered;
+
+// What a packet is: such an event with that number, or another.
+pub enum Plain {
+    Event(SequenceNumber),
+    Other,
+}
+
+pub fn plain_of(c: Connection, store: &[u8], packet: &[u8]) -> Plain
+    requires { ⌜ Writable c (now store) × (32 ≤ length (now packet)) × (length (now packet) ≤ 65536) ⌝ }
+    ensures { λ r. ⌜ IsPlain c (now (store .entry)) (now (packet .entry)) r ⌝ }
+{
+    if packet[0] <= REPLY {
+        return Plain::Other;
+    }
+    let window = c.window;
+    if !held::stays(store, window, held::HEADER + packet.len()) {
+        return Plain::Other;
+    }
+    match number_of(c, packet) {
+        Full::Number(number) => Plain::Event(number),
+        Full::Refused(_) => Plain::Other,
+    }
+}
+
+// Such an event is taken in.
+pub fn take_plain(
+    c: Connection,
+    store: &mut [u8],
+    packet: &[u8],
+    number: SequenceNumber,
+) -> Connection
+    requires { ⌜ Writable c (now store) × PlainEvent c (now store) (now packet) (number .0) ⌝ }
+    ensures { λ r. ⌜ PlainStep c (now (store .entry)) (now (packet .entry)) (number .0) r (now (store .exit)) ⌝ }
+{
+    let window = c.window;
+    let next = numbered(c, packet[0], number.0);
+    let after = held::behind(store, window, number.0, 0, held::EVENT, packet);
+    moved(next, after, c.counts)
+}
