@@ -45,7 +45,7 @@ module _ (c : Connection) (s : List ℕ) (bytes : ℕ) where
   from-found x e q f = ap (eventFrom c (rooms q s f) bytes) e
 
   -- an event that has room
-  from-place : (p : Place) → Found.At p ≡ foundEvent (c .window) s → ltb bytes (p .len) ≡ false → (q f : List ℕ)
+  pub from-place : (p : Place) → Found.At p ≡ foundEvent (c .window) s → ltb bytes (p .len) ≡ false → (q f : List ℕ)
       → gives (moved (packet (eventAt (rooms q s f) p)) c (rooms q s f) (without c (rooms q s f) p) (slotsOf c (rooms q s f))) ≡ eventExact c (rooms q s f) bytes
   unfolding refuse
   from-place p e t q f =

@@ -2,6 +2,7 @@ pub mod Send
 pub mod SendLaws
 pub mod Events
 pub mod EventsLaws
+pub mod First
 pub mod EventsLoop
 pub mod Theorems
 pub mod Feed

@@ -1,8 +1,9 @@
 // Many events are handed out, oldest first: their packets one behind the other, and two marks for
 // each, its number and the length of its packet.
 //
-// A turn looks for the oldest event from the oldest record on, so it walks over the replies that are
-// held before it; where there are none it moves and walks over nothing.
+// Where the oldest record is an event that finds room it goes the short way out. Any other turn looks
+// for the oldest event from the oldest record on, so it walks over the replies that are held before it.
+use super::first;
 use model::Connection;
 use model::Event;
 use model::Events;
@@ -17,7 +18,7 @@ ghost use Rattle.model.specs.PollForEvents.{roomFor};
 ghost use Rattle.batch.specs.Events.{Stored, EventsStep, TurnStep, marked, Markable, stoppedBy};
 
 // The marks of an event.
-const MARKS: usize = 2;
+pub(crate) const MARKS: usize = 2;
 
 // As many events as fit. Refused by 8 where there is one and not even one fits.
 pub fn poll_for_events(c: Connection, store: &mut [u8], out: &mut [u8], marks: &mut [u64]) -> Events
@@ -28,7 +29,15 @@ pub fn poll_for_events(c: Connection, store: &mut [u8], out: &mut [u8], marks: &
     let mut used = 0;
     let mut count = 0;
     loop {
-        let a = turn(state, store, out, marks, used, MARKS * count);
+        let at = MARKS * count;
+        if first::is_first(state, store, out.len() - used, marks.len() - at) {
+            let len = first::hand_first(state, store, out, marks, used, at);
+            state = first::passed(state, len);
+            used += len;
+            count += 1;
+            continue;
+        }
+        let a = turn(state, store, out, marks, used, at);
         match a {
             Event::Packet(_, len, next) => {
                 state = next;

@@ -5,6 +5,7 @@
 // says once for all that a row of exact steps is the model's row and leaves a sound state.
 mod events;
 mod feed;
+mod first;
 mod send;
 
 pub use events::poll_for_events;

@@ -12,3 +12,4 @@ pub mod Lies
 pub mod Keeps
 pub mod Theorems
 pub mod Tally
+pub mod First
