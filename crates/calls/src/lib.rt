@@ -12,6 +12,7 @@ use model::Closed;
 use model::Connection;
 use packet_reader::PacketReader;
 use script::Op;
+use shown::Told;
 use text::Answer;
 
 // What a call answers: the connection to go on with, and what is written.
@@ -103,8 +104,21 @@ fn carried(
 fn told(start: Done, requests: &[u8], store: &[u8], slots: &[u32], bytes: &mut [u8]) -> Done {
     let c = start.connection;
     let mut done = start;
-    done.waiting = shown::line(c, requests, store, slots, bytes, start.waiting);
+    done.waiting = shown::line(state_of(c), requests, store, slots, bytes, start.waiting);
     done
+}
+
+fn state_of(c: Connection) -> Told {
+    let window = c.window;
+    let counts = c.counts;
+    Told {
+        written: c.written,
+        expected: c.expected,
+        read: c.read,
+        first: c.first,
+        window: window,
+        counts: counts,
+    }
 }
 
 fn single(
@@ -139,11 +153,8 @@ fn make(
 ) -> Called {
     let code = op.code;
     match code {
-        script::SEND => {
-            return sends::send(c, op.a, requests, store, slots);
-        }
-        script::SENDMANY => {
-            return sends::send_many(c, op.a, op.b, requests, store, slots);
+        script::SEND | script::SENDMANY => {
+            return sends::send(c, op, requests, store, slots);
         }
         script::SENDALL => {
             return many::send(c, op, requests, store, slots, bytes);
@@ -180,11 +191,8 @@ fn taken(
         script::PREPARE => {
             return sends::prepare(c, op.a, requests, store, slots);
         }
-        script::POLL_CHECK => {
-            return polls::check(c, op.a, requests, store, slots, bytes);
-        }
-        script::POLL_REPLY => {
-            return polls::reply(c, op.a, requests, store, slots, bytes);
+        script::POLL_CHECK | script::POLL_REPLY => {
+            return polls::reply(c, op, requests, store, slots, bytes);
         }
         _ => {
             return polls::event(c, requests, store, slots, bytes);

@@ -33,31 +33,25 @@ fn filed(c: Connection, answer: Enqueued) -> Called {
     }
 }
 
-pub(crate) fn check(
-    c: Connection,
-    number: u64,
-    requests: &[u8],
-    store: &mut [u8],
-    slots: &mut [u32],
-    bytes: &mut [u8],
-) -> Called {
-    replied(
-        c,
-        connection::poll_check_for_reply_or_error(c, requests, store, slots, number, bytes),
-    )
-}
-
+// `poll_check_for_reply_or_error`, or `poll_for_reply`.
 pub(crate) fn reply(
     c: Connection,
-    number: u64,
+    op: Op,
     requests: &[u8],
     store: &mut [u8],
     slots: &mut [u32],
     bytes: &mut [u8],
 ) -> Called {
+    let n = op.a;
+    if op.code == script::POLL_CHECK {
+        return replied(
+            c,
+            connection::poll_check_for_reply_or_error(c, requests, store, slots, n, bytes),
+        );
+    }
     replied(
         c,
-        connection::poll_for_reply(c, requests, store, slots, number, bytes),
+        connection::poll_for_reply(c, requests, store, slots, n, bytes),
     )
 }
 

@@ -30,36 +30,17 @@ fn kind_of(kind: u64) -> ReplyFdKind {
     }
 }
 
+// One request, or as many as the line says. A refused send leaves the state as it was, so those
+// after it are refused alike.
 pub(crate) fn send(
-    c: Connection,
-    kind: u64,
-    requests: &mut [u8],
-    store: &[u8],
-    slots: &[u32],
-) -> Called {
-    sent(
-        c,
-        connection::send_request(c, requests, store, slots, kind_of(kind)),
-    )
-}
-
-fn sent(c: Connection, answer: Sent) -> Called {
-    match answer {
-        Sent::Number(number, next) => with(next, text::count(0, number.0)),
-        Sent::Refused(refusal) => refused(c, refusal),
-    }
-}
-
-// A refused send leaves the state as it was, so those after it are refused alike.
-pub(crate) fn send_many(
     start: Connection,
-    kind: u64,
-    count: u64,
+    op: Op,
     requests: &mut [u8],
     store: &[u8],
     slots: &[u32],
 ) -> Called {
-    let kind = kind_of(kind);
+    let kind = kind_of(op.a);
+    let count = times(op);
     let mut c = start;
     let mut done: u64 = 0;
     while done < count {
@@ -68,21 +49,31 @@ pub(crate) fn send_many(
                 c = next;
             }
             Sent::Refused(refusal) => {
-                return stopped(c, refusal, done);
+                return stopped(c, op.code, refusal, done);
             }
         }
         done += 1;
     }
-    accepted(c, done)
+    accepted(c, op.code, done)
 }
 
-fn stopped(c: Connection, refusal: Refusal, done: u64) -> Called {
+fn times(op: Op) -> u64 {
+    if op.code == script::SEND { 1 } else { op.b }
+}
+
+fn stopped(c: Connection, code: u8, refusal: Refusal, done: u64) -> Called {
+    if code == script::SEND {
+        return refused(c, refusal);
+    }
     let stop = refusal.number() as u64;
     with(c, text::both(text::REFUSED, stop, text::ACCEPTED, done, 0))
 }
 
 // The number of the last, if there was one.
-fn accepted(c: Connection, done: u64) -> Called {
+fn accepted(c: Connection, code: u8, done: u64) -> Called {
+    if code == script::SEND {
+        return with(c, text::count(0, c.written));
+    }
     if done == 0 {
         return with(c, text::also(0, text::ACCEPTED, done));
     }

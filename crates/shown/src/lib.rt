@@ -3,7 +3,8 @@
 //
 // Text goes behind what waits in a lent run of bytes, and where it ends then comes back (`text`).
 // Nothing here is promised but that it is safe and ends.
-use model::Connection;
+use descriptors::Counts;
+use held::Window;
 use requests::Mode;
 use requests::Request;
 ghost use mathlib.Core.Path.{_≡_};
@@ -11,8 +12,18 @@ ghost use Prim.Native.Nat.{_+_, _-_, _≤_};
 ghost use lib.ListN.{length};
 ghost use Rattle.held.specs.Head.{headerSize};
 
+// What counts as state beside the rooms.
+pub struct Told {
+    pub written: u64,
+    pub expected: u64,
+    pub read: u64,
+    pub first: u64,
+    pub window: Window,
+    pub counts: Counts,
+}
+
 pub fn line(
-    c: Connection,
+    c: Told,
     requests: &[u8],
     store: &[u8],
     slots: &[u32],
@@ -25,7 +36,7 @@ pub fn line(
     rest(c, slots, out, d)
 }
 
-fn numbers(c: Connection, out: &mut [u8], waiting: usize) -> usize {
+fn numbers(c: Told, out: &mut [u8], waiting: usize) -> usize {
     let a = text::counted(out, waiting, b" written ", c.written);
     let b = text::counted(out, a, b" expected ", c.expected);
     text::counted(out, b, b" read ", c.read)
@@ -33,7 +44,7 @@ fn numbers(c: Connection, out: &mut [u8], waiting: usize) -> usize {
 
 // ---- outstanding requests, as runs of equal ones
 
-fn outstanding(c: Connection, requests: &[u8], out: &mut [u8], waiting: usize) -> usize {
+fn outstanding(c: Told, requests: &[u8], out: &mut [u8], waiting: usize) -> usize {
     let a = text::word(out, waiting, b" out");
     if c.written < c.first {
         return a;
@@ -96,13 +107,7 @@ fn letter_of(request: Request) -> u8 {
 
 // ---- held packets
 
-fn held_packets(
-    c: Connection,
-    store: &[u8],
-    slots: &[u32],
-    out: &mut [u8],
-    waiting: usize,
-) -> usize {
+fn held_packets(c: Told, store: &[u8], slots: &[u32], out: &mut [u8], waiting: usize) -> usize {
     let start = c.window.start;
     let end = c.window.end;
     let a = events(store, start, end, out, waiting);
@@ -244,7 +249,7 @@ fn colon(fd: u32, out: &mut [u8], waiting: usize) -> usize {
 
 // ---- waiting descriptors, and what is used
 
-fn rest(c: Connection, slots: &[u32], out: &mut [u8], waiting: usize) -> usize {
+fn rest(c: Told, slots: &[u32], out: &mut [u8], waiting: usize) -> usize {
     let a = waiting_fds(c, slots, out, waiting);
     if c.window.end < c.window.start {
         return a;
@@ -252,7 +257,7 @@ fn rest(c: Connection, slots: &[u32], out: &mut [u8], waiting: usize) -> usize {
     text::counted(out, a, b" used ", (c.window.end - c.window.start) as u64)
 }
 
-fn waiting_fds(c: Connection, slots: &[u32], out: &mut [u8], waiting: usize) -> usize {
+fn waiting_fds(c: Told, slots: &[u32], out: &mut [u8], waiting: usize) -> usize {
     if slots.len() < c.counts.closed {
         return waiting;
     }

@@ -1,19 +1,22 @@
--- `calls::sends::send_many` meets its contract. Assumes nothing.
+-- `calls::sends::send` meets its contract. Assumes nothing.
 use mathlib.Core.Path.{_≡_}
 use Prim.Native.Nat.{_≤_, _-_}
 use lib.ListN.{length}
 use borrow.Author.Needs.{needs}
-use Rattle.calls.proofs.sends.send_many.Statement.{statement}
-use Rattle.calls.proofs.sends.send_many.Tie as tie
+use Rattle.calls.proofs.sends.send.Statement.{statement}
+use Rattle.calls.proofs.sends.send.Tie as tie
 
 abbrev Inv-loop : tie.InvT-loop
-Inv-loop kind count requests₀ store slots kind' c₀ done₀ requests c done = (done ≤ count) × (length requests ≡ length requests₀)
+Inv-loop op requests₀ store slots kind count c₀ done₀ requests c done = (done ≤ count) × (length requests ≡ length requests₀)
 
 abbrev μ-loop : tie.MeasureT-loop
-μ-loop kind count requests₀ store slots kind' c₀ done₀ requests c done = count - done
+μ-loop op requests₀ store slots kind count c₀ done₀ requests c done = count - done
 
 kind-of-requires : tie.Need-kind-of-requires Inv-loop μ-loop
 kind-of-requires c κs = search needs
+
+times-requires : tie.Need-times-requires Inv-loop μ-loop
+times-requires c κs = search needs
 
 loop-holds : tie.Need-loop-holds Inv-loop μ-loop
 loop-holds c = search needs
@@ -54,13 +57,14 @@ same-length-2 c = search needs
 returns-2 : tie.Need-returns-2 Inv-loop μ-loop
 returns-2 c = search needs
 
-pub send-many-spec : {M : Type 1} → statement M
-send-many-spec =
+pub send-spec : {M : Type 1} → statement M
+send-spec =
     tie.close
     (tie.spec
     Inv-loop
     μ-loop
     kind-of-requires
+    times-requires
     loop-holds
     send-request-requires
     enum-known-next
