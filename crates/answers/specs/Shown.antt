@@ -35,7 +35,7 @@ use Rattle.model.specs.declared.ReplyFdKind.{ReplyFdKind}
 use Rattle.model.specs.declared.ReplyFdKind.the-variants as ReplyFdKind
 use Rattle.model.specs.declared.DiscardMode.{DiscardMode}
 use Rattle.model.specs.declared.DiscardMode.the-variants as DiscardMode
-use Rattle.rows.specs.State.{four, connectionRow}
+use Rattle.rows.specs.State.{four, connectionRow, sentRow}
 
 -- no numbers; a number itself
 abbrev pub nothing : {A : Type 0} → A → List ℕ
@@ -130,6 +130,10 @@ reasonText x = reasonPlace (gives x) .start ∷ reasonPlace (gives x) .size ∷ 
 -- the state that is handed back, in the row that was lent
 abbrev pub stateRow : {A : Type 0} → List ℕ → A × Connection → List ℕ
 stateRow s x = connectionRow s (x .1)
+
+-- the same where a send changed it
+abbrev pub sentIn : {A : Type 0} → List ℕ → A × Connection → List ℕ
+sentIn s x = sentRow s (x .1)
 
 -- the value itself
 abbrev pub first : ℕ × Connection → List ℕ

@@ -4,7 +4,7 @@ ghost use mathlib.Core.Path.{_≡_};
 ghost use mathlib.Core.List.{[], _∷_};
 ghost use Rattle.model.specs.Says.{saysNext, saysSent, saysEnqueued, saysPolled, saysPollReply, saysEvent, saysClosed};
 ghost use Rattle.answers.specs.Exported.{Kept};
-ghost use Rattle.answers.specs.Shown.{nothing, stateRow, first, filing, polled, poll, event};
+ghost use Rattle.answers.specs.Shown.{nothing, stateRow, sentIn, first, filing, polled, poll, event};
 use crate::DONE;
 use crate::code;
 use crate::words::place_number;
@@ -28,12 +28,13 @@ pub fn give_next(answer: Next, row: &mut [u64]) -> u32
     }
 }
 
+// Into the row that the state was read from.
 pub fn give_sent(answer: Sent, row: &mut [u64], number: &mut u64) -> u32
-    ensures { λ r. ⌜ Kept (λ a. a ≡ saysSent answer) first (stateRow (now (row .entry))) (now (number .entry) ∷ []) (now (number .exit) ∷ []) (now (row .entry)) (now (row .exit)) r ⌝ }
+    ensures { λ r. ⌜ Kept (λ a. a ≡ saysSent answer) first (sentIn (now (row .entry))) (now (number .entry) ∷ []) (now (number .exit) ∷ []) (now (row .entry)) (now (row .exit)) r ⌝ }
 {
     match answer {
         Sent::Number(given, next) => {
-            rows::put_connection(row, next);
+            rows::put_sent(row, next);
             *number = given.0;
             DONE
         }

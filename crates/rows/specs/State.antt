@@ -75,6 +75,10 @@ connectionRow s c =
     12 0 0 0 0)
     s
 
+-- the two numbers that a send changes
+unfoldable pub sentRow : List ℕ → Connection → List ℕ
+sentRow s c = choose (eqb (length s) connectionSlots) (set (set s 3 (c .written)) 4 (c .expected)) s
+
 -- three numbers of which the first is a byte
 unfoldable pub byteRow : List ℕ → Bool
 byteRow s = both (eqb (length s) threeSlots) (ltb (getD s 0 0) 256)
@@ -118,6 +122,12 @@ both-on {b = b} e = ap (λ (k : Bool). both k b) (sym e)
 pub fits-long : (s : List ℕ) → fits s ≡ true → (length s ≡ connectionSlots) × (getD s 0 0 < 256)
 unfolding fits
 fits-long s h = (eqb-true _ _ (both-left _ _ h), ltb-true _ _ (both-left _ _ (both-right _ _ h)))
+
+pub fits-zeros : (s : List ℕ) → fits s ≡ true → (getD s 12 0 ≡ 0) × (getD s 13 0 ≡ 0) × (getD s 14 0 ≡ 0) × (getD s 15 0 ≡ 0)
+unfolding fits
+fits-zeros s h =
+    let h₁ = both-right _ _ (both-right _ _ h) in let h₂ = both-right _ _ h₁ in let h₃ = both-right _ _ h₂ in
+    (eqb-true _ _ (both-left _ _ h₁), eqb-true _ _ (both-left _ _ h₂), eqb-true _ _ (both-left _ _ h₃), eqb-true _ _ (both-right _ _ h₃))
 
 pub byte-long : (s : List ℕ) → byteRow s ≡ true → (length s ≡ threeSlots) × (getD s 0 0 < 256)
 unfolding byteRow

@@ -3,7 +3,7 @@
 ghost use mathlib.Core.Path.{_≡_};
 ghost use Prim.Native.Nat.{_+_, _≤_, _<_};
 ghost use lib.ListN.{length, getD};
-ghost use Rattle.rows.specs.State.{connectionSlots, threeSlots, fits, connectionAt, connectionOf, unfit as State·unfit, four, connectionRow, byteRow, readerAt, readerOf, readerRow, handshakeAt, handshakeOf, handshakeRow, idsOf, idsRow};
+ghost use Rattle.rows.specs.State.{connectionSlots, threeSlots, fits, connectionAt, connectionOf, unfit as State·unfit, four, connectionRow, sentRow, byteRow, readerAt, readerOf, readerRow, handshakeAt, handshakeOf, handshakeRow, idsOf, idsRow};
 use connect::Connect;
 use descriptors::Counts;
 use held::Window;
@@ -130,6 +130,18 @@ pub fn put_connection(s: &mut [u64], c: Connection)
         counts.waiting as u64,
     );
     put_four(s, 12, 0, 0, 0, 0);
+}
+
+// The same for a state that a send left, in the row that it was read from: only what a send changes
+// is written.
+pub fn put_sent(s: &mut [u64], c: Connection)
+    ensures { λ _. ⌜ now (s .exit) ≡ sentRow (now (s .entry)) c ⌝ }
+{
+    if s.len() != CONNECTION {
+        return;
+    }
+    s[3] = c.written;
+    s[4] = c.expected;
 }
 
 // Whether three numbers are there, of which the first fits a byte.

@@ -9,8 +9,8 @@ use Rattle.answers.proofs.one.give_sent.Tie as tie
 enum-known-answer : tie.Need-enum-known-answer
 enum-known-answer c = search needs
 
-put-connection-requires : tie.Need-put-connection-requires
-put-connection-requires c κs = search needs
+put-sent-requires : tie.Need-put-sent-requires
+put-sent-requires c κs = search needs
 
 enum-known-answer-2 : tie.Need-enum-known-answer-2
 enum-known-answer-2 c = search needs
@@ -22,7 +22,7 @@ same-length : tie.Need-same-length
 same-length c = search needs
 
 returns : tie.Need-returns
-returns c = kept-at saysSent (c .before .before .before .before .before .answer .given .1) refl refl refl (c .before .before .put-connection .ensures)
+returns c = kept-at saysSent (c .before .before .before .before .before .answer .given .1) refl refl refl (c .before .before .put-sent .ensures)
 
 returns-2 : tie.Need-returns-2
 returns-2 c = kept-at saysSent (c .before .before .answer2 .given .1) refl (c .code .ensures) refl refl
@@ -32,7 +32,7 @@ give-sent-spec =
     tie.close
     (tie.spec
     enum-known-answer
-    put-connection-requires
+    put-sent-requires
     enum-known-answer-2
     code-requires
     same-length
