@@ -25,9 +25,9 @@ use Rattle.packet_reader.specs.declared.PacketReader.{PacketReader}
 abbrev packet : ℕ → ℕ → ℕ → List ℕ
 packet code units count = code ∷ 0 ∷ 0 ∷ 0 ∷ units ∷ 0 ∷ 0 ∷ 0 ∷ count ∷ replicate 23 0
 
--- allocators that are not sound, and have no id left
+-- an allocator that is not sound and has no id left
 abbrev unsound : IdAllocator
-unsound = record { next = 1; last = 0; step = 0 }
+unsound = record { next = 4; last = 0; step = 3 }
 
 abbrev reader : ℕ → PacketReader
 reader order = record { order = order; filled = 0; target = 32 }
@@ -42,9 +42,9 @@ unfolding sending mustSync refuse both
 sends = refl
 
 -- "range 9, 11, 12": 11 and 12 never apply at once
-pub ids : Gets (generated unsound) 9 × Gets (updated unsound 0 1) 9
+pub ids : Gets (generated unsound) 9 × Gets (updated unsound 0 1) 9 × Gets (updated unsound 4294967295 2) 9
 unfolding generated updated sound powerBelow noIds refuse both either
-ids = (refl, refl)
+ids = (refl, refl, refl)
 
 -- "XC-MISC replies 1, 2, 13, 14, 8", and so for every packet whose fields are read
 pub replies : Gets (checked 0 [] 1) 1 × Gets (checked 0 (packet 0 0 0) 1) 13 × Gets (checked 108 (packet 0 0 0) 1) 14 × Gets (list 0 (packet 1 9 9) 0) 13 × Gets (list 108 (packet 1 9 1) 0) 14 × Gets (list 108 (packet 1 0 1) 0) 14
@@ -55,8 +55,8 @@ pub long-packet : (order : ℕ) (p : List ℕ) (first : ℕ) → 65536 < length 
 unfolding checked refuse
 long-packet order p first h = let l : 32 ≤ length p = omega arith in simp (le-ltb (length p) 32 l, lt-ltb 65536 (length p) h)
 
--- requests: 13, then 8
-pub requests : Gets (room 0 7 8) 13 × Gets (room 108 7 8) 8
+-- requests: "elsewhere 9, then by number"
+pub requests : Gets (room 0 7 8) 8 × Gets (room 0 8 8) 13
 unfolding room legal refuse either
 requests = (refl, refl)
 
