@@ -26,7 +26,7 @@ errorCode = 0
 abbrev pub replyCode : ℕ
 replyCode = 1
 
--- 1, 2, 13, 14 in this order, or the packet's fields can be read.
+-- 01, Refusal numbers, "elsewhere 9, then by number": 1, 2, 13, 14, or the packet's fields can be read.
 unfoldable pub checked : ℕ → List ℕ → ℕ → Answer Unit
 checked o p first =
     refuse (ltb (length p) leastPacket) 1

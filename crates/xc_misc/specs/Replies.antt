@@ -43,7 +43,7 @@ unfoldable pub listOf : ℕ → List ℕ → GetXIDListReply
 listOf o p = record { sequence = record { 0 = field o 2 2 p }; length = field o 4 4 p; count = field o 8 4 p }
 
 unfoldable pub idsOf : ℕ → ℕ → List ℕ → List ℕ
-idsOf o count p = fields o 4 32 count p
+idsOf o count p = fields o 4 leastPacket count p
 
 -- 01, What is ported: 32 bytes and so many units of four are within n bytes
 unfoldable pub reaches : ℕ → ℕ → Bool
