@@ -6,12 +6,12 @@ use Prim.Native.Nat.{ℕ, _≤_}
 use lib.ListN.{length}
 use Rattle.octets.specs.Bytes.{legal}
 use Rattle.sequence.specs.Numbering.{lastNumber}
-use Rattle.requests.specs.Room.{byteOf, upto, byteAt}
+use Rattle.requests.specs.Room.{byteOf, upto, byteAt, mostRequests}
 use Rattle.held.specs.Head as Record
 use Rattle.held.specs.Reading as Store
-use Rattle.descriptors.specs.Room.{counted}
+use Rattle.descriptors.specs.Room.{counted, mostDescriptors}
 use Rattle.model.specs.Client.{Held, Client, first, used, descriptorsOf, inside}
-use Rattle.model.specs.Model.{mostRequests, leastBytes, mostBytes, mostDescriptors}
+use Rattle.model.specs.Model.{leastStore}
 use Rattle.model.specs.Reading.{Rooms}
 use Rattle.model.specs.declared.Connection.{Connection}
 use Rattle.honest.specs.Run.{All}
@@ -20,14 +20,14 @@ use Rattle.honest.specs.Run.{All}
 
 -- packets of 32 to 65,536 bytes under numbers up to the last read; a reply has at most 255 descriptors, since it claims them by a byte, and an event none
 pub record ReplyFits (last : ℕ) (h : Held) : Type 0 where
-  pub least : 32 ≤ length (h .packet)
-  pub most : length (h .packet) ≤ 65536
+  pub least : Record.leastPacket ≤ length (h .packet)
+  pub most : length (h .packet) ≤ Record.mostPacket
   pub known : h .number ≤ last
   pub descriptors : length (h .descriptors) ≤ 255
 
 pub record EventFits (last : ℕ) (h : Held) : Type 0 where
-  pub least : 32 ≤ length (h .packet)
-  pub most : length (h .packet) ≤ 65536
+  pub least : Record.leastPacket ≤ length (h .packet)
+  pub most : length (h .packet) ≤ Record.mostPacket
   pub known : h .number ≤ last
   pub descriptors : h .descriptors ≡ []
 
@@ -41,8 +41,8 @@ pub record InRange (m : Client) : Type 0 where
   pub order : legal (m .order) ≡ true
   pub requests-least : 1 ≤ m .most-requests
   pub requests-most : m .most-requests ≤ mostRequests
-  pub store-least : leastBytes ≤ m .most-bytes
-  pub store-most : m .most-bytes ≤ mostBytes
+  pub store-least : leastStore ≤ m .most-bytes
+  pub store-most : m .most-bytes ≤ Record.mostStore
   pub written-most : m .numbers .written ≤ lastNumber
   pub expected-most : m .numbers .expected ≤ lastNumber
   pub read-most : m .numbers .read ≤ lastNumber

@@ -7,10 +7,10 @@ use Prim.Native.Nat.{ℕ, _+_, _-_, _≤_, _<_}
 use lib.ListN.{length, getD, drop}
 use Rattle.refusal.specs.Answer.{Answer, gives, refuses}
 use Rattle.sequence.specs.Sending.{syncSpan}
-use Rattle.descriptors.specs.Room.{count}
+use Rattle.descriptors.specs.Room.{count, mostDescriptors}
 use Rattle.descriptors.specs.Room as Slots
 use Rattle.model.specs.Client.{Held, Client, used, costs}
-use Rattle.model.specs.Model.{mostDescriptors, fresh, hasReply, Filing, isError, at, find}
+use Rattle.model.specs.Model.{fresh, hasReply, Filing, isError, at, find}
 use Rattle.model.specs.Calls.{Call, send, enqueue-fds, enqueue, discard, poll-reply, Said, number, done, absent, refused, step, run}
 use Rattle.model.specs.Promise.{Done, Promise}
 use Rattle.model.specs.Reading.{Rooms, slotsOf, reads}

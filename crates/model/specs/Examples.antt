@@ -192,7 +192,7 @@ table = row1 ∷ row2 ∷ row3 ∷ row4 ∷ row5 ∷ row6 ∷ row7 ∷ row8 ∷ 
 
 -- THE EXAMPLES: each row runs as it says.
 pub examples : All table
-unfolding run step Model.sendRequest Model.enqueueFds Model.enqueuePacket Model.discardReply Model.takeClosed Model.pollForReplyOrError Model.pollCheck Model.pollForReply Model.prepareCheck Model.pollForEvent Model.find pass refuse sending mustSync both either choose Model.numberOf inRange full field numberIn cut turned bytesOf lowBytes lowNumber Model.numbered Model.askedOf Model.headOf Model.placeOf Model.claimed Model.takeIn costs descriptorsOf Model.withMode underMode Model.ofNumber Model.notOf Model.above Model.errorsOf Model.turned
+unfolding run step Model.sendRequest Model.enqueueFds Model.enqueuePacket Model.discardReply Model.takeClosed Model.pollForReplyOrError Model.pollCheck Model.pollForReply Model.prepareCheck Model.pollForEvent Model.find pass refuse sending mustSync both either choose Model.packetNumber inRange full field numberIn cut turned bytesOf lowBytes lowNumber Model.numbered Model.askedOf Model.headOf Model.placeOf Model.claimed Model.takeIn costs descriptorsOf Model.withMode underMode Model.ofNumber Model.notOf Model.above Model.errorsOf Model.closingOrder
 examples = (refl, (refl, (refl, (refl, (refl, (refl, (refl, (refl, (refl, (refl, (refl, (refl, (refl, (refl, (refl, (refl, (refl, (refl, (refl, tt)))))))))))))))))))
 
 -- `new`: the ranges of the two rooms to their ends, 9 before 13
@@ -206,7 +206,7 @@ pub long-first : (c : Client) (p : List ℕ) → 65536 < length p → Model.enqu
 unfolding Model.enqueuePacket refuse
 long-first c p h = let l : 32 ≤ length p = omega arith in simp (le-ltb (length p) 32 l, lt-ltb 65536 (length p) h)
 
-pub any-length : (c : Client) (p : List ℕ) → 32 ≤ length p → length p ≤ 65536 → Model.enqueuePacket c p ≡ pass (Model.numberOf c p) (λ n. Model.takeIn c p n (Model.askedOf c n))
+pub any-length : (c : Client) (p : List ℕ) → 32 ≤ length p → length p ≤ 65536 → Model.enqueuePacket c p ≡ pass (Model.packetNumber c p) (λ n. Model.takeIn c p n (Model.askedOf c n))
 unfolding Model.enqueuePacket refuse
 any-length c p h k = simp (le-ltb (length p) 32 h, le-ltb 65536 (length p) k)
 
