@@ -58,11 +58,11 @@ module _ (o : ℕ) (s : List ℕ) where
   unfolding frontOf choose
   front-nothing h = simp (eq-eqb (length s) 0 h)
 
-  pub front-short : (length s ≡ 0 → ⊥) → length s < 32 → part ≡ frontOf o s
+  pub front-short : (length s ≡ 0 → ⊥) → length s < fixed → part ≡ frontOf o s
   unfolding frontOf choose
   front-short h k =
-      let a : aim o s (length s) ≡ 32 = aim-head o s (length s) k in
-      simp (ne-eqb (length s) 0 h, a, lt-ltb (length s) 32 k)
+      let a : aim o s (length s) ≡ fixed = aim-head o s (length s) k in
+      simp (ne-eqb (length s) 0 h, a, lt-ltb (length s) fixed k)
 
   module _ (t : ℕ) (e : t ≡ aim o s (length s)) (h : length s ≡ 0 → ⊥) where
     pub front-long : mostPacket < t → long ≡ frontOf o s
@@ -151,7 +151,7 @@ cuts-enough o zero m s h k = cut-rest o zero s (omega (arith, aim-least o s (len
 cuts-enough o (suc n) zero s h k = cut-rest o (suc n) s (omega (arith, aim-least o s (length s))) ∙ sym (cut-rest o zero s (omega (arith, aim-least o s (length s))))
 cuts-enough o (suc n) (suc m) s h k =
     go (ltb (length s) (aim o s (length s))) refl
-    (λ f. let w : 32 ≤ aim o s (length s) = aim-least o s (length s) in
+    (λ f. let w : fixed ≤ aim o s (length s) = aim-least o s (length s) in
     let l : length (drop (aim o s (length s)) s) ≡ length s - aim o s (length s) = length-drop (aim o s (length s)) s in
     cuts-enough o n m (drop (aim o s (length s)) s) (omega arith) (omega arith))
   where
@@ -171,7 +171,7 @@ packets-none o s h = cut-rest o (length s) s h
 pub packets-next : (o : ℕ) (s : List ℕ) → aim o s (length s) ≤ length s → cutPackets o s ≡ cons (take (aim o s (length s)) s) (cutPackets o (drop (aim o s (length s)) s))
 unfolding cutPackets
 packets-next o s h =
-    let w : 32 ≤ aim o s (length s) = aim-least o s (length s) in
+    let w : fixed ≤ aim o s (length s) = aim-least o s (length s) in
     let l : length (drop (aim o s (length s)) s) ≡ length s - aim o s (length s) = length-drop (aim o s (length s)) s in
     cuts-enough o (length s) (suc (length s)) s (omega arith) (omega arith)
     ∙ cut-next o (length s) s h

@@ -8,7 +8,7 @@
 ghost use mathlib.Core.Path.{_≡_};
 ghost use Prim.Native.Nat.{_≤_};
 ghost use lib.ListN.{length};
-ghost use Rattle.packet_reader.specs.Frame.{hasLength, total, totalOf, aim};
+ghost use Rattle.packet_reader.specs.Frame.{hasLength, total, aim};
 ghost use Rattle.packet_reader.specs.Front.{frontOf, saysBegins};
 ghost use Rattle.packet_reader.specs.Reader.{fresh as Reader·fresh, soundb, made, capacity, advanced, saysMade, saysCapacity, saysAdvanced, Lent};
 use refusal::Refusal;
