@@ -26,7 +26,7 @@ pub data Ruled (o : ℕ) : Numbers → List Event → Type 0 where
   takes-one : {n : Numbers} {l : List Event} (t : ℕ) (p : List ℕ) (f : Filing) → gives (f .number) ≡ inRange (full (n .read) (field o 2 2 p)) → Ruled o n l
       → Ruled o (record { written = n .written; expected = max (n .expected) (f .number); read = f .number }) (took t p f ∷ l)
 
--- NEVER STUCK: once a request with a reply was sent, no sync is asked for.
+-- FREED: once a request with a reply was sent, no sync is asked for.
 pub sync-frees : (w e : ℕ) (x : Sending.Numbers) → gives x ≡ sending w e true → mustSync (x .number) (x .expected) ≡ false
 unfolding sending mustSync choose both
 sync-frees w e x q =

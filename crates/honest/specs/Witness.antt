@@ -1,4 +1,4 @@
--- There are runs with an honest server: one with every kind of call and packet, runs of any length, and one that is both, past 65,536. Assumes nothing.
+-- There are runs with an honest server: one with each call, and an event, a KeymapNotify, an error and replies that are held, have a descriptor or are dropped; runs of any length; and one that is both, past 65,536. Assumes nothing.
 use mathlib.Core.Bool.{Bool, true, false}
 use mathlib.Core.List.{List, [], _∷_, _++_}
 use mathlib.Core.Logic.{inl, inr, ⊎-elim}

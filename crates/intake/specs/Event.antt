@@ -28,7 +28,7 @@ use Rattle.intake.specs.Plan.{Ready, task, packetNumberIn, askedIn, over
 use Rattle.intake.specs.Exact.{numberedState, movedState, filing, carriedOut, enqueueExact}
 use Rattle.intake.specs.Steps.{file-event}
 
--- what is asked of the state: the window lies in its store, and there is a number after the last written
+-- what is asked of the state: the window lies in its store, and the last written is a full number
 pub record Writable (c : Connection) (s : List ℕ) : Type 0 where
   pub within : c .window .end ≤ length s
   pub store : length s ≡ c .room

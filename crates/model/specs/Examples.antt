@@ -132,7 +132,7 @@ row10 = record {
   said = number 1 ∷ done ∷ nothing ∷ filed Replies 1 ∷ refused 8 ∷ refused 8 ∷ refused 8 ∷ took (kept 1 (pk 1 1 1) (4 ∷ [])) ∷ again ∷ filed Events 2 ∷ absent ∷ refused 8 ∷ took (kept 2 (pk 2 0 2) []) ∷ again ∷ [];
 }
 
--- 3 and then 6 on sending, never 6 with a reply; 3 on intake
+-- 6 without a reply and never with one; after that one more passes
 abbrev row11 : Row
 row11 = record {
   start = numbersAt 65534 0 0;
