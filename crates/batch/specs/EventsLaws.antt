@@ -11,7 +11,7 @@ use lib.Seq.{drop-append-le, drop-drop, length-take-le}
 use borrow.Author.Tests.{le-leb, lt-leb, ltb-false}
 use Rattle.octets.specs.Logic.{choose}
 use Rattle.octets.specs.Put.{put, set-two}
-use Rattle.refusal.specs.Answer.{Answer, gives, refuses, refuse, gives-past, gives-rest}
+use Rattle.refusal.specs.Answer.{Answer, gives, refuses, refuse, gives-past, gives-rest, gives-same}
 use Rattle.sequence.specs.declared.SequenceNumber.{SequenceNumber}
 use Rattle.held.specs.Head as Record
 use Rattle.held.specs.Reading as Store
@@ -25,7 +25,7 @@ use Rattle.held.specs.declared.Place.{Place}
 use Rattle.model.specs.Client.{Held}
 use Rattle.model.specs.Model.{Taken, none, packet}
 use Rattle.model.specs.Reading.{Rooms, rooms, slotsOf}
-use Rattle.model.specs.Promise.{Done, Exact, outputOf, gives-same}
+use Rattle.model.specs.Promise.{Done, Exact, outputOf}
 use Rattle.model.specs.BatchLaws.{exact-gave}
 use Rattle.model.specs.Says.{event, noEvent, shownEvent, bytesOfTaken, saysEvent}
 use Rattle.model.specs.PollForEvents.{roomFor}

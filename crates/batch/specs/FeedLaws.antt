@@ -9,7 +9,7 @@ use lib.ListN.{length, take, drop, getD}
 use lib.Seq.{length-take-le, getD-take, getD-drop}
 use borrow.Author.Tests.{ltb-true, ltb-false, lt-ltb, le-ltb, eq-eqb, ne-eqb}
 use Rattle.octets.specs.Logic.{choose}
-use Rattle.refusal.specs.Answer.{Answer, gives, refuses, refuse, pass}
+use Rattle.refusal.specs.Answer.{Answer, gives, refuses, refuse, pass, gives-same}
 use Rattle.packet_reader.specs.Frame.{aim, Cut, cons, cuts, cutPackets, fixed}
 use Rattle.packet_reader.specs.CutLaws.{aim-least}
 use Rattle.packet_reader.specs.Reader.{mostBuffer}
@@ -20,7 +20,7 @@ use Rattle.intake.specs.Exact.{enqueueExact}
 use Rattle.intake.specs.Theorems.{enqueue-model, enqueue-sound}
 use Rattle.model.specs.Model.{Filing, enqueuePacket}
 use Rattle.model.specs.Reading.{Rooms, reads}
-use Rattle.model.specs.Promise.{Done, modelOf, gives-same}
+use Rattle.model.specs.Promise.{Done, modelOf}
 use Rattle.model.specs.Sound.{Sound}
 use Rattle.model.specs.Batch.{Turn, goes, stops, onward, Site, site, readSite, readTurn, Each}
 use Rattle.model.specs.BatchLaws.{goes-one, row-model, row-sound, row-goes, row-stops, row-ends}

@@ -5,7 +5,7 @@ use Prim.Native.Nat.{ℕ, _+_, _-_, _≤_, _<_}
 use native.Mathlib.Omega.{arith}
 use lib.ListN.{length, take, drop, getD, length-append, length-drop, drop-of-length-le}
 use lib.Seq.{getD-take, getD-drop, drop-drop, take-length}
-use Rattle.refusal.specs.Answer.{Answer, gives, refuses}
+use Rattle.refusal.specs.Answer.{Answer, gives, refuses, gives-same}
 use Rattle.refusal.specs.Numbers.{numberOf}
 use Rattle.refusal.specs.declared.Refusal.{Refusal}
 use Rattle.refusal.specs.declared.Refusal.the-variants as Refusal
@@ -19,7 +19,7 @@ use Rattle.intake.specs.Exact.{enqueueExact, shown, EnqueueStep}
 use Rattle.intake.specs.Theorems.{enqueue-sound}
 use Rattle.model.specs.Model.{Filing}
 use Rattle.model.specs.Reading.{Rooms, rooms}
-use Rattle.model.specs.Promise.{Done, answerOf, roomsOf, gives-same}
+use Rattle.model.specs.Promise.{Done, answerOf, roomsOf}
 use Rattle.model.specs.Says.{saysEnqueued}
 use Rattle.model.specs.Sound.{Sound}
 use Rattle.model.specs.Batch.{Turn, goes, stops, onward, Site, site, exactMany}

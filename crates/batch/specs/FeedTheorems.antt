@@ -9,7 +9,7 @@ use lib.ListN.{length, take, length-append}
 use lib.Seq.{length-take-le}
 use borrow.Author.Tests.{le-ltb}
 use Rattle.octets.specs.Logic.{choose}
-use Rattle.refusal.specs.Answer.{Answer, gives, refuses}
+use Rattle.refusal.specs.Answer.{Answer, gives, refuses, gives-same}
 use Rattle.packet_reader.specs.Frame.{aim, Cut, cutPackets}
 use Rattle.packet_reader.specs.CutLaws.{aim-held}
 use Rattle.packet_reader.specs.Reader.{mostBuffer, fresh}
@@ -92,9 +92,6 @@ pub feed-bytes : (m : Client) (bytes : List ℕ) (x : Feeding × Client) → giv
 unfolding enqueuePackets
 feed-bytes m bytes x e =
     let cut : Cut = cutPackets (m .order) bytes in
-    let v : x .0 .packets ≡ many (λ c p. modelTook (length p) (enqueuePacket c p)) (stopAt (m .order) (cut .left)) m (cut .packets) .values = ap (λ (y : Feeding × Client). y .0 .packets) (gives-one e) in
+    let v : x .0 .packets ≡ many (λ c p. modelTook (length p) (enqueuePacket c p)) (stopAt (m .order) (cut .left)) m (cut .packets) .values = ap (λ (y : Feeding × Client). y .0 .packets) (gives-same e) in
     let z = row-counts (stopAt (m .order) (cut .left)) m (cut .packets) (x .0 .packets) v in
     (z, omega (arith, z, joined-take (length (x .0 .packets)) (cut .packets), length-append (joined (cut .packets)) (cut .left), ap length (packets-whole (m .order) bytes)))
-  where
-    gives-one : {A : Type 0} {a b : A} → gives a ≡ gives b → a ≡ b
-    gives-one q = cc

@@ -6,9 +6,9 @@ use Prim.Native.Nat.{ℕ}
 use native.Mathlib.Omega.{arith}
 use lib.Dec.{ltb}
 use Rattle.octets.specs.Logic.{choose}
-use Rattle.refusal.specs.Answer.{gives}
+use Rattle.refusal.specs.Answer.{gives, gives-same}
 use Rattle.model.specs.Reading.{Rooms, reads}
-use Rattle.model.specs.Promise.{Done, modelOf, gives-same}
+use Rattle.model.specs.Promise.{Done, modelOf}
 use Rattle.model.specs.Sound.{Sound}
 use Rattle.model.specs.Client.{Held, Client}
 use Rattle.model.specs.Model as Model

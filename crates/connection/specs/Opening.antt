@@ -8,7 +8,7 @@ use lib.ListN.{length}
 use borrow.Author.Tests.{leb-true, eqb-true, eq-eqb, ne-eqb, not-false}
 use Rattle.octets.specs.Logic.{both-left, both-right}
 use Rattle.octets.specs.Bytes.{legal}
-use Rattle.refusal.specs.Answer.{Answer, gives, refuses, refuse, pass, gives-past, gives-rest, refuse-under}
+use Rattle.refusal.specs.Answer.{Answer, gives, refuses, refuse, pass, gives-past, gives-rest, refuse-under, gives-same, pass-refuse}
 use Rattle.requests.specs.Room.{capacity, mostRequests}
 use Rattle.requests.specs.Theorems.{outstanding-none, legals-none, sized-is}
 use Rattle.held.specs.Reading as Store
@@ -21,7 +21,7 @@ use Rattle.descriptors.specs.Room.{mostDescriptors}
 use Rattle.model.specs.Client.{Client}
 use Rattle.model.specs.Model.{leastStore, roomy, fresh, new}
 use Rattle.model.specs.Reading.{Rooms, reads, withDescriptors, eventOf, slotsOf}
-use Rattle.model.specs.Promise.{Done, answerOf, roomsOf, modelOf, exact-refused, exact-given, gives-same, model-refuse}
+use Rattle.model.specs.Promise.{Done, answerOf, roomsOf, modelOf, exact-refused, exact-given, model-refuse}
 use Rattle.model.specs.Sound.{Sound}
 use Rattle.model.specs.declared.Connection.{Connection}
 use Rattle.sending.specs.Send.{same}
@@ -80,11 +80,6 @@ module _ (o : ℕ) (r : Rooms) (f : length (r .slots) ≡ mostDescriptors) (g : 
         descriptors = ap (λ hs. Store.fdsIn (Store.only 0 hs)) (empty .reads);
       }
 
-pass-refuse : {A B : Type 0} (b : Bool) (n : ℕ) (a : Answer A) (f : A → Answer B) → refuse b n (pass a f) ≡ pass (refuse b n a) f
-unfolding refuse pass
-pass-refuse true n a f = refl
-pass-refuse false n a f = refl
-
 -- `new` is the model's.
 pub open-model : (o : ℕ) (r : Rooms) → modelOf (openExact o r) ≡ opened o r
 unfolding openExact opened modelOf new pass
@@ -94,8 +89,8 @@ open-model o r =
     (λ f.
     model-refuse _ 9 _
     ∙ refuse-under _ 9
-    (λ g. model-refuse _ 13 _ ∙ ap (λ (x : Client). refuse (not (legal o)) 13 (gives (tt, x))) (fresh-read o r (eqb-true _ _ (not-false _ f)) (not-false _ g)) ∙ pass-refuse (not (legal o)) 13 (gives (fresh o (length (r .requests)) (length (r .store)))) (λ c. gives (tt, c)))
-    ∙ pass-refuse (not (roomy (length (r .requests)) (length (r .store)))) 9 (refuse (not (legal o)) 13 (gives (fresh o (length (r .requests)) (length (r .store))))) (λ c. gives (tt, c)))
+    (λ g. model-refuse _ 13 _ ∙ ap (λ (x : Client). refuse (not (legal o)) 13 (gives (tt, x))) (fresh-read o r (eqb-true _ _ (not-false _ f)) (not-false _ g)) ∙ sym (pass-refuse (not (legal o)) 13 (gives (fresh o (length (r .requests)) (length (r .store)))) (λ c. gives (tt, c))))
+    ∙ sym (pass-refuse (not (roomy (length (r .requests)) (length (r .store)))) 9 (refuse (not (legal o)) 13 (gives (fresh o (length (r .requests)) (length (r .store))))) (λ c. gives (tt, c))))
 
 -- The state that it leaves is sound.
 pub open-sound : (o : ℕ) (r : Rooms) (d : Done Unit) → gives d ≡ openExact o r → Sound (d .state) (d .left)

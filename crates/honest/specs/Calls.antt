@@ -8,12 +8,11 @@ use native.Mathlib.Omega.{arith}
 use lib.ListN.{drop}
 use Rattle.octets.specs.Logic.{choose}
 use Rattle.octets.specs.Field.{field}
-use Rattle.refusal.specs.Answer.{Answer, gives, refuses, refuse, gives-rest}
+use Rattle.refusal.specs.Answer.{Answer, gives, refuses, refuse, gives-rest, gives-same, pass-given}
 use Rattle.sequence.specs.Numbering.{full, inRange}
 use Rattle.model.specs.Client.{Held, Client, setWaiting}
 use Rattle.model.specs.Model.{hasReply, sendRequest, enqueueFds, takeClosed, codeOf, packetNumber, numbered, askedOf, placeOf, claimed, filed, Filing, takeIn, enqueuePacket, withMode, discarding, discardReply, Found, nothing, at, find, takenBy, pollForReplyOrError, checkedBy, pollCheck, repliedBy, pollForReply, eventBy, pollForEvent}
 use Rattle.model.specs.Calls.{send, enqueue-fds, enqueue, discard, poll, check, poll-reply, prepare, poll-event, take-closed, Said, step, outcome}
-use Rattle.model.specs.Promise.{gives-same, pass-given}
 use Rattle.model.specs.declared.ReplyFdKind.{ReplyFdKind}
 use Rattle.model.specs.declared.DiscardMode.{DiscardMode}
 use Rattle.model.specs.declared.DiscardMode.the-variants as DiscardMode
@@ -118,7 +117,7 @@ ruled-send : (f : ℕ → Said) (c : Client) (l : List Event) (kind : ReplyFdKin
     → RuledAt (outcome f c a .next) (noteSent (hasReply kind) a l)
 unfolding sendRequest noteSent
 ruled-send f c l kind (gives x) e r =
-    let g = pass-given _ _ _ e in
+    let g = pass-given _ _ e in
     rw (gives-same (gives-rest _ 5 _ (g .2))) (sends-one (hasReply kind) (g .0) (g .1) r)
 ruled-send f c l kind (refuses n) e r = r
 
@@ -136,7 +135,7 @@ pub record Taking (c : Client) (p : List ℕ) (x : Filing × Client) : Type 0 wh
 pub taking : (c : Client) (p : List ℕ) (x : Filing × Client) → gives x ≡ enqueuePacket c p → Taking c p x
 unfolding enqueuePacket takeIn
 taking c p x e =
-    let g = pass-given _ _ _ (gives-rest _ 2 _ (gives-rest _ 1 _ e)) in
+    let g = pass-given _ _ (gives-rest _ 2 _ (gives-rest _ 1 _ e)) in
     let h = gives-same (gives-rest _ 5 _ (gives-rest _ 4 _ (g .2))) in
     record { n = g .0; number-is = g .1; filing-is = ap (λ k. k .0) h; next-is = ap (λ k. k .1) h }
 

@@ -4,12 +4,12 @@ use mathlib.Core.Path.{_≡_, sym, ap, _∙_, subst}
 use Prim.Native.Nat.{ℕ}
 use mathlib.Core.Bool.{Bool, true}
 use native.Mathlib.Omega.{arith}
-use Rattle.refusal.specs.Answer.{Answer, gives, refuses, gives-rest}
+use Rattle.refusal.specs.Answer.{Answer, gives, refuses, gives-rest, gives-same}
 use Rattle.model.specs.Client.{Client}
 use Rattle.model.specs.Model.{fresh, hasReply, sendRequest, enqueueFds, takeClosed, Filing, enqueuePacket, discardReply, Taken, PollReply, pollForReplyOrError, pollCheck, pollForReply, prepareCheck, pollForEvent}
 use Rattle.model.specs.Calls.{Call, send, enqueue-fds, enqueue, discard, poll, check, poll-reply, prepare, poll-event, take-closed, step}
 use Rattle.model.specs.Reading.{Rooms, reads}
-use Rattle.model.specs.Promise.{Done, answerOf, roomsOf, modelOf, guarded, Promise, gives-same, guarded-on}
+use Rattle.model.specs.Promise.{Done, answerOf, roomsOf, modelOf, guarded, Promise, guarded-on}
 use Rattle.model.specs.Sound.{soundb}
 use Rattle.model.specs.declared.Connection.{Connection}
 use Rattle.model.specs.declared.ReplyFdKind.{ReplyFdKind}

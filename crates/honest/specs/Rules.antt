@@ -9,13 +9,12 @@ use native.Mathlib.Omega.{arith}
 use borrow.Author.Tests.{leb-false, lt-leb, le-ltb}
 use Rattle.octets.specs.Logic.{choose, both}
 use Rattle.octets.specs.Field.{field}
-use Rattle.refusal.specs.Answer.{gives, refuse, gives-past, gives-rest}
+use Rattle.refusal.specs.Answer.{gives, refuse, gives-past, gives-rest, gives-same}
 use Rattle.sequence.specs.Numbering.{lastNumber, wireValues, full, inRange, full-near}
 use Rattle.sequence.specs.Sending as Sending
 use Rattle.sequence.specs.Sending.{sending, mustSync, syncSpan}
 use Rattle.model.specs.Client.{Numbers}
 use Rattle.model.specs.Model.{Filing}
-use Rattle.model.specs.Promise.{gives-same}
 use Rattle.honest.specs.Run.{Event, sent, took, sends, Asked, Heard, Fair, Honest, Right}
 
 -- What accepted sends and accepted packets make of the three numbers, on a connection of byte order o.

@@ -7,12 +7,12 @@ use Prim.Native.Nat.{ℕ}
 use lib.Dec.{ltb}
 use lib.ListN.{length}
 use Rattle.octets.specs.Logic.{choose}
-use Rattle.refusal.specs.Answer.{Answer, gives, refuses, refuse, pass}
+use Rattle.refusal.specs.Answer.{Answer, gives, refuses, refuse, pass, gives-same}
 use Rattle.held.specs.Head.{leastPacket, mostPacket}
 use Rattle.model.specs.Client.{Client}
 use Rattle.model.specs.Model.{packetNumber, askedOf, Filing, takeIn, enqueuePacket}
 use Rattle.model.specs.Calls.{Call, step}
-use Rattle.model.specs.Promise.{Done, Promise, gives-same}
+use Rattle.model.specs.Promise.{Done, Promise}
 use Rattle.model.specs.Reading.{Rooms, reads}
 use Rattle.model.specs.Sound.{soundb}
 use Rattle.model.specs.declared.Connection.{Connection}

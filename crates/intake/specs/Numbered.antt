@@ -9,7 +9,7 @@ use lib.ListN.{drop}
 use borrow.Author.Tests.{leb-true, leb-false, ltb-true, ltb-false}
 use Rattle.octets.specs.Logic.{choose}
 use Rattle.octets.specs.Field.{field}
-use Rattle.refusal.specs.Answer.{gives, gives-past, gives-rest}
+use Rattle.refusal.specs.Answer.{gives, gives-past, gives-rest, gives-same}
 use Rattle.sequence.specs.Numbering.{lastNumber, full, inRange}
 use Rattle.requests.specs.Room.{outstanding, requestAt, legals}
 use Rattle.requests.specs.Theorems.{outstanding-drop, outstanding-none, outstanding-first, legals-drop, legals-none}
@@ -22,7 +22,6 @@ use Rattle.model.specs.Sound.{Sound}
 use Rattle.model.specs.declared.Connection.{Connection}
 use Rattle.intake.specs.Plan.{packetNumberIn, raisedTo, firstAfter, askedIn}
 use Rattle.intake.specs.Exact.{numberedState}
-use Rattle.intake.specs.General.{gives-same}
 
 -- ---- the number
 

@@ -8,7 +8,7 @@ use lib.Dec.{ltb, eqb}
 use lib.ListN.{length, getD}
 use borrow.Author.Tests.{ltb-false, lt-ltb, le-ltb, eq-eqb}
 use Rattle.octets.specs.Logic.{choose, both}
-use Rattle.refusal.specs.Answer.{Answer, gives, refuses, refuse, pass, gives-past, gives-rest}
+use Rattle.refusal.specs.Answer.{Answer, gives, refuses, refuse, pass, gives-past, gives-rest, pass-given}
 use Rattle.refusal.specs.Numbers.{numberOf}
 use Rattle.sequence.specs.Numbering.{saysFull}
 use Rattle.sequence.specs.declared.Full.{Full}
@@ -24,7 +24,6 @@ use Rattle.model.specs.declared.Connection.{Connection}
 use Rattle.model.specs.declared.Place.{Place}
 use Rattle.intake.specs.declared.Asked.{Asked}
 use Rattle.intake.specs.declared.Asked.the-variants as Asked
-use Rattle.intake.specs.General.{pass-given}
 use Rattle.intake.specs.Plan.{saysAsked, Task, task, packetNumberIn, askedIn, overRoom, planBy, planOf}
 
 -- ---- what a packet claims

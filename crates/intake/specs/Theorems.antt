@@ -8,7 +8,7 @@ use lib.Dec.{ltb, eqb}
 use lib.ListN.{length, take, drop, getD}
 use borrow.Author.Tests.{ltb-false, eqb-true}
 use Rattle.octets.specs.Logic.{choose, both}
-use Rattle.refusal.specs.Answer.{Answer, gives, refuse, pass, refuse-under}
+use Rattle.refusal.specs.Answer.{Answer, gives, refuse, pass, refuse-under, gives-same, pass-given, pass-agree, pass-refuse, pass-pass}
 use Rattle.requests.specs.Theorems.{sized-is}
 use Rattle.held.specs.Head.{leastPacket, mostPacket, headerSize}
 use Rattle.held.specs.Theorems as Held
@@ -18,7 +18,7 @@ use Rattle.model.specs.Model.{codeOf, errorCode, replyCode, nobody, somebody, e
 use Rattle.model.specs.Model as Model
 use Rattle.model.specs.Reading.{Rooms, slotsOf, reads}
 use Rattle.model.specs.ReadingLaws.{used-read, length-wait}
-use Rattle.model.specs.Promise.{Done, modelOf}
+use Rattle.model.specs.Promise.{Done, modelOf, model-pass}
 use Rattle.model.specs.Sound.{Sound}
 use Rattle.model.specs.declared.Connection.{Connection}
 use Rattle.model.specs.declared.Place.{Place}
@@ -27,7 +27,6 @@ use Rattle.requests.specs.declared.Mode.{Mode}
 use Rattle.requests.specs.declared.Mode.the-variants as Mode
 use Rattle.intake.specs.Plan.{Ready, Task, task, packetNumberIn, askedIn, overRoom, planBy, planOf}
 use Rattle.intake.specs.Exact.{numberedState, filing, filedAs, carriedOut, enqueueExact}
-use Rattle.intake.specs.General.{pass-given, pass-agree, pass-refuse, pass-pass, model-pass, gives-same}
 use Rattle.intake.specs.Planned.{over-not, Planned, planned}
 use Rattle.intake.specs.Numbered.{number-bounds, numbered-sound, numbered-read, asked-read}
 use Rattle.intake.specs.Filed.{Fine, filed-sound, filed-read}

@@ -8,14 +8,13 @@ use lib.Dec.{ltb}
 use lib.ListN.{length, take, drop, length-append, length-drop, take-append-drop}
 use lib.Seq.{take-at, drop-at, take-all, length-take-le}
 use borrow.Author.Tests.{ltb-true, ltb-false}
-use Rattle.refusal.specs.Answer.{Answer, gives, refuses}
+use Rattle.refusal.specs.Answer.{Answer, gives, refuses, gives-same}
 use Rattle.packet_reader.specs.Frame.{aim, Cut, cons, cutPackets, fixed}
 use Rattle.packet_reader.specs.CutLaws.{aim-least, aim-total, total-append}
 use Rattle.packet_reader.specs.Front.{packets-none, packets-next, packets-whole}
 use Rattle.packet_reader.specs.Stream.{joined}
 use Rattle.model.specs.Client.{Client}
 use Rattle.model.specs.Model.{Filing, enqueuePacket}
-use Rattle.model.specs.Promise.{gives-same}
 use Rattle.model.specs.Batch.{Many, onward, onTurn, many}
 use Rattle.model.specs.Feed.{Stopped, ended, partial, refused, Took, Feeding, bytesOf, modelTook}
 use Rattle.batch.specs.Feed.{stopAt, enqueuePackets}

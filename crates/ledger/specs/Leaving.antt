@@ -3,9 +3,9 @@ use mathlib.Core.List.{List}
 use mathlib.Core.Path.{sym, subst}
 use Prim.Native.Nat.{ℕ, _<_}
 use lib.ListN.{length, getD}
-use Rattle.refusal.specs.Answer.{gives}
+use Rattle.refusal.specs.Answer.{gives, gives-same}
 use Rattle.model.specs.Model.{Filing}
-use Rattle.model.specs.Promise.{Done, gives-same}
+use Rattle.model.specs.Promise.{Done}
 use Rattle.model.specs.Reading.{Rooms}
 use Rattle.model.specs.Says.{Shown, shownTaken, ShownEvent, shownEvent, ShownPoll, shownPoll}
 use Rattle.model.specs.Sound.{Sound}

@@ -8,10 +8,10 @@ use lib.Dec.{ltb}
 use lib.ListN.{length}
 use Rattle.octets.specs.Logic.{choose}
 use Rattle.octets.specs.Put.{put}
-use Rattle.refusal.specs.Answer.{Answer, gives, refuses, gives-rest}
+use Rattle.refusal.specs.Answer.{Answer, gives, refuses, gives-rest, gives-same}
 use Rattle.model.specs.Client.{Held, Client, setEvents}
 use Rattle.model.specs.Model.{Taken, none, packet, sendRequest, eventBy, pollForEvent}
-use Rattle.model.specs.Promise.{Done, answerOf, roomsOf, outputOf, modelOf, guarded, gives-same}
+use Rattle.model.specs.Promise.{Done, answerOf, roomsOf, outputOf, modelOf, guarded}
 use Rattle.model.specs.Reading.{Rooms, reads}
 use Rattle.model.specs.Batch.{Turn, goes, stops, Many, onward, onTurn, many, Stop, ended, refused, meaningless, modelTurn}
 use Rattle.model.specs.BatchLaws.{goes-one}

@@ -7,13 +7,13 @@ use native.Mathlib.Omega.{arith}
 use lib.Dec.{ltb, eqb}
 use lib.ListN.{length}
 use Rattle.octets.specs.Logic.{choose}
-use Rattle.refusal.specs.Answer.{Answer, gives, refuses, refuse}
+use Rattle.refusal.specs.Answer.{Answer, gives, refuses, refuse, gives-same}
 use Rattle.held.specs.Head.{headerSize}
 use Rattle.model.specs.Client.{Held, Client, setReplies, setEvents, costs, used}
 use Rattle.model.specs.Model as Model
 use Rattle.model.specs.Model.{withMode, ofNumber, notOf, isError, asEvent, errorsOf, discarding, discardReply, Found, at, behind, find, noReply, repliedBy, pollForReply}
 use Rattle.model.specs.Calls.{discard, poll-reply, done, absent, step}
-use Rattle.model.specs.Promise.{guarded, gives-same}
+use Rattle.model.specs.Promise.{guarded}
 use Rattle.model.specs.Reading.{Rooms, reads}
 use Rattle.model.specs.ReadingLaws.{used-read}
 use Rattle.model.specs.Says.{ShownPoll}

@@ -5,9 +5,9 @@ use mathlib.Core.Path.{_≡_, refl, sym, ap, _∙_}
 use Prim.Native.Nat.{ℕ}
 use native.Mathlib.Omega.{arith}
 use borrow.Author.Tests.{not-false}
-use Rattle.refusal.specs.Answer.{Answer, gives, refuses, refuse, gives-past, gives-rest}
+use Rattle.refusal.specs.Answer.{Answer, gives, refuses, refuse, gives-past, gives-rest, gives-same}
 use Rattle.model.specs.Client.{Client}
-use Rattle.model.specs.Promise.{Done, answerOf, roomsOf, modelOf, guarded, guarded-on, Promise, gives-same}
+use Rattle.model.specs.Promise.{Done, answerOf, roomsOf, modelOf, guarded, guarded-on, Promise}
 use Rattle.model.specs.Reading.{Rooms, reads}
 use Rattle.model.specs.Sound.{Sound, sound-is, is-sound}
 use Rattle.model.specs.declared.Connection.{Connection}

@@ -9,7 +9,7 @@ use lib.Dec.{leb, ltb, eqb}
 use lib.ListN.{length}
 use borrow.Author.Tests.{leb-true, leb-false, le-leb, lt-leb, ltb-true, ltb-false, lt-ltb, le-ltb}
 use Rattle.octets.specs.Logic.{choose, both, both-left, both-right, both-yes, apart}
-use Rattle.refusal.specs.Answer.{Answer, gives, refuses, refuse, pass}
+use Rattle.refusal.specs.Answer.{Answer, gives, refuses, refuse, pass, pass-refuse}
 use Rattle.octets.specs.Field.{field}
 use Rattle.sequence.specs.Numbering.{lastNumber, full, inRange}
 use Rattle.sequence.specs.Sending.{syncSpan, mustSync, sending}
@@ -41,11 +41,6 @@ pub false-no-sync : (hr : Bool) (w e : ℕ) → (hr ≡ false → w < e + syncSp
 unfolding both mustSync
 false-no-sync true w e h = refl
 false-no-sync false w e h = lt-leb (e + syncSpan) w (h refl)
-
-pass-refuse : {A B : Type 0} (b : Bool) (n : ℕ) (a : Answer A) (f : A → Answer B) → pass (refuse b n a) f ≡ refuse b n (pass a f)
-unfolding refuse pass
-pass-refuse true n a f = refl
-pass-refuse false n a f = refl
 
 -- the state after a request was sent
 abbrev pub sentOn : Client → ReplyFdKind → Client

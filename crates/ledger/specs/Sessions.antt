@@ -6,7 +6,7 @@ use native.Mathlib.Omega.{arith}
 use lib.ListN.{length, take, drop, getD}
 use lib.Seq.{take-append-le, take-length}
 use Rattle.octets.specs.Put.{put}
-use Rattle.refusal.specs.Answer.{Answer, gives, refuses, gives-rest}
+use Rattle.refusal.specs.Answer.{Answer, gives, refuses, gives-rest, gives-same}
 use Rattle.descriptors.specs.Room.{count}
 use Rattle.descriptors.specs.Room as Slots
 use Rattle.descriptors.specs.Counting.{count-append, count-inside}
@@ -14,7 +14,7 @@ use Rattle.model.specs.Client.{Held, Client, descriptorsOf}
 use Rattle.model.specs.Model.{fresh, Taken, Filing, enqueueFds, pollForReplyOrError, pollForEvent}
 use Rattle.model.specs.Model as Model
 use Rattle.model.specs.Calls.{Call, send, enqueue-fds, enqueue, discard, poll, check, poll-reply, prepare, poll-event, take-closed, step}
-use Rattle.model.specs.Promise.{Done, answerOf, roomsOf, outputOf, modelOf, guarded, Promise, gives-same}
+use Rattle.model.specs.Promise.{Done, answerOf, roomsOf, outputOf, modelOf, guarded, Promise}
 use Rattle.model.specs.Reading.{Rooms, slotsOf, reads}
 use Rattle.model.specs.ReadingLaws.{descriptors-read}
 use Rattle.model.specs.Says.{Shown, shownTaken, shownEvent, shownPoll, descriptorsOfTaken}

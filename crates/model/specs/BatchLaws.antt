@@ -3,10 +3,10 @@ use mathlib.Core.Path.{_≡_, refl, sym, ap, _∙_}
 use mathlib.Core.List.{List, [], _∷_, _++_, append-assoc}
 use Prim.Native.Nat.{ℕ}
 use native.Mathlib.Omega.{arith}
-use Rattle.refusal.specs.Answer.{Answer, gives, refuses}
+use Rattle.refusal.specs.Answer.{Answer, gives, refuses, gives-same}
 use Rattle.model.specs.Client.{Client}
 use Rattle.model.specs.Reading.{Rooms, reads}
-use Rattle.model.specs.Promise.{Done, Exact, answerOf, roomsOf, modelOf, gives-same}
+use Rattle.model.specs.Promise.{Done, Exact, answerOf, roomsOf, modelOf}
 use Rattle.model.specs.Sound.{Sound}
 use Rattle.model.specs.Batch.{Turn, goes, stops, onward, onTurn, many, modelTurn, Site, site, readSite, exactTurn, modelMany, exactMany, readTurn, readMany, Each, notes}
 use Rattle.model.specs.declared.Connection.{Connection}

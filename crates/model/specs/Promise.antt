@@ -55,21 +55,6 @@ pub record Promise {A B : Type 0} (f : A → B) (e : Answer (Done A)) (m : Clien
 
 -- ---- laws
 
--- two ways on that agree wherever something is given
-pub pass-agree : {A B : Type 0} (a : Answer A) (f g : A → Answer B) → ((x : A) → gives x ≡ a → f x ≡ g x) → pass a f ≡ pass a g
-unfolding pass
-pass-agree (gives x) f g h = h x refl
-pass-agree (refuses n) f g h = refl
-
--- what came of something that was given
-pub pass-given : {A B : Type 0} (a : Answer A) (f : A → Answer B) (d : B) → gives d ≡ pass a f → (x : A) × (gives x ≡ a) × (gives d ≡ f x)
-unfolding pass
-pass-given (gives x) f d e = (x, refl, e)
-pass-given (refuses n) f d e = absurd (let z : _≡_ {A = ℕ} 0 1 = cc in omega arith)
-
-pub gives-same : {A : Type 0} {x y : A} → gives x ≡ gives y → x ≡ y
-gives-same e = cc
-
 -- the model of a way on
 pub model-pass : {A B : Type 0} (a : Answer A) (f : A → Answer (Done B)) → modelOf (pass a f) ≡ pass a (λ x. modelOf (f x))
 unfolding pass modelOf

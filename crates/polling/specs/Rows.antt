@@ -23,14 +23,6 @@ use Rattle.model.specs.Promise.{Done, modelOf}
 
 -- ---- answers
 
-pub gives-same : {A : Type 0} {x y : A} → gives x ≡ gives y → x ≡ y
-gives-same e = cc
-
-pub model-refuse : {A : Type 0} (b : Bool) (n : ℕ) (e : Answer (Done A)) → modelOf (refuse b n e) ≡ refuse b n (modelOf e)
-unfolding refuse modelOf
-model-refuse true n e = refl
-model-refuse false n e = refl
-
 pub model-choose : {A : Type 0} (b : Bool) (x y : Answer (Done A)) → modelOf (choose b x y) ≡ choose b (modelOf x) (modelOf y)
 unfolding choose
 model-choose true x y = refl

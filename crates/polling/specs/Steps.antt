@@ -9,7 +9,7 @@ use lib.ListN.{length, getD}
 use borrow.Author.Tests.{lt-ltb, le-ltb, eq-eqb, ne-eqb}
 use Rattle.octets.specs.Logic.{choose, either}
 use Rattle.octets.specs.Put.{put, put-none, length-cut}
-use Rattle.refusal.specs.Answer.{Answer, gives, refuses, refuse}
+use Rattle.refusal.specs.Answer.{Answer, gives, refuses, refuse, given-refusal, past-refusal}
 use Rattle.refusal.specs.declared.Refusal.the-variants as Refusal
 use Rattle.held.specs.General.{choose-yes, choose-no}
 use Rattle.held.specs.Head.{headerSize, reply, event}
@@ -56,15 +56,6 @@ output-none f e out d h x = output-as f e out out d h (sym (put-none out 0) ∙ 
 output-refused : {A : Type 0} (f : A → List ℕ) (e : Answer (Done A)) (out : List ℕ) (n : ℕ) → refuses n ≡ e → out ≡ outputOf f e out
 unfolding outputOf
 output-refused f e out n h = ap (λ k. outputOf f k out) h
-
--- a refusal that is given, and one that is passed
-given-refusal : {A : Type 0} (b : Bool) (n : ℕ) (a : Answer A) → b ≡ true → refuses n ≡ refuse b n a
-unfolding refuse
-given-refusal b n a h = ap (λ (t : Bool). refuse t n a) (sym h)
-
-past-refusal : {A : Type 0} (b : Bool) (n : ℕ) (a : Answer A) → b ≡ false → a ≡ refuse b n a
-unfolding refuse
-past-refusal b n a h = ap (λ (t : Bool). refuse t n a) (sym h)
 
 -- ---- the oldest event
 

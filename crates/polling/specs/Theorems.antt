@@ -4,7 +4,7 @@ use mathlib.Core.List.{map}
 use Prim.Native.Nat.{ℕ}
 use lib.Dec.{ltb}
 use Rattle.octets.specs.Logic.{choose, either}
-use Rattle.refusal.specs.Answer.{Answer, gives, refuse, gives-rest}
+use Rattle.refusal.specs.Answer.{Answer, gives, refuse, gives-rest, gives-same}
 use Rattle.held.specs.General.{choose-either}
 use Rattle.held.specs.Reading as Store
 use Rattle.held.specs.Find.{foundReply, foundEvent}
@@ -17,11 +17,11 @@ use Rattle.descriptors.specs.Room as Slots
 use Rattle.model.specs.Model as Model
 use Rattle.model.specs.Model.{find, takenBy, pollForReplyOrError, checkedBy, pollCheck, repliedBy, pollForReply, eventBy, pollForEvent}
 use Rattle.model.specs.Reading.{Rooms, rooms, slotsOf, withDescriptors, eventOf, reads}
-use Rattle.model.specs.Promise.{Done, modelOf}
+use Rattle.model.specs.Promise.{Done, modelOf, model-refuse}
 use Rattle.model.specs.Sound.{Sound}
 use Rattle.model.specs.declared.Connection.{Connection}
 use Rattle.polling.specs.Exact.{Ready, leftState, replyAt, closing, eventFrom, eventExact, takenFrom, takenExact, checkedFrom, checkedExact, errorAt, repliedFrom, repliedExact}
-use Rattle.polling.specs.Rows.{gives-same, model-refuse, model-choose, find-none}
+use Rattle.polling.specs.Rows.{model-choose, find-none}
 use Rattle.polling.specs.Left.{parts, event-is, event-left, event-sound, found-read, taken-left, closed-left, turned-left, taken-sound, closed-sound, turned-sound, same-error, bytes-is, places-is}
 
 module _ (c : Connection) (r : Rooms) (S : Sound c r) where

@@ -60,6 +60,43 @@ unfolding after
 after-rest (gives y) b e = e
 after-rest (refuses n) b e = absurd (let z : _≡_ {A = ℕ} 0 1 = cc in omega arith)
 
+-- What comes of a refusal that is given, and of one that is passed.
+pub given-refusal : {A : Type 0} (b : Bool) (n : ℕ) (a : Answer A) → b ≡ true → refuses n ≡ refuse b n a
+unfolding refuse
+given-refusal b n a h = ap (λ (t : Bool). refuse t n a) (sym h)
+
+pub past-refusal : {A : Type 0} (b : Bool) (n : ℕ) (a : Answer A) → b ≡ false → a ≡ refuse b n a
+unfolding refuse
+past-refusal b n a h = ap (λ (t : Bool). refuse t n a) (sym h)
+
+-- What is given decides the answer.
+pub gives-same : {A : Type 0} {x y : A} → gives x ≡ gives y → x ≡ y
+gives-same e = cc
+
+-- What came of something that was given.
+pub pass-given : {A B : Type 0} {y : B} (a : Answer A) (f : A → Answer B) → gives y ≡ pass a f → (x : A) × (gives x ≡ a) × (gives y ≡ f x)
+unfolding pass
+pass-given (gives x) f e = (x, refl, e)
+pass-given (refuses n) f e = absurd (let z : _≡_ {A = ℕ} 0 1 = cc in omega arith)
+
+-- Two ways on that agree wherever something is given.
+pub pass-agree : {A B : Type 0} (a : Answer A) (f g : A → Answer B) → ((x : A) → gives x ≡ a → f x ≡ g x) → pass a f ≡ pass a g
+unfolding pass
+pass-agree (gives x) f g h = h x refl
+pass-agree (refuses n) f g h = refl
+
+-- A refusal is passed on,
+pub pass-refuse : {A B : Type 0} (b : Bool) (n : ℕ) (a : Answer A) (f : A → Answer B) → pass (refuse b n a) f ≡ refuse b n (pass a f)
+unfolding pass refuse
+pass-refuse true n a f = refl
+pass-refuse false n a f = refl
+
+-- and what was passed on is passed on.
+pub pass-pass : {A B C : Type 0} (a : Answer A) (f : A → Answer B) (g : B → Answer C) → pass (pass a f) g ≡ pass a (λ x. pass (f x) g)
+unfolding pass
+pass-pass (gives x) f g = refl
+pass-pass (refuses n) f g = refl
+
 -- What an enum says decides it, where it can be read back from what it says: so two answers that a promise allows are equal.
 pub decides : {E A : Type 0} (says : E → Answer A) (back : Answer A → E) → ((e : E) → back (says e) ≡ e) → (a b : E) → says a ≡ says b → a ≡ b
 decides says back h a b e = sym (h a) ∙ ap back e ∙ h b

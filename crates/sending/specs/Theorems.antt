@@ -8,7 +8,7 @@ use lib.Dec.{leb, ltb}
 use lib.ListN.{length}
 use borrow.Author.Tests.{leb-false, ltb-false}
 use Rattle.octets.specs.Logic.{choose}
-use Rattle.refusal.specs.Answer.{gives, refuse, gives-past, gives-rest, refuse-under}
+use Rattle.refusal.specs.Answer.{gives, refuse, gives-past, gives-rest, refuse-under, gives-same, pass-given, pass-agree}
 use Rattle.sequence.specs.Numbering.{lastNumber}
 use Rattle.sequence.specs.Sending.{Numbers, sending}
 use Rattle.requests.specs.Room.{putRequest, outstanding, capacity, legals}
@@ -21,7 +21,7 @@ use Rattle.model.specs.Model.{hasReply, joining, sendRequest, enqueueFds, takeC
 use Rattle.held.specs.Reading as Store
 use Rattle.model.specs.Reading.{Rooms, rooms, count, slotsOf, withDescriptors, reads}
 use Rattle.model.specs.ReadingLaws.{length-out, inside-read, length-close}
-use Rattle.model.specs.Promise.{Done, modelOf, pass-agree, pass-given, gives-same, model-pass, model-refuse}
+use Rattle.model.specs.Promise.{Done, modelOf, model-pass, model-refuse}
 use Rattle.model.specs.Sound.{Sound}
 use Rattle.model.specs.declared.Connection.{Connection}
 use Rattle.model.specs.declared.ReplyFdKind.{ReplyFdKind}
@@ -85,7 +85,7 @@ module _ (c : Connection) (r : Rooms) (S : Sound c r) (kind : ReplyFdKind) where
   pub send-sound : (d : Done ℕ) → gives d ≡ sendExact c r kind → Sound (d .state) (d .left)
   unfolding sendExact
   send-sound d e =
-      let p = pass-given (sending (c .written) (c .expected) (hasReply kind)) _ d e in
+      let p = pass-given (sending (c .written) (c .expected) (hasReply kind)) _ e in
       let n : Numbers = p .0 in
       let g = sending-gives (c .written) (c .expected) (hasReply kind) n (p .1) in
       let l : count c < c .capacity = leb-false _ _ (gives-past _ _ _ (p .2)) in

@@ -6,10 +6,9 @@ use native.Mathlib.Omega.{arith}
 use lib.ListN.{replicate}
 use Rattle.octets.specs.Logic.{both, either}
 use Rattle.octets.specs.Bytes.{legal}
-use Rattle.refusal.specs.Answer.{Answer, gives, refuses}
+use Rattle.refusal.specs.Answer.{Answer, gives, refuses, gives-same}
 use Rattle.model.specs.Client.{Client}
 use Rattle.model.specs.Model.{roomy, fresh, joining, Filing, sendRequest, enqueuePacket}
-use Rattle.model.specs.Promise.{gives-same}
 use Rattle.model.specs.Reading.{Rooms, rooms, reads}
 use Rattle.model.specs.Sound.{Sound, is-sound}
 use Rattle.model.specs.declared.Connection.{Connection}

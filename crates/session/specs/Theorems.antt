@@ -5,11 +5,11 @@ use mathlib.Core.Logic.{_⊎_}
 use mathlib.Core.Path.{_≡_, sym, subst}
 use Prim.Native.Nat.{ℕ}
 use lib.ListN.{length}
-use Rattle.refusal.specs.Answer.{Answer, gives, refuses}
+use Rattle.refusal.specs.Answer.{Answer, gives, refuses, gives-same}
 use Rattle.model.specs.Client.{Held, Client}
 use Rattle.model.specs.Model.{hasReply, Filing, packet, pollForEvent}
 use Rattle.model.specs.Calls as Calls
-use Rattle.model.specs.Promise.{Done, Promise, gives-same}
+use Rattle.model.specs.Promise.{Done, Promise}
 use Rattle.model.specs.Reading.{Rooms, reads}
 use Rattle.model.specs.Says.{shownTaken, shownEvent, shownPoll}
 use Rattle.model.specs.Sound.{Sound, is-sound}
