@@ -32,7 +32,8 @@ use Rattle.model.specs.PollForEvents.{roomFor}
 use Rattle.model.specs.declared.Connection.{Connection}
 use Rattle.model.specs.declared.Event.{Event}
 use Rattle.model.specs.declared.Event.the-variants as Event
-use Rattle.polling.specs.Exact.{eventAt, without, stays, moved, leftState, eventFrom, eventExact, EventStep}
+use Rattle.model.specs.Moved.{movedState}
+use Rattle.polling.specs.Exact.{eventAt, without, stays, moved, eventFrom, eventExact, EventStep}
 use Rattle.polling.specs.Left.{event-is}
 use Rattle.polling.specs.Theorems.{ready}
 use Rattle.batch.specs.Events.{placed, marked, Markable, roomLeft, TurnStep, Stored}
@@ -98,7 +99,7 @@ module _ (c : Connection) (s : List ℕ) (R : Stored c s) (bytes : ℕ) where
           let t : ltb bytes (p .len) ≡ false = gives-past _ _ _ w in
           let d = gives-same (gives-rest _ _ _ w) in
           let v = event-shown _ _ _ _ (z .2 ∙ ap (λ (y : Done Taken). shownEvent (y .value)) d) in
-          let ns : next ≡ leftState c (without c (rooms [] s []) p .window) (c .counts) = z .3 ∙ ap (λ (y : Done Taken). y .state) d in
+          let ns : next ≡ movedState c (without c (rooms [] s []) p .window) (c .counts) = z .3 ∙ ap (λ (y : Done Taken). y .state) d in
           let ss : s' ≡ without c (rooms [] s []) p .store = ap (λ (y : Rooms). y .store) (z .4 ∙ ap (λ (y : Done Taken). y .left) d) in
           let l : len ≡ p .len = v .1 ∙ place-long c s R p F in
           let m : p .len ≤ bytes = ltb-false bytes (p .len) t in

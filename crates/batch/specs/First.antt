@@ -21,7 +21,8 @@ use Rattle.model.specs.Says.{ShownEvent, shownEvent, bytesOfTaken}
 use Rattle.model.specs.Says as Says
 use Rattle.model.specs.declared.Connection.{Connection}
 use Rattle.model.specs.declared.Event.the-variants as Event
-use Rattle.polling.specs.Exact.{leftState, eventAt, moved, eventExact}
+use Rattle.model.specs.Moved.{movedState}
+use Rattle.polling.specs.Exact.{eventAt, moved, eventExact}
 use Rattle.polling.specs.Theorems.{ready}
 use Rattle.batch.specs.Events.{placed, roomLeft, TurnStep, Stored}
 use Rattle.batch.specs.EventsLaws.{from-place, room-many}
@@ -39,7 +40,7 @@ IsFirst c s room marks false = Unit {0}
 
 -- the state without it
 abbrev pub passedState : Connection → ℕ → Connection
-passedState c len = leftState c (window (c .window .start + (headerSize + len)) (c .window .end)) (c .counts)
+passedState c len = movedState c (window (c .window .start + (headerSize + len)) (c .window .end)) (c .counts)
 
 -- To hand it out is the turn.
 pub record FirstTurn (c : Connection) (s out marks : List ℕ) (used at len : ℕ) (out' marks' : List ℕ) : Type 0 where

@@ -25,7 +25,8 @@ use Rattle.model.specs.declared.Place.the-variants as Place
 use Rattle.intake.specs.declared.event.Plain.{Plain}
 use Rattle.intake.specs.declared.event.Plain.the-variants as Plain
 use Rattle.intake.specs.Plan.{Ready, task, packetNumberIn, askedIn, overRoom, planBy, planOf}
-use Rattle.intake.specs.Exact.{numberedState, movedState, filing, carriedOut, enqueueExact}
+use Rattle.model.specs.Moved.{movedState}
+use Rattle.intake.specs.Exact.{numberedState, filing, carriedOut, enqueueExact}
 use Rattle.intake.specs.Steps.{file-event}
 
 -- what is asked of the state: the window lies in its store, and the last written is a full number

@@ -9,14 +9,13 @@ use Rattle.held.specs.Moves.{Left, left, Room, appended}
 use Rattle.descriptors.specs.Room as Slots
 use Rattle.model.specs.Model.{codeOf, isHeld, Filing}
 use Rattle.model.specs.Reading.{Rooms, rooms, slotsOf}
+use Rattle.model.specs.Moved.{movedState}
 use Rattle.model.specs.Promise.{Done, Exact}
 use Rattle.model.specs.Says.{saysEnqueued}
 use Rattle.model.specs.declared.Connection.{Connection}
 use Rattle.model.specs.declared.Enqueued.{Enqueued}
 use Rattle.model.specs.declared.Place.{Place}
 use Rattle.model.specs.declared.Place.the-variants as Place
-use Rattle.held.specs.declared.Window.{Window}
-use Rattle.descriptors.specs.declared.Counts.{Counts}
 use Rattle.intake.specs.Plan.{Task, raisedTo, firstAfter, planOf}
 
 -- ---- the state
@@ -33,20 +32,6 @@ numberedState c code n = record {
   first = firstAfter (c .first) (c .written) n;
   window = c .window;
   counts = c .counts;
-}
-
--- with this window and these counts
-abbrev pub movedState : Connection → Window → Counts → Connection
-movedState c w n = record {
-  order = c .order;
-  capacity = c .capacity;
-  room = c .room;
-  written = c .written;
-  expected = c .expected;
-  read = c .read;
-  first = c .first;
-  window = w;
-  counts = n;
 }
 
 -- ---- filing

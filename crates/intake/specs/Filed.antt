@@ -9,21 +9,21 @@ use lib.Seq.{drop-at, take-take}
 use Rattle.octets.specs.Logic.{choose}
 use Rattle.held.specs.Head as Record
 use Rattle.held.specs.Reading as Store
-use Rattle.held.specs.Moves.{Left, appended}
+use Rattle.held.specs.Moves.{appended}
 use Rattle.held.specs.Rows.{fdsIn-append}
 use Rattle.held.specs.Theorems as Held
 use Rattle.descriptors.specs.Room as Slots
 use Rattle.descriptors.specs.Theorems as Fds
-use Rattle.model.specs.Client.{setReplies, setEvents, setWaiting, setClosing}
-use Rattle.model.specs.Client as Client
+use Rattle.model.specs.Client.{setWaiting}
 use Rattle.model.specs.Model.{isHeld, filed}
-use Rattle.model.specs.Reading.{Rooms, rooms, withDescriptors, eventOf, slotsOf, reads}
+use Rattle.model.specs.Reading.{Rooms, withDescriptors, eventOf, slotsOf, reads}
 use Rattle.model.specs.ReadingLaws.{with-append, with-more}
-use Rattle.model.specs.Sound.{Sound}
+use Rattle.model.specs.Sound.{Sound, slots-there}
 use Rattle.model.specs.declared.Connection.{Connection}
 use Rattle.model.specs.declared.Place.{Place}
 use Rattle.model.specs.declared.Place.the-variants as Place
-use Rattle.intake.specs.Exact.{movedState, filedAs}
+use Rattle.model.specs.Moved.{moved-read, moved-sound}
+use Rattle.intake.specs.Exact.{filedAs}
 
 -- what is known of a packet that is filed with k descriptors: its length is allowed, they wait, their count is a byte, and it has room where it is held
 pub record Fine (c : Connection) (place : Place) (k n : ℕ) : Type 0 where
@@ -46,54 +46,8 @@ unfolding Store.fdsIn
 fds-one a h = fdsIn-append a (h ∷ []) ∙ omega arith
 
 module _ (c : Connection) (r : Rooms) (S : Sound c r) where
-  slots-sound : Slots.Sound (slotsOf c r)
-  slots-sound = Fds.sound-is (slotsOf c r) .0 (S .slots)
-
   store-sound : Store.Sound (c .read) (c .window) (r .store)
   store-sound = Held.sound-exactly (c .read) (c .window) (r .store) .0 (S .held)
-
-  -- a sound state with other held packets and other descriptors
-  pub moved-sound : (l : Left) (d : Slots.Room) → length (l .store) ≡ length (r .store) → Store.Sound (c .read) (l .window) (l .store) → Slots.Sound d
-      → Store.fdsIn (Store.replies (l .window) (l .store)) ≡ d .counts .held → Sound (movedState c (l .window) (d .counts)) (rooms (r .requests) (l .store) (d .slots))
-  moved-sound l d long H D e =
-      let N = S .numbers in
-      record {
-        order = S .order;
-        requests = S .requests;
-        store = long ∙ S .store;
-        numbers = record {
-          store-least = N .store-least;
-          store-most = N .store-most;
-          written-most = N .written-most;
-          expected-most = N .expected-most;
-          read-most = N .read-most;
-          first-least = N .first-least;
-          first-most = N .first-most;
-          count-most = N .count-most;
-        };
-        legal-bytes = S .legal-bytes;
-        slots = Fds.sound-is d .1 D;
-        held = Held.sound-exactly (c .read) (l .window) (l .store) .1 H;
-        descriptors = e;
-      }
-
-  -- and as it is read
-  moved-read : (l : Left) (d : Slots.Room) (replies events : List Client.Held) (wait toClose : List ℕ)
-      → withDescriptors (Store.replies (l .window) (l .store)) (Slots.holding d) ≡ replies → map eventOf (Store.events (l .window) (l .store)) ≡ events
-      → Slots.waiting d ≡ wait → Slots.closing d ≡ toClose
-      → reads (movedState c (l .window) (d .counts)) (rooms (r .requests) (l .store) (d .slots)) ≡ setClosing (setWaiting (setEvents (setReplies (reads c r) replies) events) wait) toClose
-  unfolding reads
-  moved-read l d replies events wait toClose R E W C = λ i. record {
-    order = c .order;
-    most-requests = c .capacity;
-    most-bytes = c .room;
-    numbers = record { written = c .written; expected = c .expected; read = c .read };
-    outstanding = reads c r .outstanding;
-    replies = R i;
-    events = E i;
-    waiting = W i;
-    closing = C i;
-  }
 
   -- ---- held
 
@@ -117,19 +71,19 @@ module _ (c : Connection) (r : Rooms) (S : Sound c r) where
       reply-sound : Sound (filedAs Place.Replies c r k p .state) (filedAs Place.Replies c r k p .left)
       unfolding Slots.hold
       reply-sound =
-          moved-sound (appended (c .window) (r .store) rec) (Slots.hold k (slotsOf c r)) (reply-done .long) (reply-done .sound) (Fds.hold-sound (slotsOf c r) slots-sound k some)
+          moved-sound c r S (appended (c .window) (r .store) rec) (Slots.hold k (slotsOf c r)) (reply-done .long) (reply-done .sound) (Fds.hold-sound (slotsOf c r) (slots-there c r S) k some)
           (ap Store.fdsIn (reply-done .own) ∙ fds-one (Store.replies (c .window) (r .store)) rec ∙ ap (λ (x : ℕ). x + k) (S .descriptors))
 
       reply-read : reads (filedAs Place.Replies c r k p .state) (filedAs Place.Replies c r k p .left)
           ≡ filed Place.Replies (record { number = c .read; packet = p; descriptors = take k (reads c r .waiting) }) (setWaiting (reads c r) (drop k (reads c r .waiting)))
       unfolding reads
       reply-read =
-          let L = Fds.hold-lists (slotsOf c r) slots-sound k some in
+          let L = Fds.hold-lists (slotsOf c r) (slots-there c r S) k some in
           let fds : List ℕ = Slots.holding (slotsOf c r) in
           let wait : List ℕ = Slots.waiting (slotsOf c r) in
           let old : List Record.Held = Store.replies (c .window) (r .store) in
-          let f : Store.fdsIn old ≡ length fds = S .descriptors ∙ sym (Fds.length-holding (slotsOf c r) slots-sound) in
-          moved-read (appended (c .window) (r .store) rec) (Slots.hold k (slotsOf c r)) _ _ _ _
+          let f : Store.fdsIn old ≡ length fds = S .descriptors ∙ sym (Fds.length-holding (slotsOf c r) (slots-there c r S)) in
+          moved-read c r (appended (c .window) (r .store) rec) (Slots.hold k (slotsOf c r)) _ _ _ _
           ((λ i. withDescriptors (reply-done .own i) (L .holding-is i))
           ∙ with-one old rec fds (take k wait) f
           ∙ ap (λ (x : List ℕ). withDescriptors old fds ++ (record { number = c .read; packet = p; descriptors = x } ∷ [])) (take-take k k wait (omega arith)))
@@ -144,14 +98,14 @@ module _ (c : Connection) (r : Rooms) (S : Sound c r) where
 
     event-sound : (k : ℕ) → Sound (filedAs Place.Events c r k p .state) (filedAs Place.Events c r k p .left)
     event-sound k =
-        moved-sound (appended (c .window) (r .store) ev) (slotsOf c r) (event-done .long) (event-done .sound) slots-sound
+        moved-sound c r S (appended (c .window) (r .store) ev) (slotsOf c r) (event-done .long) (event-done .sound) (slots-there c r S)
         (ap Store.fdsIn (event-done .other Record.reply (λ q. omega arith)) ∙ S .descriptors)
 
     event-read : (k : ℕ) → reads (filedAs Place.Events c r k p .state) (filedAs Place.Events c r k p .left)
         ≡ filed Place.Events (record { number = c .read; packet = p; descriptors = take 0 (reads c r .waiting) }) (setWaiting (reads c r) (drop 0 (reads c r .waiting)))
     unfolding reads
     event-read k =
-        moved-read (appended (c .window) (r .store) ev) (slotsOf c r) _ _ _ _
+        moved-read c r (appended (c .window) (r .store) ev) (slotsOf c r) _ _ _ _
         (ap (λ (l : List Record.Held). withDescriptors l (Slots.holding (slotsOf c r))) (event-done .other Record.reply (λ q. omega arith)))
         (ap (map eventOf) (event-done .own) ∙ map-append eventOf (Store.events (c .window) (r .store)) (ev ∷ []))
         refl refl
@@ -162,14 +116,14 @@ module _ (c : Connection) (r : Rooms) (S : Sound c r) where
     dropped-sound : Sound (filedAs Place.Dropped c r k p .state) (filedAs Place.Dropped c r k p .left)
     unfolding Slots.closeWaiting
     dropped-sound =
-        moved-sound (record { window = c .window; store = r .store }) (Slots.closeWaiting k (slotsOf c r)) refl store-sound (Fds.closeWaiting-sound (slotsOf c r) slots-sound k some) (S .descriptors)
+        moved-sound c r S (record { window = c .window; store = r .store }) (Slots.closeWaiting k (slotsOf c r)) refl store-sound (Fds.closeWaiting-sound (slotsOf c r) (slots-there c r S) k some) (S .descriptors)
 
     dropped-read : reads (filedAs Place.Dropped c r k p .state) (filedAs Place.Dropped c r k p .left)
         ≡ filed Place.Dropped (record { number = c .read; packet = p; descriptors = take k (reads c r .waiting) }) (setWaiting (reads c r) (drop k (reads c r .waiting)))
     unfolding reads
     dropped-read =
-        let L = Fds.closeWaiting-lists (slotsOf c r) slots-sound k some in
-        moved-read (record { window = c .window; store = r .store }) (Slots.closeWaiting k (slotsOf c r)) _ _ _ _
+        let L = Fds.closeWaiting-lists (slotsOf c r) (slots-there c r S) k some in
+        moved-read c r (record { window = c .window; store = r .store }) (Slots.closeWaiting k (slotsOf c r)) _ _ _ _
         (ap (withDescriptors (Store.replies (c .window) (r .store))) (L .holding-is)) refl (L .waiting-is) (L .closing-is)
 
   -- ---- any place

@@ -1,6 +1,5 @@
 pub mod Plan
 pub mod Exact
-pub mod General
 pub mod Planned
 pub mod Steps
 pub mod Event

@@ -23,7 +23,8 @@ use Rattle.model.specs.declared.Place.the-variants as Place
 use Rattle.intake.specs.declared.Plan.{Plan}
 use Rattle.intake.specs.declared.Plan.the-variants as Plan
 use Rattle.intake.specs.Plan.{saysPlan, Ready, planOf}
-use Rattle.intake.specs.Exact.{numberedState, movedState, filing, filedAs, MayFile, FileDone, carriedOut, enqueueExact, shown, EnqueueStep}
+use Rattle.model.specs.Moved.{movedState}
+use Rattle.intake.specs.Exact.{numberedState, filing, filedAs, MayFile, FileDone, carriedOut, enqueueExact, shown, EnqueueStep}
 use Rattle.intake.specs.Planned.{Planned, planned}
 
 -- ---- filing

@@ -3,6 +3,7 @@
 // It asks nothing of the requests and claims no descriptors, so all that happens to the rooms is one
 // record written. A row of such packets keeps what changes in a few numbers.
 use model::Connection;
+use model::moved;
 use sequence::Full;
 use sequence::SequenceNumber;
 ghost use Prim.Native.Nat.{_≤_};
@@ -10,7 +11,6 @@ ghost use lib.ListN.{length};
 ghost use Rattle.held.specs.Head.{leastPacket, mostPacket};
 ghost use Rattle.intake.specs.Event.{Writable, IsPlain, PlainEvent, PlainStep};
 use super::REPLY;
-use super::moved;
 use super::number_of;
 use super::numbered;
 

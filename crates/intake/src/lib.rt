@@ -8,14 +8,13 @@
 // terms, and that the state it leaves is sound.
 mod event;
 
-use descriptors::Counts;
 pub use event::Plain;
 pub use event::plain_of;
 pub use event::take_plain;
-use held::Window;
 use model::Connection;
 use model::Enqueued;
 use model::Place;
+use model::moved;
 use refusal::Refusal;
 use requests::Mode;
 use requests::Request;
@@ -30,7 +29,7 @@ ghost use Rattle.sequence.specs.Numbering.{saysFull, lastNumber};
 ghost use Rattle.held.specs.Head.{leastPacket, mostPacket};
 ghost use Rattle.model.specs.Model.{errorUnder, errorPlace, replyUnder, replyPlace, placeOf, claimed, isHeld};
 ghost use Rattle.intake.specs.Plan.{saysAsked, saysPlan, Ready, Fitting, packetNumberIn, raisedTo, firstAfter, askedIn, overRoom, planBy, planOf};
-ghost use Rattle.intake.specs.Exact.{numberedState, movedState, MayFile, FileDone, EnqueueStep};
+ghost use Rattle.intake.specs.Exact.{numberedState, MayFile, FileDone, EnqueueStep};
 
 // The fewest and the most bytes of a packet.
 const LEAST_PACKET: usize = 32;
@@ -248,15 +247,6 @@ pub(crate) fn numbered(c: Connection, code: u8, number: u64) -> Connection
     next.expected = raised(code, number, c.expected);
     next.first = first_after(c.first, c.written, number);
     next.read = number;
-    next
-}
-
-pub(crate) fn moved(c: Connection, window: Window, counts: Counts) -> Connection
-    ensures { λ r. ⌜ r ≡ movedState c window counts ⌝ }
-{
-    let mut next = c;
-    next.window = window;
-    next.counts = counts;
     next
 }
 

@@ -4,6 +4,7 @@ pub mod Calls
 pub mod Examples
 pub mod Reading
 pub mod Sound
+pub mod Moved
 pub mod Promise
 pub mod Says
 pub mod ReadingLaws

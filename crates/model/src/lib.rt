@@ -6,6 +6,8 @@
 
 mod soundness;
 
+ghost use mathlib.Core.Path.{_≡_};
+ghost use Rattle.model.specs.Moved.{movedState};
 use descriptors::Counts;
 use held::Window;
 use refusal::Refusal;
@@ -49,6 +51,16 @@ pub struct Connection {
     pub first: u64,
     pub window: Window,
     pub counts: Counts,
+}
+
+// The state with other held packets and other descriptors.
+pub fn moved(c: Connection, window: Window, counts: Counts) -> Connection
+    ensures { λ r. ⌜ r ≡ movedState c window counts ⌝ }
+{
+    let mut next = c;
+    next.window = window;
+    next.counts = counts;
+    next
 }
 
 // ---- what the calls answer: each hands back the state to go on with, and a refusal none

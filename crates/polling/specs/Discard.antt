@@ -23,7 +23,7 @@ use Rattle.model.specs.Promise.{Done}
 use Rattle.model.specs.declared.Connection.{Connection}
 use Rattle.model.specs.declared.DiscardMode.{DiscardMode}
 use Rattle.model.specs.declared.DiscardMode.the-variants as DiscardMode
-use Rattle.polling.specs.Exact.{leftState}
+use Rattle.model.specs.Moved.{movedState}
 
 -- "sets the mode of an outstanding request"
 unfoldable pub modeSet : Connection → List ℕ → ℕ → DiscardMode → List ℕ
@@ -85,7 +85,7 @@ unfoldable pub discardExact : Connection → Rooms → ℕ → DiscardMode → D
 discardExact c r n m =
     let l = discardLeft c r n m in
     let d = discardSlots m n (repliesOf c r) (slotsOf c r) in
-    record { value = tt; state = leftState c (l .window) (d .counts); left = rooms (modeSet c (r .requests) n m) (l .store) (d .slots) }
+    record { value = tt; state = movedState c (l .window) (d .counts); left = rooms (modeSet c (r .requests) n m) (l .store) (d .slots) }
 
 -- ---- the steps
 

@@ -24,7 +24,8 @@ use Rattle.descriptors.specs.declared.Counts.{Counts}
 use Rattle.model.specs.Reading.{rooms}
 use Rattle.model.specs.declared.Connection.{Connection}
 use Rattle.model.specs.declared.DiscardMode.{DiscardMode}
-use Rattle.polling.specs.Exact.{Ready, leftState}
+use Rattle.model.specs.Moved.{movedState}
+use Rattle.polling.specs.Exact.{Ready}
 use Rattle.polling.specs.Runs.{no-lower, lower-is, lower-not, rising-split}
 use Rattle.polling.specs.Discard.{modeSet, turnOf, turnAt, fdsBelow, fdsBefore, fdsFrom, closedRound, discardSlots, cleared, discardLeft, discardExact, Counted, Sweepable, Sweeps, DiscardStep}
 use Rattle.polling.specs.DiscardRows.{own-none, own-found}
@@ -81,7 +82,7 @@ module _ (c : Connection) (n : ℕ) (m : DiscardMode) (q s f : List ℕ) (R : Re
       sym (ap (Slots.closeHeld (fdsBelow n rs) 0) (close-none (fdsBelow n rs + 0) d (R .slots) (omega (arith, all-fds))) ∙ close-none (fdsBelow n rs) d (R .slots) (omega (arith, all-fds)))
       ∙ (λ k. Slots.closeHeld (fdsBelow n rs) (sym (t (turnAt m n rs)) k) (Slots.closeHeld (fdsBelow n rs + sym (t (turnAt m n rs)) k) (sym (v (turnAt m n rs)) k) d)) in
       let L : left (c .window) s ≡ discardLeft c (rooms q s f) n m = ap (λ a. cleared (length a) m n (left (c .window) s)) (sym z) in
-      record { state = λ k. leftState c (L k .window) (D k .counts); leaves = λ k. rooms (Q k) (L k .store) (D k .slots) }
+      record { state = λ k. movedState c (L k .window) (D k .counts); leaves = λ k. rooms (Q k) (L k .store) (D k .slots) }
     where
       part-none : (k : ℕ) (a : List Record.Held) → a ≡ [] → fdsIn (take k a) ≡ 0
       part-none k a z = ap (λ x. fdsIn (take k x)) z ∙ nil k
@@ -163,11 +164,11 @@ module _ (c : Connection) (n : ℕ) (m : DiscardMode) (q s f : List ℕ) (R : Re
             omega (arith, ap (λ (x : Slots.Room). x .counts .held) D₁, held₁, run-fits),
           )
 
-          pub discard-some : (f₂ : List ℕ) (n₂ : Counts) (a : Connection) → Slots.room f₂ n₂ ≡ Slots.closeHeld (p .before) u (Slots.room f₁ n₁) → a ≡ leftState c w₂ n₂ → DiscardStep c n m q s f a q' s₂ f₂
+          pub discard-some : (f₂ : List ℕ) (n₂ : Counts) (a : Connection) → Slots.room f₂ n₂ ≡ Slots.closeHeld (p .before) u (Slots.room f₁ n₁) → a ≡ movedState c w₂ n₂ → DiscardStep c n m q s f a q' s₂ f₂
           unfolding discardExact closedRound
           discard-some f₂ n₂ a D₂ g =
               let x : u ≡ fdsBefore m n rs = A .counts ∙ ap (λ (j : ℕ). fdsIn (take j (own n rs))) turn-is in
               let y : v ≡ fdsFrom m n rs = rest-is ∙ ap (λ (j : ℕ). fdsIn (drop j (own n rs))) turn-is in
               let D : Slots.room f₂ n₂ ≡ discardSlots m n rs d =
               D₂ ∙ ap (Slots.closeHeld (p .before) u) D₁ ∙ (λ j. Slots.closeHeld (below-is j) (x j) (Slots.closeHeld (below-is j + x j) (y j) d)) in
-              record { state = g ∙ (λ j. leftState c (left-is j .window) (D j .counts)); leaves = λ j. rooms (Q j) (left-is j .store) (D j .slots) }
+              record { state = g ∙ (λ j. movedState c (left-is j .window) (D j .counts)); leaves = λ j. rooms (Q j) (left-is j .store) (D j .slots) }

@@ -18,7 +18,6 @@ use Rattle.held.specs.Reading as Store
 use Rattle.held.specs.Reading.{fdsIn}
 use Rattle.held.specs.Rows.{fdsIn-append}
 use Rattle.held.specs.Moves.{left}
-use Rattle.held.specs.Theorems as Held
 use Rattle.held.specs.Tally.{own, lower, higher}
 use Rattle.descriptors.specs.Room as Slots
 use Rattle.descriptors.specs.Theorems as Fds
@@ -29,6 +28,7 @@ use Rattle.model.specs.Model as Model
 use Rattle.model.specs.Reading.{Rooms, count, slotsOf, withDescriptors, eventOf, reads}
 use Rattle.model.specs.ReadingLaws.{first-read}
 use Rattle.model.specs.Promise.{modelOf}
+use Rattle.model.specs.Moved.{moved-sound-with}
 use Rattle.model.specs.Sound.{Sound}
 use Rattle.model.specs.declared.Connection.{Connection}
 use Rattle.model.specs.declared.ReplyFdKind.the-variants as ReplyFdKind
@@ -211,23 +211,5 @@ module _ (c : Connection) (r : Rooms) (S : Sound c r) (n : ℕ) where
     pub discard-leaves : Sound (discardExact c r n m .state) (discardExact c r n m .left)
     unfolding discardExact
     discard-leaves =
-        let N = S .numbers in
-        record {
-          order = S .order;
-          requests = set-sized;
-          store = clear c r S n m .long ∙ S .store;
-          numbers = record {
-            store-least = N .store-least;
-            store-most = N .store-most;
-            written-most = N .written-most;
-            expected-most = N .expected-most;
-            read-most = N .read-most;
-            first-least = N .first-least;
-            first-most = N .first-most;
-            count-most = N .count-most;
-          };
-          legal-bytes = set-legal;
-          slots = Fds.sound-is (discardSlots m n (repliesOf c r) (slotsOf c r)) .1 (round-sound (slotsOf c r) (parts c r S .slots) (b c r S n m) (u c r S n m) (v c r S n m) (some c r S n m));
-          held = Held.sound-exactly (c .read) (discardLeft c r n m .window) (discardLeft c r n m .store) .1 (clear c r S n m .sound);
-          descriptors = left-fds;
-        }
+        moved-sound-with c r S (discardLeft c r n m) (discardSlots m n (repliesOf c r) (slotsOf c r)) (clear c r S n m .long) (clear c r S n m .sound)
+        (round-sound (slotsOf c r) (parts c r S .slots) (b c r S n m) (u c r S n m) (v c r S n m) (some c r S n m)) left-fds (modeSet c (r .requests) n m) set-sized set-legal

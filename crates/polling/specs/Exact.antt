@@ -12,16 +12,15 @@ use Rattle.held.specs.Head.{headerSize}
 use Rattle.held.specs.Reading as Store
 use Rattle.held.specs.Find.{foundReply, foundEvent}
 use Rattle.held.specs.Moves.{Left, left, removed, demoted}
-use Rattle.held.specs.declared.Window.{Window}
 use Rattle.held.specs.declared.Place.{Place}
 use Rattle.held.specs.declared.Found.{Found}
 use Rattle.held.specs.declared.Found.the-variants as Found
 use Rattle.descriptors.specs.Room as Slots
-use Rattle.descriptors.specs.declared.Counts.{Counts}
 use Rattle.model.specs.Client.{Held}
 use Rattle.model.specs.Model as Model
 use Rattle.model.specs.Model.{Taken, errorCode}
 use Rattle.model.specs.Reading.{Rooms, rooms, slotsOf}
+use Rattle.model.specs.Moved.{movedState}
 use Rattle.model.specs.Promise.{Done, Exact, outputOf}
 use Rattle.model.specs.Says.{shownTaken, shownPoll, shownEvent, bytesOfTaken, descriptorsOfTaken, bytesOfPoll, saysPolled, saysPollReply, saysEvent}
 use Rattle.model.specs.declared.Connection.{Connection}
@@ -35,26 +34,12 @@ pub record Ready (c : Connection) (s f : List ℕ) : Type 0 where
   pub slots : Slots.Sound (Slots.room f (c .counts))
   pub descriptors : Store.fdsIn (Store.replies (c .window) s) ≡ c .counts .held
 
--- the state with another window and other counts
-abbrev pub leftState : Connection → Window → Counts → Connection
-leftState c w n = record {
-  order = c .order;
-  capacity = c .capacity;
-  room = c .room;
-  written = c .written;
-  expected = c .expected;
-  read = c .read;
-  first = c .first;
-  window = w;
-  counts = n;
-}
-
 -- what is left where nothing moves, and where records and descriptors did
 abbrev pub stays : {A : Type 0} → A → Connection → Rooms → Done A
 stays x c r = record { value = x; state = c; left = r }
 
 abbrev pub moved : {A : Type 0} → A → Connection → Rooms → Left → Slots.Room → Done A
-moved x c r l d = record { value = x; state = leftState c (l .window) (d .counts); left = rooms (r .requests) (l .store) (d .slots) }
+moved x c r l d = record { value = x; state = movedState c (l .window) (d .counts); left = rooms (r .requests) (l .store) (d .slots) }
 
 -- the packet at a place of the store
 abbrev pub packetAt : List ℕ → Place → List ℕ

@@ -15,14 +15,14 @@ use Rattle.held.specs.Theorems as Held
 use Rattle.held.specs.declared.Place.{Place}
 use Rattle.descriptors.specs.Room as Slots
 use Rattle.descriptors.specs.Theorems as Fds
-use Rattle.model.specs.Client.{setReplies, setEvents, setClosing}
-use Rattle.model.specs.Client as Client
+use Rattle.model.specs.Client.{setReplies, setEvents}
 use Rattle.model.specs.Model as Model
 use Rattle.model.specs.Model.{find, errorCode}
 use Rattle.model.specs.Reading.{Rooms, rooms, slotsOf, withDescriptors, eventOf, reads}
 use Rattle.model.specs.Sound.{Sound}
 use Rattle.model.specs.declared.Connection.{Connection}
-use Rattle.polling.specs.Exact.{Ready, leftState, packetAt, eventAt, replyAt, without, turnedEvent, handingOut, closing, errorAt}
+use Rattle.model.specs.Moved.{movedState, moved-read, moved-sound}
+use Rattle.polling.specs.Exact.{Ready, packetAt, eventAt, replyAt, without, turnedEvent, handingOut, closing, errorAt}
 use Rattle.polling.specs.Rows.{events-append, heldWith, find-at, with-split, with-without}
 
 module _ (c : Connection) (r : Rooms) (S : Sound c r) where
@@ -33,54 +33,6 @@ module _ (c : Connection) (r : Rooms) (S : Sound c r) where
     slots = Fds.sound-is (slotsOf c r) .0 (S .slots);
     descriptors = S .descriptors;
   }
-
-  -- ---- what is left after a move
-
-  -- as it is read
-  moved-read : (l : Left) (d : Slots.Room) (rs es : List Client.Held) (cl : List ℕ)
-      → withDescriptors (Store.replies (l .window) (l .store)) (Slots.holding d) ≡ rs
-      → map eventOf (Store.events (l .window) (l .store)) ≡ es
-      → Slots.closing d ≡ cl
-      → Slots.waiting d ≡ Slots.waiting (slotsOf c r)
-      → reads (leftState c (l .window) (d .counts)) (rooms (r .requests) (l .store) (d .slots)) ≡ setClosing (setEvents (setReplies (reads c r) rs) es) cl
-  unfolding reads
-  moved-read l d rs es cl a b e f = λ k. record {
-    order = c .order;
-    most-requests = c .capacity;
-    most-bytes = c .room;
-    numbers = record { written = c .written; expected = c .expected; read = c .read };
-    outstanding = reads c r .outstanding;
-    replies = a k;
-    events = b k;
-    waiting = f k;
-    closing = e k;
-  }
-
-  -- and it is sound
-  moved-sound : (l : Left) (d : Slots.Room) → Store.Sound (c .read) (l .window) (l .store) → length (l .store) ≡ length (r .store) → Slots.Sound d
-      → Store.fdsIn (Store.replies (l .window) (l .store)) ≡ d .counts .held
-      → Sound (leftState c (l .window) (d .counts)) (rooms (r .requests) (l .store) (d .slots))
-  moved-sound l d H m D e =
-      let N = S .numbers in
-      record {
-        order = S .order;
-        requests = S .requests;
-        store = m ∙ S .store;
-        numbers = record {
-          store-least = N .store-least;
-          store-most = N .store-most;
-          written-most = N .written-most;
-          expected-most = N .expected-most;
-          read-most = N .read-most;
-          first-least = N .first-least;
-          first-most = N .first-most;
-          count-most = N .count-most;
-        };
-        legal-bytes = S .legal-bytes;
-        slots = Fds.sound-is d .1 D;
-        held = Held.sound-exactly (c .read) (l .window) (l .store) .1 H;
-        descriptors = e;
-      }
 
   -- ---- the oldest event
 
@@ -95,15 +47,15 @@ module _ (c : Connection) (r : Rooms) (S : Sound c r) where
     pub event-is : eventAt r p ≡ eventOf (F .it)
     event-is = λ k. record { number = F .number k; packet = event-packet k; descriptors = [] }
 
-    pub event-left : reads (leftState c (without c r p .window) (c .counts)) (rooms (r .requests) (without c r p .store) (r .slots)) ≡ setEvents (reads c r) (map eventOf (F .after))
+    pub event-left : reads (movedState c (without c r p .window) (c .counts)) (rooms (r .requests) (without c r p .store) (r .slots)) ≡ setEvents (reads c r) (map eventOf (F .after))
     unfolding reads
     event-left =
-        moved-read (without c r p) (slotsOf c r) _ _ _
+        moved-read c r (without c r p) (slotsOf c r) _ _ _ _
         (ap (λ l. withDescriptors l (Slots.holding (slotsOf c r))) (event-removed .other Record.reply (λ q. omega arith)))
         (ap (map eventOf) (event-removed .own)) refl refl
 
-    pub event-sound : Sound (leftState c (without c r p .window) (c .counts)) (rooms (r .requests) (without c r p .store) (r .slots))
-    event-sound = moved-sound (without c r p) (slotsOf c r) (event-removed .sound) (event-removed .long) (parts .slots)
+    pub event-sound : Sound (movedState c (without c r p .window) (c .counts)) (rooms (r .requests) (without c r p .store) (r .slots))
+    event-sound = moved-sound c r S (without c r p) (slotsOf c r) (event-removed .long) (event-removed .sound) (parts .slots)
         (ap Store.fdsIn (event-removed .other Record.reply (λ q. omega arith)) ∙ S .descriptors)
 
   -- ---- the oldest reply of a number
@@ -169,28 +121,28 @@ module _ (c : Connection) (r : Rooms) (S : Sound c r) where
         → withDescriptors (Store.replies (l .window) (l .store)) (Slots.holding d) ≡ withDescriptors others keep
     replies-left l d a b = λ k. withDescriptors (a k) (b k)
 
-    pub taken-left : reads (leftState c (without c r p .window) (handingOut c r p .counts)) (rooms (r .requests) (without c r p .store) (handingOut c r p .slots))
+    pub taken-left : reads (movedState c (without c r p .window) (handingOut c r p .counts)) (rooms (r .requests) (without c r p .store) (handingOut c r p .slots))
         ≡ setReplies (reads c r) (withDescriptors others keep)
     unfolding reads
     taken-left =
-        moved-read (without c r p) (handingOut c r p) _ _ _ (replies-left (without c r p) (handingOut c r p) (reply-removed .own) (handed-lists .holding-is))
-        (ap (map eventOf) (reply-removed .other Record.event (λ q. omega arith))) (handed-lists .closing-is) (handed-lists .waiting-is)
+        moved-read c r (without c r p) (handingOut c r p) _ _ _ _ (replies-left (without c r p) (handingOut c r p) (reply-removed .own) (handed-lists .holding-is))
+        (ap (map eventOf) (reply-removed .other Record.event (λ q. omega arith))) (handed-lists .waiting-is) (handed-lists .closing-is)
 
-    pub closed-left : reads (leftState c (without c r p .window) (closing c r p .counts)) (rooms (r .requests) (without c r p .store) (closing c r p .slots))
+    pub closed-left : reads (movedState c (without c r p .window) (closing c r p .counts)) (rooms (r .requests) (without c r p .store) (closing c r p .slots))
         ≡ Model.close (replyAt c r p .descriptors) (setReplies (reads c r) (withDescriptors others keep))
     unfolding reads
     closed-left =
-        moved-read (without c r p) (closing c r p) _ _ _ (replies-left (without c r p) (closing c r p) (reply-removed .own) (closed-lists .holding-is))
-        (ap (map eventOf) (reply-removed .other Record.event (λ q. omega arith))) (closed-lists .closing-is) (closed-lists .waiting-is)
+        moved-read c r (without c r p) (closing c r p) _ _ _ _ (replies-left (without c r p) (closing c r p) (reply-removed .own) (closed-lists .holding-is))
+        (ap (map eventOf) (reply-removed .other Record.event (λ q. omega arith))) (closed-lists .waiting-is) (closed-lists .closing-is)
 
-    pub turned-left : reads (leftState c (c .window) (closing c r p .counts)) (rooms (r .requests) (demoted (c .window) (r .store) p) (closing c r p .slots))
+    pub turned-left : reads (movedState c (c .window) (closing c r p .counts)) (rooms (r .requests) (demoted (c .window) (r .store) p) (closing c r p .slots))
         ≡ Model.close (replyAt c r p .descriptors) (setEvents (setReplies (reads c r) (withDescriptors others keep)) (reads c r .events ++ (Model.asEvent (replyAt c r p) ∷ [])))
     unfolding reads
     turned-left =
-        moved-read (turnedEvent c r p) (closing c r p) _ _ _ (replies-left (turnedEvent c r p) (closing c r p) (reply-demoted .replies) (closed-lists .holding-is))
+        moved-read c r (turnedEvent c r p) (closing c r p) _ _ _ _ (replies-left (turnedEvent c r p) (closing c r p) (reply-demoted .replies) (closed-lists .holding-is))
         (ap (map eventOf) (reply-demoted .events) ∙ events-append (Store.events (c .window) (r .store)) (Record.asEvent it ∷ [])
         ∙ (λ k. map eventOf (Store.events (c .window) (r .store)) ++ (Model.asEvent (sym reply-is k) ∷ [])))
-        (closed-lists .closing-is) (closed-lists .waiting-is)
+        (closed-lists .waiting-is) (closed-lists .closing-is)
 
     -- and it is sound
     handed-held : handingOut c r p .counts .held ≡ c .counts .held - p .fds
@@ -201,16 +153,16 @@ module _ (c : Connection) (r : Rooms) (S : Sound c r) where
     unfolding Slots.closeHeld
     closed-held = refl
 
-    pub taken-sound : Sound (leftState c (without c r p .window) (handingOut c r p .counts)) (rooms (r .requests) (without c r p .store) (handingOut c r p .slots))
-    taken-sound = moved-sound (without c r p) (handingOut c r p) (reply-removed .sound) (reply-removed .long) (Fds.handOut-sound (slotsOf c r) (parts .slots) (p .before) (p .fds) in-run)
+    pub taken-sound : Sound (movedState c (without c r p .window) (handingOut c r p .counts)) (rooms (r .requests) (without c r p .store) (handingOut c r p .slots))
+    taken-sound = moved-sound c r S (without c r p) (handingOut c r p) (reply-removed .long) (reply-removed .sound) (Fds.handOut-sound (slotsOf c r) (parts .slots) (p .before) (p .fds) in-run)
         (ap Store.fdsIn (reply-removed .own) ∙ others-fds ∙ sym handed-held)
 
-    pub closed-sound : Sound (leftState c (without c r p .window) (closing c r p .counts)) (rooms (r .requests) (without c r p .store) (closing c r p .slots))
-    closed-sound = moved-sound (without c r p) (closing c r p) (reply-removed .sound) (reply-removed .long) (Fds.closeHeld-sound (slotsOf c r) (parts .slots) (p .before) (p .fds) in-run)
+    pub closed-sound : Sound (movedState c (without c r p .window) (closing c r p .counts)) (rooms (r .requests) (without c r p .store) (closing c r p .slots))
+    closed-sound = moved-sound c r S (without c r p) (closing c r p) (reply-removed .long) (reply-removed .sound) (Fds.closeHeld-sound (slotsOf c r) (parts .slots) (p .before) (p .fds) in-run)
         (ap Store.fdsIn (reply-removed .own) ∙ others-fds ∙ sym closed-held)
 
-    pub turned-sound : Sound (leftState c (c .window) (closing c r p .counts)) (rooms (r .requests) (demoted (c .window) (r .store) p) (closing c r p .slots))
-    turned-sound = moved-sound (turnedEvent c r p) (closing c r p) (reply-demoted .sound) (reply-demoted .long) (Fds.closeHeld-sound (slotsOf c r) (parts .slots) (p .before) (p .fds) in-run)
+    pub turned-sound : Sound (movedState c (c .window) (closing c r p .counts)) (rooms (r .requests) (demoted (c .window) (r .store) p) (closing c r p .slots))
+    turned-sound = moved-sound c r S (turnedEvent c r p) (closing c r p) (reply-demoted .long) (reply-demoted .sound) (Fds.closeHeld-sound (slotsOf c r) (parts .slots) (p .before) (p .fds) in-run)
         (ap Store.fdsIn (reply-demoted .replies) ∙ others-fds ∙ sym closed-held)
 
     -- its first byte in the store is its packet's

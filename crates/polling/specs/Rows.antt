@@ -10,7 +10,7 @@ use lib.Seq.{drop-at, drop-drop, length-take-le}
 use borrow.Author.Tests.{eq-eqb, ne-eqb}
 use Rattle.octets.specs.Logic.{choose}
 use Rattle.octets.specs.Put.{cut}
-use Rattle.refusal.specs.Answer.{Answer, gives, refuse}
+use Rattle.refusal.specs.Answer.{Answer}
 use Rattle.held.specs.General.{choose-yes, choose-no}
 use Rattle.held.specs.Head as Record
 use Rattle.held.specs.Reading.{All, fdsIn}

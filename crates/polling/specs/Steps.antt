@@ -9,7 +9,7 @@ use lib.ListN.{length, getD}
 use borrow.Author.Tests.{lt-ltb, le-ltb, eq-eqb, ne-eqb}
 use Rattle.octets.specs.Logic.{choose, either}
 use Rattle.octets.specs.Put.{put, put-none, length-cut}
-use Rattle.refusal.specs.Answer.{Answer, gives, refuses, refuse, given-refusal, past-refusal}
+use Rattle.refusal.specs.Answer.{Answer, gives, refuses, given-refusal, past-refusal}
 use Rattle.refusal.specs.declared.Refusal.the-variants as Refusal
 use Rattle.held.specs.General.{choose-yes, choose-no}
 use Rattle.held.specs.Head.{headerSize, reply, event}
@@ -35,7 +35,8 @@ use Rattle.model.specs.declared.Connection.{Connection}
 use Rattle.model.specs.declared.Polled.the-variants as Polled
 use Rattle.model.specs.declared.PollReply.the-variants as PollReply
 use Rattle.model.specs.declared.Event.the-variants as Event
-use Rattle.polling.specs.Exact.{Ready, leftState, stays, moved, packetAt, eventAt, replyAt, without, turnedEvent, handingOut, closing, eventFrom, eventExact, takenFrom, takenExact, checkedFrom, checkedExact, errorAt, repliedFrom, repliedExact, EventStep, TakenStep, CheckedStep, RepliedStep}
+use Rattle.model.specs.Moved.{movedState}
+use Rattle.polling.specs.Exact.{Ready, stays, moved, packetAt, eventAt, replyAt, without, turnedEvent, handingOut, closing, eventFrom, eventExact, takenFrom, takenExact, checkedFrom, checkedExact, errorAt, repliedFrom, repliedExact, EventStep, TakenStep, CheckedStep, RepliedStep}
 
 -- ---- outcomes
 
@@ -76,7 +77,7 @@ module _ (c : Connection) (s : List ℕ) (H : Store.Sound (c .read) (c .window) 
           output = λ q f. output-refused bytesOfTaken _ out 8 (z q f);
         }
 
-    pub event-taken : p .len ≤ length out → (w : Window) (s' out' : List ℕ) (c' : Connection) → Takes (c .window) s p out w s' out' → c' ≡ leftState c w (c .counts)
+    pub event-taken : p .len ≤ length out → (w : Window) (s' out' : List ℕ) (c' : Connection) → Takes (c .window) s p out w s' out' → c' ≡ movedState c w (c .counts)
         → EventStep c s out (Event.Packet (record { 0 = p .number }) (p .len) c') s' out'
     unfolding eventExact handed
     event-taken h w s' out' c' T g =
@@ -85,7 +86,7 @@ module _ (c : Connection) (s : List ℕ) (H : Store.Sound (c .read) (c .window) 
         let l : p .len ≡ length (packetAt s p) = sym (length-cut (p .at + headerSize) (p .len) s (omega (arith, event-within .fits, event-within .within))) in
         record {
           exact = λ q f. exact-as shownEvent _ (rooms q s f) (d q f) (Says.event (p .number) (p .len)) c' (rooms q s' f) (z q f) (ap (Says.event (p .number)) l)
-              (g ∙ ap (λ (v : Window). leftState c v (c .counts)) (T .left .window))
+              (g ∙ ap (λ (v : Window). movedState c v (c .counts)) (T .left .window))
               (ap (λ (x : List ℕ). rooms q x f) (T .left .store));
           output = λ q f. output-as bytesOfTaken _ out out' (d q f) (z q f) (T .output);
         }
@@ -129,8 +130,8 @@ module _ (c : Connection) (n : ℕ) (s f : List ℕ) (R : Ready c s f) (p : Plac
   run-length = sym (length-cut (p .before) (p .fds) _ (omega (arith, reply-run, length-holding (Slots.room f (c .counts)) (R .slots))))
 
   -- what a removal and a move of slots hand back
-  state-left : (w : Window) (d : Slots.Room) (l : Left) (n' : Counts) (f' s' : List ℕ) (c' : Connection) → Leaves l w s' → Slots.room f' n' ≡ d → c' ≡ leftState c w n' → c' ≡ leftState c (l .window) (d .counts)
-  state-left w d l n' f' s' c' L D g = g ∙ (λ k. leftState c (L .window k) (D k .counts))
+  state-left : (w : Window) (d : Slots.Room) (l : Left) (n' : Counts) (f' s' : List ℕ) (c' : Connection) → Leaves l w s' → Slots.room f' n' ≡ d → c' ≡ movedState c w n' → c' ≡ movedState c (l .window) (d .counts)
+  state-left w d l n' f' s' c' L D g = g ∙ (λ k. movedState c (L .window k) (D k .counts))
 
   rooms-left : (q : List ℕ) (w : Window) (d : Slots.Room) (l : Left) (n' : Counts) (f' s' : List ℕ) → Leaves l w s' → Slots.room f' n' ≡ d → rooms q s' f' ≡ rooms q (l .store) (d .slots)
   rooms-left q w d l n' f' s' L D = λ k. rooms q (L .store k) (D k .slots)
@@ -159,7 +160,7 @@ module _ (c : Connection) (n : ℕ) (s f : List ℕ) (R : Ready c s f) (p : Plac
     pub taken-given : p .len ≤ length out → p .fds ≤ length fds → (w : Window) (n' : Counts) (s' f' out' fds' : List ℕ) (c' : Connection)
         → Takes (c .window) s p out w s' out'
         → Slots.Gives (Slots.handOut (p .before) (p .fds) (Slots.room f (c .counts))) (Slots.heldRun (p .before) (p .fds) (Slots.room f (c .counts))) fds (Slots.room f' n') fds'
-        → c' ≡ leftState c w n' → TakenStep c n s f out fds (Polled.Packet (p .len) (p .fds) c') s' f' out' fds'
+        → c' ≡ movedState c w n' → TakenStep c n s f out fds (Polled.Packet (p .len) (p .fds) c') s' f' out' fds'
     unfolding takenExact handed either
     taken-given h k w n' s' f' out' fds' c' T G g =
         let d : List ℕ → Done Model.Taken = λ q. moved (Model.packet (replyAt c (rooms q s f) p)) c (rooms q s f) (without c (rooms q s f) p) (handingOut c (rooms q s f) p) in
@@ -187,7 +188,7 @@ module _ (c : Connection) (n : ℕ) (s f : List ℕ) (R : Ready c s f) (p : Plac
     pub checked-given : p .len ≤ length out → (w : Window) (n' : Counts) (s' f' out' : List ℕ) (c' : Connection)
         → Takes (c .window) s p out w s' out'
         → Slots.room f' n' ≡ Slots.closeHeld (p .before) (p .fds) (Slots.room f (c .counts))
-        → c' ≡ leftState c w n' → CheckedStep c n s f out (PollReply.Reply (p .len) c') s' f' out'
+        → c' ≡ movedState c w n' → CheckedStep c n s f out (PollReply.Reply (p .len) c') s' f' out'
     unfolding checkedExact handed
     checked-given h w n' s' f' out' c' T G g =
         let d : List ℕ → Done Model.PollReply = λ q. moved (Model.reply (replyAt c (rooms q s f) p)) c (rooms q s f) (without c (rooms q s f) p) (closing c (rooms q s f) p) in
@@ -211,7 +212,7 @@ module _ (c : Connection) (n : ℕ) (s f : List ℕ) (R : Ready c s f) (p : Plac
     pub replied-error : (b : ℕ) → b ≡ getD s (p .at + headerSize) 0 → b ≡ errorCode → (n' : Counts) (s' f' : List ℕ) (c' : Connection)
         → s' ≡ demoted (c .window) s p
         → Slots.room f' n' ≡ Slots.closeHeld (p .before) (p .fds) (Slots.room f (c .counts))
-        → c' ≡ leftState c (c .window) n' → RepliedStep c n s f out (PollReply.NoReply c') s' f' out
+        → c' ≡ movedState c (c .window) n' → RepliedStep c n s f out (PollReply.NoReply c') s' f' out
     unfolding repliedExact choose
     replied-error b x y n' s' f' c' T G g =
         let d : List ℕ → Done Model.PollReply = λ q. moved Model.noReply c (rooms q s f) (turnedEvent c (rooms q s f) p) (closing c (rooms q s f) p) in
@@ -219,7 +220,7 @@ module _ (c : Connection) (n : ℕ) (s f : List ℕ) (R : Ready c s f) (p : Plac
         λ q. sym (choose-yes (errorAt (rooms q s f) p) _ _ (is-error b x y (rooms q s f) refl)) ∙ ap (repliedFrom c (rooms q s f) (length out)) e in
         record {
           exact = λ q. exact-as shownPoll _ (rooms q s f) (d q) Says.noReply c' (rooms q s' f') (z q) refl
-              (g ∙ (λ k. leftState c (c .window) (G k .counts)))
+              (g ∙ (λ k. movedState c (c .window) (G k .counts)))
               (λ k. rooms q (T k) (G k .slots));
           output = λ q. output-none bytesOfPoll _ out (d q) (z q) refl;
         }
@@ -234,7 +235,7 @@ module _ (c : Connection) (n : ℕ) (s f : List ℕ) (R : Ready c s f) (p : Plac
     pub replied-given : (b : ℕ) → b ≡ getD s (p .at + headerSize) 0 → (b ≡ errorCode → ⊥) → p .len ≤ length out → (w : Window) (n' : Counts) (s' f' out' : List ℕ) (c' : Connection)
         → Takes (c .window) s p out w s' out'
         → Slots.room f' n' ≡ Slots.closeHeld (p .before) (p .fds) (Slots.room f (c .counts))
-        → c' ≡ leftState c w n' → RepliedStep c n s f out (PollReply.Reply (p .len) c') s' f' out'
+        → c' ≡ movedState c w n' → RepliedStep c n s f out (PollReply.Reply (p .len) c') s' f' out'
     unfolding repliedExact handed choose
     replied-given b x y h w n' s' f' out' c' T G g =
         let d : List ℕ → Done Model.PollReply = λ q. moved (Model.reply (replyAt c (rooms q s f) p)) c (rooms q s f) (without c (rooms q s f) p) (closing c (rooms q s f) p) in

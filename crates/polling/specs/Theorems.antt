@@ -20,7 +20,8 @@ use Rattle.model.specs.Reading.{Rooms, rooms, slotsOf, withDescriptors, eventOf
 use Rattle.model.specs.Promise.{Done, modelOf, model-refuse}
 use Rattle.model.specs.Sound.{Sound}
 use Rattle.model.specs.declared.Connection.{Connection}
-use Rattle.polling.specs.Exact.{Ready, leftState, replyAt, closing, eventFrom, eventExact, takenFrom, takenExact, checkedFrom, checkedExact, errorAt, repliedFrom, repliedExact}
+use Rattle.model.specs.Moved.{movedState}
+use Rattle.polling.specs.Exact.{Ready, replyAt, closing, eventFrom, eventExact, takenFrom, takenExact, checkedFrom, checkedExact, errorAt, repliedFrom, repliedExact}
 use Rattle.polling.specs.Rows.{model-choose, find-none}
 use Rattle.polling.specs.Left.{parts, event-is, event-left, event-sound, found-read, taken-left, closed-left, turned-left, taken-sound, closed-sound, turned-sound, same-error, bytes-is, places-is}
 
@@ -117,7 +118,7 @@ module _ (c : Connection) (r : Rooms) (S : Sound c r) where
       replied-by Found.Nothing F = sym (ap (repliedBy (reads c r) bytes) (none-read F))
       replied-by (Found.At p) F =
           model-choose (errorAt r p) _ _
-          ∙ ap (λ y. choose (errorAt r p) (gives (Model.noReply, reads (leftState c (c .window) (closing c r p .counts)) (rooms (r .requests) (demoted (c .window) (r .store) p) (closing c r p .slots)))) y)
+          ∙ ap (λ y. choose (errorAt r p) (gives (Model.noReply, reads (movedState c (c .window) (closing c r p .counts)) (rooms (r .requests) (demoted (c .window) (r .store) p) (closing c r p .slots)))) y)
           (model-refuse (ltb bytes (p .len)) 8 _)
           ∙ (λ k. choose (same-error c r S n p F k) (gives (Model.noReply, turned-left c r S n p F k))
           (refuse (ltb bytes (bytes-is c r S n p F k)) 8 (gives (Model.reply (replyAt c r p), closed-left c r S n p F k))))

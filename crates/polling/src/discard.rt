@@ -1,11 +1,11 @@
 // Discarding: the mode set, the packets of the number gone, and their descriptors closed.
 use crate::ERROR_CODE;
-use crate::left;
 use held::Found;
 use held::Place;
 use held::Window;
 use model::Connection;
 use model::DiscardMode;
+use model::moved;
 use requests::Mode;
 ghost use mathlib.Core.Path.{_≡_};
 ghost use Prim.Native.Nat.{_+_, _<_, _≤_};
@@ -43,7 +43,7 @@ pub fn discard_reply(
             let at = place.before;
             let some = descriptors::close_held(slots, counts, at + before.fds, behind.fds);
             let all = descriptors::close_held(slots, some, at, before.fds);
-            left(c, behind.window, all)
+            moved(c, behind.window, all)
         }
         Found::Nothing => c,
     }

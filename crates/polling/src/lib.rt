@@ -7,20 +7,19 @@
 // order of refusals is 01's for taking: nothing found, then 8.)
 mod discard;
 
-use descriptors::Counts;
 pub use discard::discard_reply;
 use held::Found;
-use held::Window;
 use model::Connection;
 use model::Event;
 use model::PollReply;
 use model::Polled;
+use model::moved;
 use refusal::Refusal;
 use sequence::SequenceNumber;
 ghost use mathlib.Core.Path.{_≡_};
 ghost use Prim.Native.Nat.{_<_};
 ghost use Rattle.held.specs.Reading as Store;
-ghost use Rattle.polling.specs.Exact.{Ready, leftState, EventStep, TakenStep, CheckedStep, RepliedStep};
+ghost use Rattle.polling.specs.Exact.{Ready, EventStep, TakenStep, CheckedStep, RepliedStep};
 
 // The first byte of an error.
 pub(crate) const ERROR_CODE: u8 = 0;
@@ -39,20 +38,10 @@ pub fn poll_for_event(c: Connection, store: &mut [u8], out: &mut [u8]) -> Event
             }
             let next = held::take(store, window, place, out);
             let number = SequenceNumber(place.number);
-            Event::Packet(number, len, left(c, next, c.counts))
+            Event::Packet(number, len, moved(c, next, c.counts))
         }
         Found::Nothing => Event::Nothing(c),
     }
-}
-
-// The state with another window and other counts.
-pub(crate) fn left(c: Connection, window: Window, counts: Counts) -> Connection
-    ensures { λ r. ⌜ r ≡ leftState c window counts ⌝ }
-{
-    let mut next = c;
-    next.window = window;
-    next.counts = counts;
-    next
 }
 
 // The oldest reply or error of a number, with its descriptors. Refused by 8 for an output that is
@@ -82,7 +71,7 @@ pub fn poll_for_reply_or_error(
             }
             let rest = descriptors::hand_out(slots, counts, place.before, n, fds);
             let next = held::take(store, window, place, out);
-            Polled::Packet(len, n, left(c, next, rest))
+            Polled::Packet(len, n, moved(c, next, rest))
         }
         Found::Nothing => Polled::Nothing(c),
     }
@@ -111,7 +100,7 @@ pub fn poll_check(
             let n = place.fds as usize;
             let rest = descriptors::close_held(slots, counts, place.before, n);
             let next = held::take(store, window, place, out);
-            PollReply::Reply(len, left(c, next, rest))
+            PollReply::Reply(len, moved(c, next, rest))
         }
         Found::Nothing => {
             if number < c.read {
@@ -143,14 +132,14 @@ pub fn poll_for_reply(
             if held::first_byte(store, place) == ERROR_CODE {
                 let rest = descriptors::close_held(slots, counts, place.before, n);
                 held::demote(store, window, place);
-                return PollReply::NoReply(left(c, window, rest));
+                return PollReply::NoReply(moved(c, window, rest));
             }
             if out.len() < len {
                 return PollReply::Refused(Refusal::OutShort);
             }
             let rest = descriptors::close_held(slots, counts, place.before, n);
             let next = held::take(store, window, place, out);
-            PollReply::Reply(len, left(c, next, rest))
+            PollReply::Reply(len, moved(c, next, rest))
         }
         Found::Nothing => PollReply::TryAgain(c),
     }

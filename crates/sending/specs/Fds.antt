@@ -8,31 +8,17 @@ use Rattle.refusal.specs.Answer.{Answer, gives, refuse}
 use Rattle.descriptors.specs.Room as Slots
 use Rattle.descriptors.specs.Room.{mostDescriptors}
 use Rattle.model.specs.Reading.{Rooms, rooms, slotsOf}
+use Rattle.model.specs.Moved.{movedState}
 use Rattle.model.specs.Promise.{Done, Exact, outputOf}
 use Rattle.model.specs.Says.{saysNext, saysClosed}
 use Rattle.sending.specs.Send.{same}
 use Rattle.model.specs.declared.Connection.{Connection}
 use Rattle.model.specs.declared.Next.{Next}
 use Rattle.model.specs.declared.Closed.{Closed}
-use Rattle.descriptors.specs.declared.Counts.{Counts}
-
--- the state with these counts
-abbrev pub countedState : Connection → Counts → Connection
-countedState c n = record {
-  order = c .order;
-  capacity = c .capacity;
-  room = c .room;
-  written = c .written;
-  expected = c .expected;
-  read = c .read;
-  first = c .first;
-  window = c .window;
-  counts = n;
-}
 
 -- what a move of descriptors leaves
 abbrev pub movedTo : {A : Type 0} → A → Connection → Rooms → Slots.Room → Done A
-movedTo x c r d = record { value = x; state = countedState c (d .counts); left = rooms (r .requests) (r .store) (d .slots) }
+movedTo x c r d = record { value = x; state = movedState c (c .window) (d .counts); left = rooms (r .requests) (r .store) (d .slots) }
 
 -- 5 for over 256 inside; otherwise they wait behind the others.
 unfoldable pub enqueueExact : Connection → Rooms → List ℕ → Answer (Done Unit)

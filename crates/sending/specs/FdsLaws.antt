@@ -16,7 +16,8 @@ use Rattle.model.specs.declared.Next.the-variants as Next
 use Rattle.model.specs.declared.Closed.the-variants as Closed
 use Rattle.refusal.specs.declared.Refusal.the-variants as Refusal
 use Rattle.sending.specs.Send.{same}
-use Rattle.sending.specs.Fds.{countedState, movedTo, enqueueExact, closeExact, EnqueueStep, CloseStep}
+use Rattle.model.specs.Moved.{movedState}
+use Rattle.sending.specs.Fds.{movedTo, enqueueExact, closeExact, EnqueueStep, CloseStep}
 
 module _ (c : Connection) (list f : List ℕ) where
   -- Over 256 are refused,
@@ -25,7 +26,7 @@ module _ (c : Connection) (list f : List ℕ) where
   enqueue-full h = record { exact = λ q s. exact-refused same _ _ 5 (simp (lt-ltb _ _ h)) }
 
   -- otherwise they wait.
-  pub enqueue-done : (next : Connection) (n : Counts) (f' : List ℕ) → Slots.total (c .counts) + length list ≤ mostDescriptors → next ≡ countedState c n
+  pub enqueue-done : (next : Connection) (n : Counts) (f' : List ℕ) → Slots.total (c .counts) + length list ≤ mostDescriptors → next ≡ movedState c (c .window) n
       → Slots.room f' n ≡ Slots.enqueue list (Slots.room f (c .counts)) → EnqueueStep c list f (Next.State next) f'
   unfolding enqueueExact refuse answerOf roomsOf
   enqueue-done next n f' h i e =
@@ -33,7 +34,7 @@ module _ (c : Connection) (list f : List ℕ) where
         exact = λ q s.
             let E : gives (movedTo tt c (rooms q s f) (Slots.enqueue list (slotsOf c (rooms q s f)))) ≡ enqueueExact c (rooms q s f) list = simp (le-ltb _ _ h) in
             record {
-              answers = (λ k. gives (tt, i k)) ∙ (λ k. gives (tt, countedState c (e k .counts))) ∙ ap (answerOf same) E;
+              answers = (λ k. gives (tt, i k)) ∙ (λ k. gives (tt, movedState c (c .window) (e k .counts))) ∙ ap (answerOf same) E;
               leaves = (λ k. rooms q s (e k .slots)) ∙ ap (λ y. roomsOf y (rooms q s f)) E;
             };
       }
@@ -49,7 +50,7 @@ module _ (c : Connection) (f out : List ℕ) where
       }
 
   -- otherwise the close list is there.
-  pub close-done : (next : Connection) (n : Counts) (f' out' : List ℕ) → Slots.Sound (Slots.room f (c .counts)) → c .counts .closed ≤ length out → next ≡ countedState c n
+  pub close-done : (next : Connection) (n : Counts) (f' out' : List ℕ) → Slots.Sound (Slots.room f (c .counts)) → c .counts .closed ≤ length out → next ≡ movedState c (c .window) n
       → Slots.Gives (Slots.takeClosed (Slots.room f (c .counts))) (Slots.closing (Slots.room f (c .counts))) out (Slots.room f' n) out'
       → CloseStep c f out (Closed.Taken (c .counts .closed) next) f' out'
   unfolding closeExact refuse answerOf roomsOf outputOf
@@ -58,7 +59,7 @@ module _ (c : Connection) (f out : List ℕ) where
         exact = λ q s.
             let E : gives (movedTo (Slots.closing (slotsOf c (rooms q s f))) c (rooms q s f) (Slots.takeClosed (slotsOf c (rooms q s f)))) ≡ closeExact c (rooms q s f) (length out) = simp (le-ltb _ _ h) in
             record {
-              answers = (λ k. gives (sym (Fds.length-closing (Slots.room f (c .counts)) S) k, i k)) ∙ (λ k. gives (length (Slots.closing (Slots.room f (c .counts))), countedState c (g .left k .counts)))
+              answers = (λ k. gives (sym (Fds.length-closing (Slots.room f (c .counts)) S) k, i k)) ∙ (λ k. gives (length (Slots.closing (Slots.room f (c .counts))), movedState c (c .window) (g .left k .counts)))
                   ∙ ap (answerOf length) E;
               leaves = (λ k. rooms q s (g .left k .slots)) ∙ ap (λ y. roomsOf y (rooms q s f)) E;
             };

@@ -19,14 +19,17 @@ use Rattle.descriptors.specs.Room.{mostDescriptors}
 use Rattle.model.specs.Client.{Client, setNumbers, setOutstanding, setWaiting, setClosing}
 use Rattle.model.specs.Model.{hasReply, joining, sendRequest, enqueueFds, takeClosed}
 use Rattle.held.specs.Reading as Store
+use Rattle.held.specs.Moves.{left}
+use Rattle.held.specs.Theorems as Held
 use Rattle.model.specs.Reading.{Rooms, rooms, count, slotsOf, withDescriptors, reads}
 use Rattle.model.specs.ReadingLaws.{length-out, inside-read, length-close}
+use Rattle.model.specs.Moved.{movedState, moved-read, moved-sound}
 use Rattle.model.specs.Promise.{Done, modelOf, model-pass, model-refuse}
-use Rattle.model.specs.Sound.{Sound}
+use Rattle.model.specs.Sound.{Sound, room-there, slots-there}
 use Rattle.model.specs.declared.Connection.{Connection}
 use Rattle.model.specs.declared.ReplyFdKind.{ReplyFdKind}
 use Rattle.sending.specs.Send.{sentState, sendExact}
-use Rattle.sending.specs.Fds.{countedState, enqueueExact, closeExact}
+use Rattle.sending.specs.Fds.{enqueueExact, closeExact}
 
 -- ---- sending
 
@@ -51,9 +54,6 @@ sending-gives w e hr n q =
     record { number = x; most = omega arith; expected = λ h. either-most hr (w + 1) e (n .expected) lastNumber (ap (λ (k : Numbers). k .expected) m) (omega arith) h }
 
 module _ (c : Connection) (r : Rooms) (S : Sound c r) (kind : ReplyFdKind) where
-  pos : 0 < capacity (r .requests)
-  pos = let z = sized-is (c .capacity) (r .requests) .0 (S .requests) in omega (arith, z .least, z .holds)
-
   -- the requests after one was sent
   out-sent : (n : Numbers) → Given (c .written) (c .expected) n → count c < c .capacity
       → outstanding (putRequest (r .requests) (n .number) (joining kind)) (c .first) (n .number + 1 - c .first) ≡ outstanding (r .requests) (c .first) (count c) ++ (joining kind ∷ [])
@@ -109,7 +109,7 @@ module _ (c : Connection) (r : Rooms) (S : Sound c r) (kind : ReplyFdKind) where
           first-most = omega (arith, g .number, N .first-most);
           count-most = omega (arith, g .number, N .first-most);
         };
-        legal-bytes = (λ k. legals (putRequest (r .requests) (a k) (joining kind)) (c .first) (b k)) ∙ legals-send (r .requests) (c .first) (count c) (S .legal-bytes) (joining kind) pos;
+        legal-bytes = (λ k. legals (putRequest (r .requests) (a k) (joining kind)) (c .first) (b k)) ∙ legals-send (r .requests) (c .first) (count c) (S .legal-bytes) (joining kind) (room-there c r S);
         slots = S .slots;
         held = S .held;
         descriptors = S .descriptors;
@@ -117,49 +117,17 @@ module _ (c : Connection) (r : Rooms) (S : Sound c r) (kind : ReplyFdKind) where
 
 -- ---- descriptors
 
--- a state whose held descriptors stay, as it is read after a move of the others
-moved-read : (c : Connection) (r : Rooms) (d : Slots.Room) (toClose wait : List ℕ) → Slots.Lists d toClose (Slots.holding (slotsOf c r)) wait
-    → reads (countedState c (d .counts)) (rooms (r .requests) (r .store) (d .slots)) ≡ setClosing (setWaiting (reads c r) wait) toClose
-unfolding reads
-moved-read c r d toClose wait l = λ k. record {
-  order = c .order;
-  most-requests = c .capacity;
-  most-bytes = c .room;
-  numbers = record { written = c .written; expected = c .expected; read = c .read };
-  outstanding = reads c r .outstanding;
-  replies = withDescriptors (Store.replies (c .window) (r .store)) (l .holding-is k);
-  events = reads c r .events;
-  waiting = l .waiting-is k;
-  closing = l .closing-is k;
-}
-
 module _ (c : Connection) (r : Rooms) (S : Sound c r) where
-  slots-sound : Slots.Sound (slotsOf c r)
-  slots-sound = Fds.sound-is (slotsOf c r) .0 (S .slots)
+  -- descriptors move alone: as that is read, and that it is sound
+  counted-read : (d : Slots.Room) (toClose wait : List ℕ) → Slots.Lists d toClose (Slots.holding (slotsOf c r)) wait
+      → reads (movedState c (c .window) (d .counts)) (rooms (r .requests) (r .store) (d .slots)) ≡ setClosing (setWaiting (reads c r) wait) toClose
+  unfolding reads
+  counted-read d toClose wait l =
+      moved-read c r (left (c .window) (r .store)) d _ _ _ _ (ap (withDescriptors (Store.replies (c .window) (r .store))) (l .holding-is)) refl (l .waiting-is) (l .closing-is)
 
-  -- a sound state stays sound where the descriptors' room does and as many are held
-  moved-sound : (d : Slots.Room) → Slots.Sound d → d .counts .held ≡ c .counts .held → Sound (countedState c (d .counts)) (rooms (r .requests) (r .store) (d .slots))
-  moved-sound d D h =
-      let N = S .numbers in
-      record {
-        order = S .order;
-        requests = S .requests;
-        store = S .store;
-        numbers = record {
-          store-least = N .store-least;
-          store-most = N .store-most;
-          written-most = N .written-most;
-          expected-most = N .expected-most;
-          read-most = N .read-most;
-          first-least = N .first-least;
-          first-most = N .first-most;
-          count-most = N .count-most;
-        };
-        legal-bytes = S .legal-bytes;
-        slots = Fds.sound-is d .1 D;
-        held = S .held;
-        descriptors = S .descriptors ∙ sym h;
-      }
+  counted-sound : (d : Slots.Room) → Slots.Sound d → d .counts .held ≡ c .counts .held → Sound (movedState c (c .window) (d .counts)) (rooms (r .requests) (r .store) (d .slots))
+  counted-sound d D h =
+      moved-sound c r S (left (c .window) (r .store)) d refl (Held.sound-exactly (c .read) (c .window) (r .store) .0 (S .held)) D (S .descriptors ∙ sym h)
 
   kept-closing : {wait : List ℕ} → setClosing (setWaiting (reads c r) wait) (Slots.closing (slotsOf c r)) ≡ setWaiting (reads c r) wait
   unfolding reads
@@ -180,7 +148,7 @@ module _ (c : Connection) (r : Rooms) (S : Sound c r) where
     enqueue-model =
         model-refuse (ltb mostDescriptors (Slots.total (c .counts) + length list)) 5 _
         ∙ ap (λ (x : Client). refuse (ltb mostDescriptors (Slots.total (c .counts) + length list)) 5 (gives (tt, x)))
-        (moved-read c r (Slots.enqueue list (slotsOf c r)) _ _ (Fds.enqueue-lists (slotsOf c r) slots-sound list) ∙ kept-closing)
+        (counted-read (Slots.enqueue list (slotsOf c r)) _ _ (Fds.enqueue-lists (slotsOf c r) (slots-there c r S) list) ∙ kept-closing)
         ∙ ap (λ (n : ℕ). refuse (ltb mostDescriptors (n + length list)) 5 (gives (tt, setWaiting (reads c r) (reads c r .waiting ++ list)))) (sym (inside-read c r S))
 
     -- and leave a sound state.
@@ -189,7 +157,7 @@ module _ (c : Connection) (r : Rooms) (S : Sound c r) where
     enqueue-sound d e =
         let h : Slots.total (c .counts) + length list ≤ mostDescriptors = ltb-false _ _ (gives-past _ _ _ e) in
         subst (λ (x : Done Unit). Sound (x .state) (x .left)) (gives-same (sym (gives-rest _ _ _ e)))
-        (moved-sound (Slots.enqueue list (slotsOf c r)) (Fds.enqueue-sound (slotsOf c r) slots-sound list h) enqueue-held)
+        (counted-sound (Slots.enqueue list (slotsOf c r)) (Fds.enqueue-sound (slotsOf c r) (slots-there c r S) list h) enqueue-held)
 
   close-held : Slots.takeClosed (slotsOf c r) .counts .held ≡ c .counts .held
   unfolding Slots.takeClosed
@@ -202,7 +170,7 @@ module _ (c : Connection) (r : Rooms) (S : Sound c r) where
     close-model =
         model-refuse (ltb places (c .counts .closed)) 8 _
         ∙ ap (λ (x : Client). refuse (ltb places (c .counts .closed)) 8 (gives (reads c r .closing, x)))
-        (moved-read c r (Slots.takeClosed (slotsOf c r)) _ _ (Fds.takeClosed-lists (slotsOf c r) slots-sound) ∙ kept-waiting)
+        (counted-read (Slots.takeClosed (slotsOf c r)) _ _ (Fds.takeClosed-lists (slotsOf c r) (slots-there c r S)) ∙ kept-waiting)
         ∙ ap (λ (n : ℕ). refuse (ltb places n) 8 (gives (reads c r .closing, setClosing (reads c r) []))) (sym (length-close c r S))
 
     -- and leaves a sound state.
@@ -210,4 +178,4 @@ module _ (c : Connection) (r : Rooms) (S : Sound c r) where
     unfolding closeExact
     close-sound d e =
         subst (λ (x : Done (List ℕ)). Sound (x .state) (x .left)) (gives-same (sym (gives-rest _ _ _ e)))
-        (moved-sound (Slots.takeClosed (slotsOf c r)) (Fds.takeClosed-sound (slotsOf c r) slots-sound) close-held)
+        (counted-sound (Slots.takeClosed (slotsOf c r)) (Fds.takeClosed-sound (slotsOf c r) (slots-there c r S)) close-held)

@@ -4,12 +4,12 @@
 // A step asks only for what it needs, touches only the room it writes, and is exact: its answer and
 // that room at exit are one definition of what it was given. Laws say what it is in the model's
 // terms, and that the state it leaves is sound.
-use descriptors::Counts;
 use model::Closed;
 use model::Connection;
 use model::Next;
 use model::ReplyFdKind;
 use model::Sent;
+use model::moved;
 use refusal::Refusal;
 use requests::Mode;
 use requests::Request;
@@ -21,7 +21,7 @@ ghost use Rattle.model.specs.Model.{hasReply, joining};
 ghost use Rattle.model.specs.Sound.{Numbers};
 ghost use Rattle.descriptors.specs.Room as Slots;
 ghost use Rattle.sending.specs.Send.{SendStep, sentState};
-ghost use Rattle.sending.specs.Fds.{EnqueueStep, CloseStep, countedState};
+ghost use Rattle.sending.specs.Fds.{EnqueueStep, CloseStep};
 
 // A request is sent. Refused by 3 and 6 as the rule of sending says, then by 5 where the room is
 // full.
@@ -77,14 +77,6 @@ fn numbered(c: Connection, number: SequenceNumber, expected: SequenceNumber) -> 
     next
 }
 
-fn counted(c: Connection, counts: Counts) -> Connection
-    ensures { λ r. ⌜ r ≡ countedState c counts ⌝ }
-{
-    let mut next = c;
-    next.counts = counts;
-    next
-}
-
 // Descriptors come to wait. Refused by 5 for over 256 inside.
 pub fn enqueue_fds(c: Connection, slots: &mut [u32], list: &[u32]) -> Next
     requires { ⌜ Slots.Sound (Slots.room (now slots) (c .counts)) ⌝ }
@@ -96,7 +88,7 @@ pub fn enqueue_fds(c: Connection, slots: &mut [u32], list: &[u32]) -> Next
         return Next::Refused(Refusal::NoRoom);
     }
     let next = descriptors::enqueue(slots, counts, list);
-    Next::State(counted(c, next))
+    Next::State(moved(c, c.window, next))
 }
 
 // The close list, whole. Refused by 8 for an output with too few places.
@@ -110,5 +102,5 @@ pub fn take_closed_fds(c: Connection, slots: &mut [u32], out: &mut [u32]) -> Clo
         return Closed::Refused(Refusal::OutShort);
     }
     let next = descriptors::take_closed(slots, counts, out);
-    Closed::Taken(n, counted(c, next))
+    Closed::Taken(n, moved(c, c.window, next))
 }

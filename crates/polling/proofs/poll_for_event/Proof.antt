@@ -20,8 +20,8 @@ returns c = event-short _ _ (c .before .before .before .before .before .before .
 take-requires : tie.Need-take-requires
 take-requires c κs = (event-within (c .before .before .before .before .before .before .before .before .before .before .before .args .c) _ (c .before .before .before .before .before .before .before .before .before .before .before .pre) (c .before .before .before .before .place .given .0 .0) (sym (c .before .before .before .before .place .given .1) ∙ c .before .before .before .before .before .before .find-event .ensures), search needs)
 
-left-requires : tie.Need-left-requires
-left-requires c κs = search needs
+moved-requires : tie.Need-moved-requires
+moved-requires c κs = search needs
 
 enum-told : tie.Need-enum-told
 enum-told c = search needs
@@ -33,7 +33,7 @@ same-length-3 : tie.Need-same-length-3
 same-length-3 c = search needs
 
 returns-2 : tie.Need-returns-2
-returns-2 c = event-taken _ _ (c .before .before .before .before .before .before .before .before .before .before .before .before .before .before .before .before .before .pre) (c .before .before .before .before .before .before .before .before .before .before .place .given .0 .0) (sym (c .before .before .before .before .before .before .before .before .before .before .place .given .1) ∙ c .before .before .before .before .before .before .before .before .before .before .before .before .find-event .ensures) _ (c .before .before .before .before .before .before .before .before .if1 .left) _ _ _ _ (c .before .before .before .before .before .take .ensures) (c .left .ensures)
+returns-2 c = event-taken _ _ (c .before .before .before .before .before .before .before .before .before .before .before .before .before .before .before .before .before .pre) (c .before .before .before .before .before .before .before .before .before .before .place .given .0 .0) (sym (c .before .before .before .before .before .before .before .before .before .before .place .given .1) ∙ c .before .before .before .before .before .before .before .before .before .before .before .before .find-event .ensures) _ (c .before .before .before .before .before .before .before .before .if1 .left) _ _ _ _ (c .before .before .before .before .before .take .ensures) (c .moved .ensures)
 
 same-length-4 : tie.Need-same-length-4
 same-length-4 c = search needs
@@ -50,7 +50,7 @@ poll-for-event-spec =
     same-length
     returns
     take-requires
-    left-requires
+    moved-requires
     enum-told
     same-length-2
     same-length-3

@@ -20,14 +20,14 @@ returns c = enqueue-full _ _ _ (omega (arith, c .before .before .before .before 
 enqueue-requires : tie.Need-enqueue-requires
 enqueue-requires c κs = search needs
 
-counted-requires : tie.Need-counted-requires
-counted-requires c κs = search needs
+moved-requires : tie.Need-moved-requires
+moved-requires c κs = search needs
 
 same-length : tie.Need-same-length
 same-length c = search needs
 
 returns-2 : tie.Need-returns-2
-returns-2 c = enqueue-done _ _ _ _ _ _ (omega (arith, c .before .before .before .before .before .before .before .before .before .before .before .pre .most)) (c .counted .ensures) (c .before .before .before .enqueue .ensures)
+returns-2 c = enqueue-done _ _ _ _ _ _ (omega (arith, c .before .before .before .before .before .before .before .before .before .before .before .pre .most)) (c .moved .ensures) (c .before .before .before .enqueue .ensures)
 
 pub enqueue-fds-spec : {M : Type 1} → statement M
 enqueue-fds-spec =
@@ -38,6 +38,6 @@ enqueue-fds-spec =
     sub-if1
     returns
     enqueue-requires
-    counted-requires
+    moved-requires
     same-length
     returns-2)

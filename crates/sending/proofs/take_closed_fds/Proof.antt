@@ -10,8 +10,8 @@ returns c = close-short _ _ _ (c .if1 .taken)
 take-closed-requires : tie.Need-take-closed-requires
 take-closed-requires c κs = search needs
 
-counted-requires : tie.Need-counted-requires
-counted-requires c κs = search needs
+moved-requires : tie.Need-moved-requires
+moved-requires c κs = search needs
 
 same-length : tie.Need-same-length
 same-length c = search needs
@@ -20,9 +20,9 @@ same-length-2 : tie.Need-same-length-2
 same-length-2 c = search needs
 
 returns-2 : tie.Need-returns-2
-returns-2 c = close-done _ _ _ _ _ _ _ (c .before .before .before .before .before .before .before .before .before .before .before .before .pre) (c .before .before .before .before .before .before .before .before .if1 .left) (c .counted .ensures) (c .before .before .before .before .before .take-closed .ensures)
+returns-2 c = close-done _ _ _ _ _ _ _ (c .before .before .before .before .before .before .before .before .before .before .before .before .pre) (c .before .before .before .before .before .before .before .before .if1 .left) (c .moved .ensures) (c .before .before .before .before .before .take-closed .ensures)
 
 pub take-closed-fds-spec : {M : Type 1} → statement M
 take-closed-fds-spec =
     tie.close
-    (tie.spec returns take-closed-requires counted-requires same-length same-length-2 returns-2)
+    (tie.spec returns take-closed-requires moved-requires same-length same-length-2 returns-2)
