@@ -55,7 +55,7 @@ second: $(ARCHIVE)
 
 # libFuzzer over the exports, by hand: the calls and checks of the fuzz test with its bytes as the choices. SECONDS says for
 # how long; what it finds interesting is kept in target/fuzz/corpus.
-FUZZ = $(addprefix tests/fuzz/,source.c lent.c sound.c report.c world.c client.c many.c leaves.c readers.c exports.c libfuzzer.c)
+FUZZ = $(filter-out %/main.c %/broken.c,$(wildcard tests/fuzz/*.c))
 SECONDS = 60
 
 fuzz: $(ARCHIVE)
