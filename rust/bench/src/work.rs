@@ -33,7 +33,7 @@ pub fn long_reply(size: usize, number: u64) -> Vec<u8> {
 
 /// Events and replies of all sizes up to 4 KiB, as a stream of so many bytes or a little more.
 pub fn mixed_stream(size: usize) -> Vec<u8> {
-    let mut chance = Chance(5);
+    let mut chance = Chance::new(5, "", 0);
     let (mut bytes, mut number) = (Vec::with_capacity(size + 4096), 0);
     while bytes.len() < size {
         number += chance.below(2);
@@ -249,7 +249,7 @@ pub struct Soak {
 
 impl Soak {
     pub fn new(calls: usize, seed: u64) -> Self {
-        let mut chance = Chance(seed);
+        let mut chance = Chance::new(seed, "", 0);
         let (mut steps, mut sent) = (Vec::with_capacity(calls + 64), 0);
         while steps.len() < calls {
             turn(&mut chance, &mut steps, &mut sent);
