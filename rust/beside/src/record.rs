@@ -3,6 +3,8 @@
 use std::fs;
 use std::path::Path;
 
+use xiengmado::engine::RECORD_HEADER;
+
 use crate::chance::Chance;
 use crate::oracle::Oracle;
 use crate::replay::{self, hex, Side, State};
@@ -91,9 +93,13 @@ impl Script {
         let used: usize = state
             .replies
             .iter()
-            .map(|reply| 16 + reply.1)
+            .map(|reply| RECORD_HEADER + reply.1)
             .sum::<usize>()
-            + state.events.iter().map(|event| 16 + event.1).sum::<usize>();
+            + state
+                .events
+                .iter()
+                .map(|event| RECORD_HEADER + event.1)
+                .sum::<usize>();
         if state.outstanding.len() > REQUESTS
             || used > STORE
             || fds + state.waiting.len() > DESCRIPTORS

@@ -3,6 +3,8 @@
 
 use std::fmt::Write;
 
+use xiengmado::engine::RECORD_HEADER;
+
 /// Why a side did not do what an op asks: `refused N`, or what the published Rust says.
 pub type Answer<T> = Result<T, String>;
 
@@ -209,7 +211,7 @@ fn state(s: &State) -> String {
     let mut used = 0;
     for (number, length) in &s.events {
         write!(text, " {number}:{length}").unwrap();
-        used += 16 + length;
+        used += RECORD_HEADER + length;
     }
     text += " replies";
     for (number, length, fds) in &s.replies {
@@ -217,7 +219,7 @@ fn state(s: &State) -> String {
         for fd in fds {
             write!(text, ":{fd}").unwrap();
         }
-        used += 16 + length;
+        used += RECORD_HEADER + length;
     }
     text + &list(" waiting", &s.waiting) + &format!(" used {used}")
 }
