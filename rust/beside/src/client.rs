@@ -112,6 +112,12 @@ impl Both {
         both
     }
 
+    /// The run is over: a fresh connection with these rooms takes its place.
+    pub fn restart(&mut self, requests: usize, store: usize) {
+        drop(std::mem::replace(self, Both::new(requests, store)));
+        let _ = take_closed();
+    }
+
     /// Compares all that is closed since the last call, and the whole state.
     pub fn compare(&mut self, what: &str) {
         self.calls += 1;

@@ -3,8 +3,6 @@
 use std::fs;
 use std::path::Path;
 
-use xiengmado::engine::RECORD_HEADER;
-
 use crate::chance::Chance;
 use crate::oracle::Oracle;
 use crate::replay::{self, hex, Side, State};
@@ -87,21 +85,17 @@ impl Script {
         }
     }
 
+    fn ops(&mut self, line: &str, times: u64) {
+        for _ in 0..times {
+            self.op(line);
+        }
+    }
+
     fn state(&self) -> State {
         let state = self.rust.state();
         let fds: usize = state.replies.iter().map(|reply| reply.2.len()).sum();
-        let used: usize = state
-            .replies
-            .iter()
-            .map(|reply| RECORD_HEADER + reply.1)
-            .sum::<usize>()
-            + state
-                .events
-                .iter()
-                .map(|event| RECORD_HEADER + event.1)
-                .sum::<usize>();
         if state.outstanding.len() > REQUESTS
-            || used > STORE
+            || state.used() > STORE
             || fds + state.waiting.len() > DESCRIPTORS
         {
             fail("a script asks for more room than there is");
@@ -270,32 +264,44 @@ fn numbers(s: &mut Script) {
 fn discards(s: &mut Script) {
     for _ in 0..36 {
         s.op("new");
-        for _ in 0..4 {
-            let kind = s.chance.pick(&["fds", "fds", "fds", "reply", "none"]);
-            s.op(&format!("send {kind}"));
-        }
+        ask(s);
         for number in 1..=4 {
-            if s.chance.once(6) {
-                let mode = s.chance.pick(&["reply", "both"]);
-                s.op(&format!("discard {number} {mode}"));
-            }
-            for _ in 0..s.chance.below(5) {
-                let count = 1 + s.chance.below(4) as u32;
-                s.fds(count);
-                let code = s.chance.pick(&[1, 1, 1, 0]);
-                s.intake(code, number, 32);
-            }
+            answered(s, number);
         }
         s.op("state");
-        for _ in 0..8 {
-            match s.chance.below(3) {
-                0 => s.poll(),
-                _ => s.discard(),
-            }
-        }
+        let_go(s);
         s.op("state");
-        for _ in 0..3 {
-            s.op("poll_event");
+        s.ops("poll_event", 3);
+    }
+}
+
+/// Four requests, most of them with descriptors.
+fn ask(s: &mut Script) {
+    for _ in 0..4 {
+        let kind = s.chance.pick(&["fds", "fds", "fds", "reply", "none"]);
+        s.op(&format!("send {kind}"));
+    }
+}
+
+/// Up to four answers to a request, which may have been discarded before.
+fn answered(s: &mut Script, number: u64) {
+    if s.chance.once(6) {
+        let mode = s.chance.pick(&["reply", "both"]);
+        s.op(&format!("discard {number} {mode}"));
+    }
+    for _ in 0..s.chance.below(5) {
+        let count = 1 + s.chance.below(4) as u32;
+        s.fds(count);
+        let code = s.chance.pick(&[1, 1, 1, 0]);
+        s.intake(code, number, 32);
+    }
+}
+
+fn let_go(s: &mut Script) {
+    for _ in 0..8 {
+        match s.chance.below(3) {
+            0 => s.poll(),
+            _ => s.discard(),
         }
     }
 }
@@ -424,17 +430,15 @@ fn ids(s: &mut Script) {
             _ => s.chance.pick(&[1, 2, 3, 6, 7]) << s.chance.below(20),
         };
         s.op(&format!("ids {base:#x} {mask:#x}"));
-        for _ in 0..s.chance.below(12) {
-            s.op("gen");
-        }
+        let few = s.chance.below(12);
+        s.ops("gen", few);
         let (start, count) = match s.chance.below(5) {
             0 => (0, 1),
             1 => (base, 0),
             _ => (s.chance.below(1 << 28), 1 + s.chance.below(6)),
         };
         s.op(&format!("range {start} {count}"));
-        for _ in 0..s.chance.below(9) {
-            s.op("gen");
-        }
+        let few = s.chance.below(9);
+        s.ops("gen", few);
     }
 }

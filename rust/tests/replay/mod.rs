@@ -38,6 +38,15 @@ pub struct State {
     pub waiting: Vec<u32>,
 }
 
+impl State {
+    /// How many bytes of the packet store are used.
+    pub fn used(&self) -> usize {
+        let events = self.events.iter().map(|event| event.1);
+        let replies = self.replies.iter().map(|reply| reply.1);
+        events.chain(replies).map(|size| RECORD_HEADER + size).sum()
+    }
+}
+
 /// The rooms that `new` names: K, S and whether the order is little.
 pub type Rooms = Option<(usize, usize, bool)>;
 
@@ -208,20 +217,15 @@ fn state(s: &State) -> String {
         write!(text, " {}{}", run.len(), run[0].letter).unwrap();
     }
     text += " events";
-    let mut used = 0;
     for (number, length) in &s.events {
         write!(text, " {number}:{length}").unwrap();
-        used += RECORD_HEADER + length;
     }
     text += " replies";
     for (number, length, fds) in &s.replies {
-        write!(text, " {number}:{length}").unwrap();
-        for fd in fds {
-            write!(text, ":{fd}").unwrap();
-        }
-        used += RECORD_HEADER + length;
+        let fds: String = fds.iter().map(|fd| format!(":{fd}")).collect();
+        write!(text, " {number}:{length}{fds}").unwrap();
     }
-    text + &list(" waiting", &s.waiting) + &format!(" used {used}")
+    text + &list(" waiting", &s.waiting) + &format!(" used {}", s.used())
 }
 
 fn reader(words: &[&str], side: &mut dyn Side) -> Option<Answer<String>> {
