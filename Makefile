@@ -1,5 +1,8 @@
 # The commands of the README, and the benchmark of docs/BENCH.md.
-.PHONY: run test bench bench-rooms bench-beside bench-counts library beside record second fuzz house
+.PHONY: run test bench bench-rooms bench-beside bench-counts library published beside record second fuzz house
+
+# The folder of the published Rust's files, with connection/mod.rs in it: for bench, beside and record.
+RUST ?= $(XIENGMADO_RUST)
 
 # Prove the program `packets` and what it stands on, and run it on bytes that an X server sent.
 run:
@@ -36,13 +39,16 @@ library: $(ARCHIVE)
 $(ARCHIVE): $(wildcard crates/*/src/*.rt crates/*/specs/*.antt)
 	rt staticlib xiengmado
 
-# The engine beside the published Rust, call by call: RUST is the folder of its files (with connection/mod.rs in it),
-# ARGS are a seed and how many runs of each kind, or 'long'.
-beside: $(ARCHIVE)
+# Stops at once where those files are not there.
+published:
+	@test -f "$(RUST)/connection/mod.rs" || { echo "RUST names no folder with connection/mod.rs"; exit 1; }
+
+# The engine beside the published Rust, call by call: ARGS are a seed and how many runs of each kind, or 'long'.
+beside: published $(ARCHIVE)
 	cd rust && XIENGMADO_RUST="$(abspath $(RUST))" cargo run --offline --quiet --profile beside -p beside -- $(ARGS)
 
 # What the published Rust in the folder RUST answers to the fixed runs of tests/recorded, which the tests replay.
-record: $(ARCHIVE)
+record: published $(ARCHIVE)
 	cd rust && XIENGMADO_RUST="$(abspath $(RUST))" cargo run --offline --quiet --profile beside -p beside -- record ../tests/recorded
 
 # The readings that the published files leave out, beside those of x11rb 0.8.1 as Debian's librust-x11rb-dev has it: ARGS are a
@@ -68,7 +74,7 @@ house:
 	python3 docs/house.py
 
 # ARGS is a part of the names of rows, for some of them alone.
-bench-beside: $(ARCHIVE)
+bench-beside: published $(ARCHIVE)
 	rt check packets
 	cd rust && XIENGMADO_RUST="$(abspath $(RUST))" cargo build --offline --quiet --release -p bench
 	rust/target/release/bench docs/bench.svg $(ARGS)
