@@ -1,5 +1,8 @@
 # The commands of the README, and the benchmark of docs/BENCH.md.
-.PHONY: run test bench bench-rooms bench-beside bench-counts library beside record second fuzz house
+.PHONY: run test bench bench-rooms bench-beside bench-counts library published beside record second fuzz house
+
+# The folder of the published Rust's files, with connection/mod.rs in it: for bench, beside and record.
+RUST ?= $(XIENGMADO_RUST)
 
 # Prove the program `packets` and what it stands on, and run it on bytes that an X server sent.
 run:
@@ -36,13 +39,16 @@ library: $(ARCHIVE)
 $(ARCHIVE): $(wildcard crates/*/src/*.rt crates/*/specs/*.antt)
 	rt staticlib xiengmado
 
-# The engine beside the published Rust, call by call: RUST is the folder of its files (with connection/mod.rs in it),
-# ARGS are a seed and how many runs of each kind, or 'long'.
-beside: $(ARCHIVE)
+# Stops at once where those files are not there.
+published:
+	@test -f "$(RUST)/connection/mod.rs" || { echo "RUST names no folder with connection/mod.rs"; exit 1; }
+
+# The engine beside the published Rust, call by call: ARGS are a seed and how many runs of each kind, or 'long'.
+beside: published $(ARCHIVE)
 	cd rust && XIENGMADO_RUST="$(abspath $(RUST))" cargo run --offline --quiet --profile beside -p beside -- $(ARGS)
 
 # What the published Rust in the folder RUST answers to the fixed runs of tests/recorded, which the tests replay.
-record: $(ARCHIVE)
+record: published $(ARCHIVE)
 	cd rust && XIENGMADO_RUST="$(abspath $(RUST))" cargo run --offline --quiet --profile beside -p beside -- record ../tests/recorded
 
 # The readings that the published files leave out, beside those of x11rb 0.8.1 as Debian's librust-x11rb-dev has it: ARGS are a
@@ -55,7 +61,7 @@ second: $(ARCHIVE)
 
 # libFuzzer over the exports, by hand: the calls and checks of the fuzz test with its bytes as the choices. SECONDS says for
 # how long; what it finds interesting is kept in target/fuzz/corpus.
-FUZZ = $(addprefix tests/fuzz/,source.c lent.c sound.c report.c world.c client.c many.c leaves.c readers.c exports.c libfuzzer.c)
+FUZZ = $(filter-out %/main.c %/broken.c,$(wildcard tests/fuzz/*.c))
 SECONDS = 60
 
 fuzz: $(ARCHIVE)
@@ -68,7 +74,7 @@ house:
 	python3 docs/house.py
 
 # ARGS is a part of the names of rows, for some of them alone.
-bench-beside: $(ARCHIVE)
+bench-beside: published $(ARCHIVE)
 	rt check packets
 	cd rust && XIENGMADO_RUST="$(abspath $(RUST))" cargo build --offline --quiet --release -p bench
 	rust/target/release/bench docs/bench.svg $(ARGS)

@@ -68,27 +68,50 @@ def wrapped(text, most=27):
     return lines
 
 
+def floors_drawn(bands, flip):
+    """A band for each floor, with its title."""
+    for number, title, y, high in bands:
+        yield f'<rect x="4" y="{flip(y + high):.0f}" width="{WIDTH - 8}" height="{high}" fill="#fafafa" stroke="#ddd"/>'
+        for i, line in enumerate(wrapped(f"{number}: {title}")):
+            yield f'<text x="12" y="{flip(y + high) + 18 + 14 * i:.0f}" fill="#444">{line}</text>'
+
+
+def lines_drawn(uses, at, flip):
+    """A line from each crate to those that it uses."""
+    for name, other in ((name, other) for name, below in direct(uses).items() for other in below):
+        (x, y), (u, v) = at[name], at[other]
+        yield f'<line x1="{x:.0f}" y1="{flip(y):.0f}" x2="{u:.0f}" y2="{flip(v):.0f}" stroke="#bbb"/>'
+
+
+def boxes_drawn(at, flip):
+    """A box for each crate, in the colour of its kind."""
+    for name, (x, y) in at.items():
+        wide = 14 + 7.2 * len(name)
+        yield f'<rect x="{x - wide / 2:.0f}" y="{flip(y) - BOX / 2:.0f}" width="{wide:.0f}" height="{BOX}" rx="5" fill="{COLOURS[kind(name)]}" stroke="#666"/>'
+        yield f'<text x="{x:.0f}" y="{flip(y) + 4:.0f}" text-anchor="middle">{name}</text>'
+
+
+def colours_drawn():
+    """What the colours say."""
+    for i, (k, word) in enumerate(WORDS.items()):
+        yield f'<rect x="{LEFT + 220 * i}" y="10" width="16" height="16" fill="{COLOURS[k]}" stroke="#666"/><text x="{LEFT + 22 + 220 * i}" y="23">{word}</text>'
+
+
 def draw():
     floors = plan()
     at, bands, height = places(floors)
     flip = lambda y: height - y + 40
-    out = [f'<svg xmlns="http://www.w3.org/2000/svg" width="{WIDTH}" height="{height + 60:.0f}" font-family="sans-serif" font-size="12">', '<rect width="100%" height="100%" fill="white"/>']
-    for number, title, y, high in bands:
-        out.append(f'<rect x="4" y="{flip(y + high):.0f}" width="{WIDTH - 8}" height="{high}" fill="#fafafa" stroke="#ddd"/>')
-        for i, line in enumerate(wrapped(f"{number}: {title}")):
-            out.append(f'<text x="12" y="{flip(y + high) + 18 + 14 * i:.0f}" fill="#444">{line}</text>')
     uses = {name: us for _, crates in floors.values() for name, us in crates.items()}
-    for name, below in direct(uses).items():
-        for other in below:
-            (x, y), (u, v) = at[name], at[other]
-            out.append(f'<line x1="{x:.0f}" y1="{flip(y):.0f}" x2="{u:.0f}" y2="{flip(v):.0f}" stroke="#bbb"/>')
-    for name, (x, y) in at.items():
-        wide = 14 + 7.2 * len(name)
-        out.append(f'<rect x="{x - wide / 2:.0f}" y="{flip(y) - BOX / 2:.0f}" width="{wide:.0f}" height="{BOX}" rx="5" fill="{COLOURS[kind(name)]}" stroke="#666"/>')
-        out.append(f'<text x="{x:.0f}" y="{flip(y) + 4:.0f}" text-anchor="middle">{name}</text>')
-    for i, (k, word) in enumerate(WORDS.items()):
-        out.append(f'<rect x="{LEFT + 220 * i}" y="10" width="16" height="16" fill="{COLOURS[k]}" stroke="#666"/><text x="{LEFT + 22 + 220 * i}" y="23">{word}</text>')
-    return "\n".join(out + ["</svg>"]) + "\n"
+    out = [
+        f'<svg xmlns="http://www.w3.org/2000/svg" width="{WIDTH}" height="{height + 60:.0f}" font-family="sans-serif" font-size="12">',
+        '<rect width="100%" height="100%" fill="white"/>',
+        *floors_drawn(bands, flip),
+        *lines_drawn(uses, at, flip),
+        *boxes_drawn(at, flip),
+        *colours_drawn(),
+        "</svg>",
+    ]
+    return "\n".join(out) + "\n"
 
 
 if __name__ == "__main__":

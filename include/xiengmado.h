@@ -67,6 +67,9 @@ enum {
     XM_MOST_PACKET = 65536
 };
 
+/* The bytes of a held record in front of its packet: what a held packet costs beside its own. */
+enum { XM_RECORD_HEADER = 16 };
+
 /* Where the numbers of a state stand: of a connection (the last four are 0), */
 enum {
     XM_STATE_ORDER = 0,
@@ -397,8 +400,8 @@ uint32_t xm_request_at(const uint8_t *requests, size_t requests_len, uint64_t nu
 /*
  * The record at an index of the packet store, the window ending at end: XM_REPLIES or XM_EVENTS, its
  * number, the length of its packet and its descriptors. The first record stands at XM_STATE_START, its
- * packet 16 bytes behind it, and the next record where the packet ends. Refused by 9 where no whole
- * record stands there.
+ * packet XM_RECORD_HEADER bytes behind it, and the next record where the packet ends. Refused by 9 where
+ * no whole record stands there.
  */
 uint32_t xm_record_at(const uint8_t *store, size_t store_len, size_t at, size_t end, uint8_t *kind,
                       uint64_t *number, size_t *size, uint8_t *count);

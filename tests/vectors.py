@@ -10,6 +10,7 @@ import struct
 import sys
 
 SUCCESS = "HHHIIIIHHBBBBBBBBxxxx"
+ORDERS, NO_ORDERS = (b"l", b"B"), (b"\0", b"L", b"b")
 
 
 def mark(order):
@@ -85,40 +86,69 @@ def handshake(order, room, data):
     return "handshake " + " ".join([signs] + [str(w) for w in words] + [text.hex()])
 
 
-def replies(order):
-    """The replies of a byte order, each whole."""
+def whole(order):
+    """A success, of which others are made."""
+    return success(order, b"vendor", b"formats.")
+
+
+def successes(order):
+    """Successes, whole and with a length that leaves out what is behind it."""
     yield success(order, b"The X.Org Foundation", bytes(range(16)))
     yield success(order, b"seven c", b"")
     yield success(order, b"", b"")
-    whole = success(order, b"vendor", b"formats.")
-    for length in range(8, len(whole) + 1, 4):
-        yield shortened(order, whole, length)
+    for length in range(8, len(whole(order)) + 1, 4):
+        yield shortened(order, whole(order), length)
+
+
+def failures(order):
+    """Failures, whose reason ends before the reply does, with it, or passes its end; and further authentication."""
     for length in range(7):
         yield failed(order, length, b"why?")
     yield failed(order, 0, b"")
     yield failed(order, 1, b"")
     yield authenticate(order, b"")
     yield authenticate(order, b"more, please")
+
+
+def strange(order):
+    """Replies with a status that none has."""
     for status in (3, 128, 255):
-        yield bytes([status]) + whole[1:]
+        yield bytes([status]) + whole(order)[1:]
+
+
+def recorded(order):
+    """Replies of a real server."""
     for name in ("", "-failed"):
         yield open("tests/setups/%s%s.setup" % (order.decode(), name), "rb").read()
 
 
+def cut(order):
+    """A success up to every length."""
+    reply = whole(order)
+    yield from (reply[:count] for count in range(len(reply)))
+
+
+def replies(order):
+    """The replies of a byte order, in a room that is large enough."""
+    for kind in (successes, failures, strange, recorded, cut):
+        yield from ((order, 65536, reply) for reply in kind(order))
+
+
+def tight(order):
+    """Rooms around what a reply needs, and a byte too many."""
+    reply = whole(order)
+    for room in (0, 7, 8, len(reply) - 1, len(reply)):
+        yield order, room, reply
+    yield order, 8, failed(order, 0, b"")
+    yield order, 65536, reply + b"\0"
+
+
 def handshakes():
-    for order in (b"l", b"B"):
-        for reply in replies(order):
-            yield order, 65536, reply
-        whole = success(order, b"vendor", b"formats.")
-        for count in range(len(whole)):
-            yield order, 65536, whole[:count]
-        for room in (0, 7, 8, len(whole) - 1, len(whole)):
-            yield order, room, whole
-        yield order, 8, failed(order, 0, b"")
-        yield order, 65536, whole + b"\0"
-    for order in (b"\0", b"L", b"b"):
-        yield order, 64, whole
-    yield b"L", 7, whole
+    for order in ORDERS:
+        yield from replies(order)
+        yield from tight(order)
+    yield from ((order, 64, whole(b"B")) for order in NO_ORDERS)
+    yield b"L", 7, whole(b"B")
 
 
 # ---- readers
@@ -154,21 +184,40 @@ def packet(order, code, field, more=0):
     return head + bytes(range(24)) + bytes((3 * i) % 256 for i in range(more))
 
 
+# Code, field of the length and bytes behind the 32: of packets that have more bytes, and of others.
+KINDS = ((1, 0, 0), (1, 1, 4), (35, 2, 8), (163, 2, 8), (129, 5, 0), (0, 9, 0), (2, 1 << 31, 0))
+
+
+def run(order):
+    """A packet of each kind."""
+    return b"".join(packet(order, *kind) for kind in KINDS)
+
+
+def rooms(order):
+    """The run in a large room, in one that is just enough, and in others."""
+    for room in (65536, 40, 0, 31, 32, 35, 36, 39):
+        yield order, room, run(order)
+
+
+def starts(order):
+    """The run's first packet up to every length."""
+    for count in range(33):
+        yield order, 64, run(order)[:count]
+
+
+def longest(order):
+    """Replies around 65,536 bytes and beyond."""
+    for field in (16376, 16377, 1 << 30, (1 << 32) - 1):
+        yield order, 65536, packet(order, 1, field)
+
+
 def readers():
-    for order in (b"l", b"B"):
-        run = packet(order, 1, 0) + packet(order, 1, 1, 4) + packet(order, 35, 2, 8)
-        run += packet(order, 163, 2, 8) + packet(order, 129, 5) + packet(order, 0, 9) + packet(order, 2, 1 << 31)
-        yield order, 65536, run
-        yield order, 40, run
-        for room in (0, 31, 32, 35, 36, 39):
-            yield order, room, run
-        for count in range(33):
-            yield order, 64, run[:count]
-        for field in (16376, 16377, 1 << 30, (1 << 32) - 1):
-            yield order, 65536, packet(order, 1, field)
-    for order in (b"\0", b"L", b"b"):
-        yield order, 64, run
-    yield b"L", 31, run
+    for order in ORDERS:
+        yield from rooms(order)
+        yield from starts(order)
+        yield from longest(order)
+    yield from ((order, 64, run(b"B")) for order in NO_ORDERS)
+    yield b"L", 31, run(b"B")
     yield b"l", 65536, open("tests/streams/xeyes.bin", "rb").read()
 
 
@@ -181,4 +230,6 @@ def main(crate):
 
 
 if __name__ == "__main__":
-    main(*sys.argv[1:])
+    if len(sys.argv) != 2:
+        sys.exit(__doc__)
+    main(sys.argv[1])

@@ -54,7 +54,10 @@ impl Connect {
     #[inline]
     pub fn buffer(&mut self) -> &mut [u8] {
         // The two numbers that the engine answers for a whole handshake, without the call.
-        let (start, end) = (self.state[1] as usize, self.state[2] as usize);
+        let (start, end) = (
+            self.state[ffi::READER_FILLED] as usize,
+            self.state[ffi::READER_TARGET] as usize,
+        );
         debug_assert_eq!(
             ffi::connect_buffer(&self.state, &self.buffer),
             Ok((start, end - start))
@@ -69,7 +72,7 @@ impl Connect {
 
     /// The bytes that were filled so far.
     pub fn filled(&self) -> &[u8] {
-        &self.buffer[..self.state[1] as usize]
+        &self.buffer[..self.state[ffi::READER_FILLED] as usize]
     }
 
     /// So many bytes of the part were filled. Says whether the reply is complete; panics for more
@@ -107,8 +110,8 @@ impl Connect {
             Ok(status) => status,
             Err(Refusal::Incomplete) => {
                 return Err(ConnectError::Incomplete {
-                    expected: self.state[2] as usize,
-                    received: self.state[1] as usize,
+                    expected: self.state[ffi::READER_TARGET] as usize,
+                    received: self.state[ffi::READER_FILLED] as usize,
                 })
             }
             Err(refusal) => return Err(ParseError(refusal).into()),
@@ -116,9 +119,9 @@ impl Connect {
         match status {
             0 => Err(ConnectError::SetupFailed(SetupFailed {
                 status,
-                protocol_major_version: fields[0] as u16,
-                protocol_minor_version: fields[1] as u16,
-                length: fields[2] as u16,
+                protocol_major_version: fields[ffi::SETUP_MAJOR] as u16,
+                protocol_minor_version: fields[ffi::SETUP_MINOR] as u16,
+                length: fields[ffi::SETUP_LENGTH] as u16,
                 reason: self.reason(),
             })),
             1 => Ok(self.success(&fields)),
@@ -132,23 +135,23 @@ impl Connect {
     fn success(&self, fields: &[u32; ffi::SETUP_FIELDS]) -> Setup {
         Setup {
             status: 1,
-            protocol_major_version: fields[0] as u16,
-            protocol_minor_version: fields[1] as u16,
-            length: fields[2] as u16,
-            release_number: fields[3],
-            resource_id_base: fields[4],
-            resource_id_mask: fields[5],
-            motion_buffer_size: fields[6],
-            maximum_request_length: fields[8] as u16,
-            image_byte_order: fields[11] as u8,
-            bitmap_format_bit_order: fields[12] as u8,
-            bitmap_format_scanline_unit: fields[13] as u8,
-            bitmap_format_scanline_pad: fields[14] as u8,
-            min_keycode: fields[15] as u8,
-            max_keycode: fields[16] as u8,
+            protocol_major_version: fields[ffi::SETUP_MAJOR] as u16,
+            protocol_minor_version: fields[ffi::SETUP_MINOR] as u16,
+            length: fields[ffi::SETUP_LENGTH] as u16,
+            release_number: fields[ffi::SETUP_RELEASE],
+            resource_id_base: fields[ffi::SETUP_BASE],
+            resource_id_mask: fields[ffi::SETUP_MASK],
+            motion_buffer_size: fields[ffi::SETUP_MOTION],
+            maximum_request_length: fields[ffi::SETUP_REQUEST] as u16,
+            image_byte_order: fields[ffi::SETUP_IMAGE] as u8,
+            bitmap_format_bit_order: fields[ffi::SETUP_BITMAP] as u8,
+            bitmap_format_scanline_unit: fields[ffi::SETUP_UNIT] as u8,
+            bitmap_format_scanline_pad: fields[ffi::SETUP_PAD] as u8,
+            min_keycode: fields[ffi::SETUP_FIRST] as u8,
+            max_keycode: fields[ffi::SETUP_LAST] as u8,
             vendor: self.vendor(),
-            pixmap_formats_len: fields[10] as u8,
-            roots_len: fields[9] as u8,
+            pixmap_formats_len: fields[ffi::SETUP_FORMATS] as u8,
+            roots_len: fields[ffi::SETUP_ROOTS] as u8,
         }
     }
 

@@ -9,8 +9,8 @@ use crate::{ByteOrder, DiscardMode, SequenceNumber};
 /// The most bytes of a packet.
 const MOST_PACKET: usize = 65_536;
 
-/// The bytes of a record in front of its packet.
-const HEADER: usize = 16;
+/// The bytes of a held record in front of its packet.
+pub const RECORD_HEADER: usize = 16;
 
 /// A packet and its descriptors.
 pub type PacketWithFds = (Vec<u8>, Vec<u32>);
@@ -133,8 +133,8 @@ pub struct Engine {
 
 impl Engine {
     /// A fresh connection with room for so many outstanding requests (1 to 65,536) and a packet store
-    /// of so many bytes (48 to 16,777,216), of which a held packet takes 16 and its length. Refused
-    /// by 9.
+    /// of so many bytes (48 to 16,777,216), of which a held packet takes [`RECORD_HEADER`] and its
+    /// length. Refused by 9.
     pub fn new(order: ByteOrder, requests: usize, store: usize) -> Result<Self, Refusal> {
         let mut engine = Engine {
             state: [0; ffi::CONNECTION_SLOTS],
@@ -160,7 +160,7 @@ impl Engine {
         number: SequenceNumber,
     ) -> Result<Self, Refusal> {
         let mut engine = Engine::new(order, requests, store)?;
-        engine.state[3..7].fill(number);
+        engine.state[ffi::STATE_WRITTEN..=ffi::STATE_FIRST].fill(number);
         engine.prepare_check_for_reply_or_error(number)?;
         Ok(engine)
     }
@@ -335,27 +335,27 @@ impl Engine {
 
     /// The number of the last request that was written.
     pub fn last_sequence_written(&self) -> SequenceNumber {
-        self.state[3]
+        self.state[ffi::STATE_WRITTEN]
     }
 
     /// The number of the next reply that is expected.
     pub fn next_reply_expected(&self) -> SequenceNumber {
-        self.state[4]
+        self.state[ffi::STATE_EXPECTED]
     }
 
     /// The number of the last packet that was read.
     pub fn last_sequence_read(&self) -> SequenceNumber {
-        self.state[5]
+        self.state[ffi::STATE_READ]
     }
 
     /// How many requests are outstanding.
     pub fn outstanding_len(&self) -> usize {
-        (self.state[3] + 1 - self.state[6]) as usize
+        (self.state[ffi::STATE_WRITTEN] + 1 - self.state[ffi::STATE_FIRST]) as usize
     }
 
     /// The outstanding requests, oldest first.
     pub fn outstanding(&self) -> impl Iterator<Item = Request> + '_ {
-        (self.state[6]..=self.state[3]).map(|number| {
+        (self.state[ffi::STATE_FIRST]..=self.state[ffi::STATE_WRITTEN]).map(|number| {
             let (fds, mode) = ffi::request_at(&self.rooms.requests, number)
                 .expect("the request room has its length");
             Request {
@@ -372,8 +372,8 @@ impl Engine {
 
     /// The held packets in order of arrival, replies and events together.
     pub fn records(&self) -> impl Iterator<Item = Record<'_>> + '_ {
-        let end = self.state[8] as usize;
-        let mut at = self.state[7] as usize;
+        let end = self.state[ffi::STATE_END] as usize;
+        let mut at = self.state[ffi::STATE_START] as usize;
         let mut fd = self.closing().len();
         std::iter::from_fn(move || {
             let (kind, number, size, count) = ffi::record_at(&self.rooms.store, at, end).ok()?;
@@ -384,10 +384,10 @@ impl Engine {
                     Place::Events
                 },
                 number,
-                packet: &self.rooms.store[at + HEADER..at + HEADER + size],
+                packet: &self.rooms.store[at + RECORD_HEADER..at + RECORD_HEADER + size],
                 fds: &self.rooms.slots[fd..fd + usize::from(count)],
             };
-            at += HEADER + size;
+            at += RECORD_HEADER + size;
             fd += usize::from(count);
             Some(record)
         })
@@ -395,24 +395,26 @@ impl Engine {
 
     /// How many bytes of the packet store are used.
     pub fn used(&self) -> usize {
-        (self.state[8] - self.state[7]) as usize
+        (self.state[ffi::STATE_END] - self.state[ffi::STATE_START]) as usize
     }
 
     /// The descriptors to be closed.
     #[inline]
     pub fn closing(&self) -> &[u32] {
-        &self.rooms.slots[..self.state[9] as usize]
+        &self.rooms.slots[..self.state[ffi::STATE_CLOSED] as usize]
     }
 
     /// The descriptors that wait for a reply.
     pub fn waiting(&self) -> &[u32] {
-        let start = (self.state[9] + self.state[10]) as usize;
-        &self.rooms.slots[start..start + self.state[11] as usize]
+        let start = (self.state[ffi::STATE_CLOSED] + self.state[ffi::STATE_HELD]) as usize;
+        &self.rooms.slots[start..start + self.state[ffi::STATE_WAITING] as usize]
     }
 
     /// All descriptors inside: those to be closed, those held, those that wait.
     pub fn inside(&self) -> &[u32] {
-        let count = self.state[9] + self.state[10] + self.state[11];
+        let count = self.state[ffi::STATE_CLOSED]
+            + self.state[ffi::STATE_HELD]
+            + self.state[ffi::STATE_WAITING];
         &self.rooms.slots[..count as usize]
     }
 }

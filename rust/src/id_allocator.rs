@@ -48,7 +48,11 @@ impl IdAllocator {
 
     /// The next id, the last and the step.
     pub fn numbers(&self) -> (u64, u64, u64) {
-        (self.state[0], self.state[1], self.state[2])
+        (
+            self.state[ffi::IDS_NEXT],
+            self.state[ffi::IDS_LAST],
+            self.state[ffi::IDS_STEP],
+        )
     }
 }
 

@@ -39,7 +39,10 @@ impl PacketReader {
     #[inline]
     pub fn buffer(&mut self) -> &mut [u8] {
         // The two numbers that the engine answers for a whole reader, without the call.
-        let (start, end) = (self.state[1] as usize, self.state[2] as usize);
+        let (start, end) = (
+            self.state[ffi::READER_FILLED] as usize,
+            self.state[ffi::READER_TARGET] as usize,
+        );
         debug_assert_eq!(
             ffi::reader_buffer(&self.state, &self.buffer),
             Ok((start, end - start))
@@ -54,7 +57,7 @@ impl PacketReader {
 
     /// The bytes that were filled so far.
     pub fn filled(&self) -> &[u8] {
-        &self.buffer[..self.state[1] as usize]
+        &self.buffer[..self.state[ffi::READER_FILLED] as usize]
     }
 
     /// So many bytes of the part were filled. Answers the packet once it is whole; panics for more

@@ -9,7 +9,7 @@ import sys
 
 ROOT = pathlib.Path(__file__).resolve().parents[2]
 HERE, WORK = ROOT / "tests/fuzz", ROOT / "target/fuzz/edits"
-OTHERS = "source lent report world client leaves readers exports main".split()
+OTHERS = sorted(p.stem for p in HERE.glob("*.c") if p.stem not in ("sound", "broken", "libfuzzer"))
 
 EDITS = [
     ('c->state_len == SLOTS && ', 'c->state_len >= SLOTS && '),

@@ -27,10 +27,18 @@ static struct client seen(const struct world *w) {
 
 /* ---- spoiling a trial ---- */
 
+/* Where a record has the length of its packet: a number of four bytes. */
+enum { LENGTH_AT = 8, LENGTH_BYTES = 4 };
+
+/* The length of the packet of a record at home. */
+static uint64_t record_length(size_t at) {
+    return number_at(home.store + at + LENGTH_AT, LENGTH_BYTES, true);
+}
+
 size_t some_record(void) {
     size_t at = home.state[XM_STATE_START], end = home.state[XM_STATE_END];
     for (uint64_t skip = below(8); skip > 0 && at < end; skip--) {
-        size_t next = at + 16 + number_at(home.store + at + 8, 4, true);
+        size_t next = at + XM_RECORD_HEADER + record_length(at);
         if (next >= end) break;
         at = next;
     }
@@ -101,17 +109,17 @@ static void spoil_request(void) {
 }
 
 static void spoil_record(void) {
-    size_t at = some_record() + below(16);
+    size_t at = some_record() + below(XM_RECORD_HEADER);
     if (at < trial.store_len) spoil_byte(&trial.store[at]);
 }
 
 /* The last record a byte longer or shorter, and the window with it: sound, but at the edges. */
 static void stretch(void) {
     uint64_t at = home.state[XM_STATE_START], end = home.state[XM_STATE_END], last = at;
-    for (; at < end; at += 16 + number_at(home.store + at + 8, 4, true)) last = at;
+    for (; at < end; at += XM_RECORD_HEADER + record_length(at)) last = at;
     if (at == last) return;
-    uint64_t longer = once(2) ? 1 : UINT64_MAX, length = number_at(home.store + last + 8, 4, true) + longer;
-    for (int i = 0; i < 4; i++) trial.store[last + 8 + i] = (uint8_t)(length >> 8 * i);
+    uint64_t longer = once(2) ? 1 : UINT64_MAX, length = record_length(last) + longer;
+    for (int i = 0; i < LENGTH_BYTES; i++) trial.store[last + LENGTH_AT + i] = (uint8_t)(length >> 8 * i);
     trial.state[XM_STATE_END] += longer;
 }
 

@@ -5,7 +5,7 @@
                                NAME.bin, all its bytes after that
 
 It serves one client at display :NEW, passes every byte on to display :SERVER, and ends with the
-client. How the streams were made: see the README beside it.
+client. How the streams were made: tests/README.md.
 """
 import os
 import selectors
@@ -59,4 +59,6 @@ def main(new, server, name):
 
 
 if __name__ == "__main__":
+    if len(sys.argv) != 4:
+        sys.exit(__doc__)
     main(*sys.argv[1:])

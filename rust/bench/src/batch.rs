@@ -1,10 +1,10 @@
 //! Rows of the calls that make many steps behind one test: `send_requests`, `enqueue_packets` and
 //! `poll_for_events`. The Rust has no such calls: beside them it makes its single ones, and takes the
-//! bytes through its packet reader. Built with the feature `batch`, once the library exports them.
+//! bytes through its packet reader.
 
 use std::time::Duration;
 
-use crate::exports;
+use crate::exports::Batched;
 use crate::measure::{self, Row, RUST};
 use crate::sides::{Blind, Client, Frames, Log, See};
 use crate::work::{packet, timed};
@@ -84,7 +84,7 @@ fn burst<C: Many>(c: &mut C, on: &mut u64, events: usize, see: &mut impl See) ->
 /// One row: the sides agree, and are timed by turns.
 macro_rules! row {
     ($name:expr, $per:expr, $work:ident, $more:expr) => {{
-        let (mut rust, mut ours) = (Rust::fresh(), exports::Connection::many());
+        let (mut rust, mut ours) = (Rust::fresh(), Batched::fresh());
         let (mut at, mut on) = (0, 0);
         let mut logs = [Log::default(), Log::default()];
         $work(&mut rust, &mut at, $more, &mut logs[0]);

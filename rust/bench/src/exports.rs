@@ -3,6 +3,7 @@
 
 use xiengmado::exports::*;
 
+use crate::batch::Many;
 use crate::sides::{Client, Frames, Handshake, Ids, See};
 
 const LITTLE: u8 = b'l';
@@ -278,135 +279,72 @@ impl Client for Connection {
     }
 }
 
-#[cfg(feature = "batch")]
-mod many {
-    use super::*;
-    use crate::batch::Many;
+/// A connection with the output of `poll_for_events`: packets, and two marks for each. It takes
+/// all that can be held, so that one call hands all events out.
+pub struct Batched {
+    connection: Connection,
+    out: Box<[u8]>,
+    marks: Box<[u64]>,
+}
 
-    extern "C" {
-        fn xm_send_requests(
-            state: *mut u64,
-            state_len: usize,
-            requests: *mut u8,
-            requests_len: usize,
-            store: *const u8,
-            store_len: usize,
-            slots: *const u32,
-            slots_len: usize,
-            kinds: *const u8,
-            kinds_len: usize,
-            count: &mut usize,
-            number: &mut u64,
-            stop: &mut u32,
-        ) -> u32;
-        fn xm_enqueue_packets(
-            state: *mut u64,
-            state_len: usize,
-            requests: *const u8,
-            requests_len: usize,
-            store: *mut u8,
-            store_len: usize,
-            slots: *mut u32,
-            slots_len: usize,
-            bytes: *const u8,
-            bytes_len: usize,
-            taken: &mut usize,
-            packets: &mut usize,
-            halt: &mut u32,
-        ) -> u32;
-        fn xm_poll_for_events(
-            state: *mut u64,
-            state_len: usize,
-            requests: *const u8,
-            requests_len: usize,
-            store: *mut u8,
-            store_len: usize,
-            slots: *const u32,
-            slots_len: usize,
-            out: *mut u8,
-            out_len: usize,
-            marks: *mut u64,
-            marks_len: usize,
-            events: &mut usize,
-            bytes: &mut usize,
-            stop: &mut u32,
-        ) -> u32;
-    }
-
-    /// A connection with the output of `poll_for_events`: packets, and two marks for each. It takes
-    /// all that can be held, so that one call hands all events out.
-    pub struct Batched {
-        connection: Connection,
-        out: Box<[u8]>,
-        marks: Box<[u64]>,
-    }
-
-    impl Connection {
-        /// The connection for the calls that make many steps.
-        pub fn many() -> Batched {
-            Many::fresh()
+impl Many for Batched {
+    fn fresh() -> Self {
+        Batched {
+            connection: Client::fresh(),
+            out: room(16_777_216),
+            marks: room(1 << 20),
         }
     }
 
-    impl Many for Batched {
-        fn fresh() -> Self {
-            Batched {
-                connection: Client::fresh(),
-                out: room(16_777_216),
-                marks: room(1 << 20),
-            }
-        }
+    fn sends(&mut self, kinds: &[u8], see: &mut impl See) {
+        let (mut sent, mut number, mut stop) = (0, 0, 0);
+        let c = &mut self.connection;
+        done(call!(c.xm_send_requests(
+            kinds.as_ptr(),
+            kinds.len(),
+            &mut sent,
+            &mut number,
+            &mut stop
+        )));
+        assert!(sent == kinds.len(), "all were sent");
+        see.number(number);
+    }
 
-        fn sends(&mut self, kinds: &[u8], see: &mut impl See) {
-            let (mut sent, mut number, mut stop) = (0, 0, 0);
+    fn feed(&mut self, bytes: &[u8]) {
+        let (mut taken, mut packets, mut halt) = (0, 0, 0);
+        let c = &mut self.connection;
+        done(call!(c.xm_enqueue_packets(
+            bytes.as_ptr(),
+            bytes.len(),
+            &mut taken,
+            &mut packets,
+            &mut halt
+        )));
+        assert!(taken == bytes.len(), "all were taken");
+    }
+
+    fn events(&mut self, see: &mut impl See) {
+        loop {
+            let (mut events, mut bytes, mut stop) = (0, 0, 0);
             let c = &mut self.connection;
-            done(call!(c.xm_send_requests(
-                kinds.as_ptr(),
-                kinds.len(),
-                &mut sent,
-                &mut number,
+            done(call!(c.xm_poll_for_events(
+                self.out.as_mut_ptr(),
+                self.out.len(),
+                self.marks.as_mut_ptr(),
+                self.marks.len(),
+                &mut events,
+                &mut bytes,
                 &mut stop
             )));
-            assert!(sent == kinds.len(), "all were sent");
-            see.number(number);
-        }
-
-        fn feed(&mut self, bytes: &[u8]) {
-            let (mut taken, mut packets, mut halt) = (0, 0, 0);
-            let c = &mut self.connection;
-            done(call!(c.xm_enqueue_packets(
-                bytes.as_ptr(),
-                bytes.len(),
-                &mut taken,
-                &mut packets,
-                &mut halt
-            )));
-            assert!(taken == bytes.len(), "all were taken");
-        }
-
-        fn events(&mut self, see: &mut impl See) {
-            loop {
-                let (mut events, mut bytes, mut stop) = (0, 0, 0);
-                let c = &mut self.connection;
-                done(call!(c.xm_poll_for_events(
-                    self.out.as_mut_ptr(),
-                    self.out.len(),
-                    self.marks.as_mut_ptr(),
-                    self.marks.len(),
-                    &mut events,
-                    &mut bytes,
-                    &mut stop
-                )));
-                let mut at = 0;
-                for mark in self.marks[..2 * events].chunks(2) {
-                    let end = at + mark[1] as usize;
-                    see.number(mark[0]);
-                    see.bytes(&self.out[at..end]);
-                    at = end;
-                }
-                if events == 0 {
-                    return;
-                }
+            let mut at = 0;
+            for mark in self.marks[..2 * events].chunks(2) {
+                let end = at + mark[1] as usize;
+                see.number(mark[0]);
+                see.bytes(&self.out[at..end]);
+                at = end;
+            }
+            if events == 0 {
+                return;
             }
         }
     }

@@ -8,9 +8,11 @@
 //! bench PLOT.svg [PART]      all rows, or those whose name has the part; one with a full stop is a whole name
 //! ```
 
-#[cfg(all(published, feature = "batch"))]
+#[cfg(published)]
 mod batch;
 #[cfg(published)]
+#[path = "../../beside/src/chance.rs"]
+#[allow(dead_code)]
 mod chance;
 #[cfg(published)]
 mod exports;

@@ -42,7 +42,6 @@ pub fn all(part: &str) -> Vec<Row> {
         .filter(|(name, _)| measure::named(name, part))
         .map(|(name, make)| make(name))
         .collect();
-    #[cfg(feature = "batch")]
     made.extend(crate::batch::rows(part));
     made.extend(programs::rows(part));
     made

@@ -33,7 +33,7 @@ pub fn long_reply(size: usize, number: u64) -> Vec<u8> {
 
 /// Events and replies of all sizes up to 4 KiB, as a stream of so many bytes or a little more.
 pub fn mixed_stream(size: usize) -> Vec<u8> {
-    let mut chance = Chance(5);
+    let mut chance = Chance::new(5, "", 0);
     let (mut bytes, mut number) = (Vec::with_capacity(size + 4096), 0);
     while bytes.len() < size {
         number += chance.below(2);
@@ -249,7 +249,7 @@ pub struct Soak {
 
 impl Soak {
     pub fn new(calls: usize, seed: u64) -> Self {
-        let mut chance = Chance(seed);
+        let mut chance = Chance::new(seed, "", 0);
         let (mut steps, mut sent) = (Vec::with_capacity(calls + 64), 0);
         while steps.len() < calls {
             turn(&mut chance, &mut steps, &mut sent);
@@ -261,25 +261,9 @@ impl Soak {
 
 /// One to eight requests, their answers among events, and then all is taken.
 fn turn(chance: &mut Chance, steps: &mut Vec<Step>, sent: &mut u64) {
-    let mut waited = Vec::new();
-    for _ in 0..=chance.below(8) {
-        let reply = chance.below(3) > 0;
-        steps.push(Step::Send(reply.into()));
-        *sent += 1;
-        waited.push((*sent, reply));
-    }
+    let waited = asked(chance, steps, sent);
     for &(number, reply) in &waited {
-        if chance.below(10) == 0 {
-            steps.push(Step::Discard(number, 1 + chance.below(2) as u8));
-        }
-        match chance.below(8) {
-            0 => steps.push(Step::Packet(packet(0, number))),
-            _ if reply => steps.push(Step::Packet(packet(1, number))),
-            _ => {}
-        }
-        for _ in 0..chance.below(3) {
-            steps.push(Step::Packet(packet(2 + chance.below(30) as u8, number)));
-        }
+        answered(chance, steps, number, reply);
     }
     for &(number, reply) in &waited {
         steps.push(match (reply, chance.below(2)) {
@@ -288,8 +272,33 @@ fn turn(chance: &mut Chance, steps: &mut Vec<Step>, sent: &mut u64) {
             (true, _) => Step::ReplyOrError(number),
         });
     }
-    for _ in 0..2 * waited.len() + 1 {
-        steps.push(Step::Event);
+    steps.resize(steps.len() + 2 * waited.len() + 1, Step::Event);
+}
+
+/// The requests: their numbers, and whether each has a reply.
+fn asked(chance: &mut Chance, steps: &mut Vec<Step>, sent: &mut u64) -> Vec<(u64, bool)> {
+    let mut waited = Vec::new();
+    for _ in 0..=chance.below(8) {
+        let reply = chance.below(3) > 0;
+        steps.push(Step::Send(reply.into()));
+        *sent += 1;
+        waited.push((*sent, reply));
+    }
+    waited
+}
+
+/// A request's answer, an error now and then, and up to two events; at times it was discarded before.
+fn answered(chance: &mut Chance, steps: &mut Vec<Step>, number: u64, reply: bool) {
+    if chance.below(10) == 0 {
+        steps.push(Step::Discard(number, 1 + chance.below(2) as u8));
+    }
+    match chance.below(8) {
+        0 => steps.push(Step::Packet(packet(0, number))),
+        _ if reply => steps.push(Step::Packet(packet(1, number))),
+        _ => {}
+    }
+    for _ in 0..chance.below(3) {
+        steps.push(Step::Packet(packet(2 + chance.below(30) as u8, number)));
     }
 }
 

@@ -3,7 +3,7 @@
 use std::cell::RefCell;
 use std::panic::{catch_unwind, AssertUnwindSafe};
 
-use xiengmado::engine::{Engine, Place};
+use xiengmado::engine::{Engine, Place, RECORD_HEADER};
 use xiengmado::{ByteOrder, Refusal};
 
 use crate::connection::{self, Connection, PollReply, ReplyFdKind};
@@ -112,6 +112,12 @@ impl Both {
         both
     }
 
+    /// The run is over: a fresh connection with these rooms takes its place.
+    pub fn restart(&mut self, requests: usize, store: usize) {
+        drop(std::mem::replace(self, Both::new(requests, store)));
+        let _ = take_closed();
+    }
+
     /// Compares all that is closed since the last call, and the whole state.
     pub fn compare(&mut self, what: &str) {
         self.calls += 1;
@@ -151,7 +157,10 @@ impl Both {
                 .map(|record| (record.number, record.packet, record.fds.to_vec()))
                 .collect();
             let theirs = connection::held(&self.rust, place);
-            cost += theirs.iter().map(|held| 16 + held.1.len()).sum::<usize>();
+            cost += theirs
+                .iter()
+                .map(|held| RECORD_HEADER + held.1.len())
+                .sum::<usize>();
             met(|met| met.most_held = met.most_held.max(ours.len()));
             same(what, "held", ours, theirs);
         }

@@ -71,28 +71,24 @@ fn piece(chance: &mut Chance, wanted: usize, left: usize) -> usize {
 
 /// Streams of packets, some of them damaged or cut, in odd pieces.
 pub fn readers(chance: &mut Chance) -> u64 {
-    let mut calls = 0;
-    for _ in 0..20 {
-        let mut reader = Reader::new(chance.pick(&[32, 40, 432, 65_536]));
-        let mut stream = Vec::new();
-        for _ in 0..30 {
-            stream.extend(whole(chance));
+    (0..20).map(|_| reader(chance)).sum()
+}
+
+/// One of them, to its end or to a packet that is longer than the buffer.
+fn reader(chance: &mut Chance) -> u64 {
+    let mut reader = Reader::new(chance.pick(&[32, 40, 432, 65_536]));
+    let mut stream: Vec<u8> = (0..30).flat_map(|_| whole(chance)).collect();
+    damage(chance, &mut stream);
+    let mut rest = &stream[..];
+    while !rest.is_empty() {
+        let n = piece(chance, reader.ours.remaining_capacity(), rest.len());
+        if let Err(refusal) = reader.feed(&rest[..n]) {
+            assert_eq!(refusal, Refusal::LongPacket);
+            break;
         }
-        damage(chance, &mut stream);
-        let mut rest = &stream[..];
-        while !rest.is_empty() {
-            let n = piece(chance, reader.ours.remaining_capacity(), rest.len());
-            match reader.feed(&rest[..n]) {
-                Ok(_) => rest = &rest[n..],
-                Err(refusal) => {
-                    assert_eq!(refusal, Refusal::LongPacket);
-                    break;
-                }
-            }
-        }
-        calls += reader.calls;
+        rest = &rest[n..];
     }
-    calls
+    reader.calls
 }
 
 fn damage(chance: &mut Chance, stream: &mut Vec<u8>) {
@@ -114,87 +110,122 @@ pub fn streams(chance: &mut Chance) -> u64 {
     let mut both = Both::new(65_536, 1_000_000);
     let mut next_fd = 0;
     for _ in 0..200 {
-        for _ in 0..chance.below(4) {
-            both.send(chance.pick(&[
-                ReplyFdKind::NoReply,
-                ReplyFdKind::ReplyWithoutFDs,
-                ReplyFdKind::ReplyWithFDs,
-            ]));
-        }
-        let written = both.engine.last_sequence_written();
-        let read = both.engine.last_sequence_read();
-        let mut bytes = whole(chance);
-        let ahead = read + chance.below(written.saturating_sub(read) + 1);
-        bytes[1] = chance.below(3) as u8;
-        bytes[2..4].copy_from_slice(&(ahead as u16).to_le_bytes());
-        if chance.once(30) {
-            damage(chance, &mut bytes);
-        }
-        let mut rest = &bytes[..];
-        while !rest.is_empty() {
-            let n = piece(chance, reader.ours.remaining_capacity(), rest.len());
-            let Ok(packet) = reader.feed(&rest[..n]) else {
-                return reader.calls + both.calls;
-            };
-            rest = &rest[n..];
-            let Some(packet) = packet else { continue };
-            let list: Vec<u32> = (next_fd..next_fd + u32::from(packet[1]).min(3)).collect();
-            next_fd += 3;
-            both.fds(&list);
-            if packet.len() > 65_536 || !both.packet(&packet) {
-                return reader.calls + both.calls;
-            }
+        ask(&mut both, chance);
+        let (bytes, number) = sent(&both, chance);
+        if !through(&mut reader, &mut both, chance, &bytes, &mut next_fd) {
+            return reader.calls + both.calls;
         }
         match chance.below(4) {
             0 => both.poll_event(),
-            1 => both.poll_reply(ahead),
-            2 => both.poll_reply_or_error(ahead),
-            _ => both.poll_check(ahead),
+            1 => both.poll_reply(number),
+            2 => both.poll_reply_or_error(number),
+            _ => both.poll_check(number),
         }
     }
     reader.calls + both.finish()
 }
 
+/// Up to three requests.
+fn ask(both: &mut Both, chance: &mut Chance) {
+    for _ in 0..chance.below(4) {
+        both.send(chance.pick(&[
+            ReplyFdKind::NoReply,
+            ReplyFdKind::ReplyWithoutFDs,
+            ReplyFdKind::ReplyWithFDs,
+        ]));
+    }
+}
+
+/// What the server sends next, now and then damaged, and its number: one from the last read to the last written.
+fn sent(both: &Both, chance: &mut Chance) -> (Vec<u8>, u64) {
+    let written = both.engine.last_sequence_written();
+    let read = both.engine.last_sequence_read();
+    let mut bytes = whole(chance);
+    let number = read + chance.below(written.saturating_sub(read) + 1);
+    bytes[1] = chance.below(3) as u8;
+    bytes[2..4].copy_from_slice(&(number as u16).to_le_bytes());
+    if chance.once(30) {
+        damage(chance, &mut bytes);
+    }
+    (bytes, number)
+}
+
+/// Bytes in odd pieces through the readers, and the packets that come out into the connections, each with the
+/// descriptors that it claims, up to three; false ends the run.
+fn through(
+    reader: &mut Reader,
+    both: &mut Both,
+    chance: &mut Chance,
+    bytes: &[u8],
+    next_fd: &mut u32,
+) -> bool {
+    let mut rest = bytes;
+    while !rest.is_empty() {
+        let n = piece(chance, reader.ours.remaining_capacity(), rest.len());
+        let Ok(packet) = reader.feed(&rest[..n]) else {
+            return false;
+        };
+        rest = &rest[n..];
+        let Some(packet) = packet else { continue };
+        let list: Vec<u32> = (*next_fd..*next_fd + u32::from(packet[1]).min(3)).collect();
+        *next_fd += 3;
+        both.fds(&list);
+        if packet.len() > 65_536 || !both.packet(&packet) {
+            return false;
+        }
+    }
+    true
+}
+
 /// Setup replies in odd pieces. Outside the domain: a zero length, and 0 bytes more at 8.
 pub fn handshakes(chance: &mut Chance) -> u64 {
-    let mut calls = 0;
-    for _ in 0..200 {
-        let most = chance.pick(&[4, 300, 65_535]);
-        let units = 1 + chance.below(most);
-        let mut reply = chance.bytes(8 + 4 * units as usize);
-        reply[6..8].copy_from_slice(&(units as u16).to_le_bytes());
-        let (mut ours, _) =
-            xiengmado::connect::Connect::with_buffer(ByteOrder::Little, b"", b"", 262_148).unwrap();
-        let (mut theirs, _) = crate::connect::Connect::with_authorization(Vec::new(), Vec::new());
-        if chance.once(3) {
-            reply.truncate(chance.below(reply.len() as u64) as usize);
-        }
-        let mut rest = &reply[..];
-        while !rest.is_empty() {
-            assert_eq!(ours.buffer().len(), theirs.buffer().len(), "buffer");
-            let n = if reply.len() > 2000 {
-                chance
-                    .below(5000)
-                    .min(ours.buffer().len().min(rest.len()) as u64) as usize
-            } else {
-                piece(chance, ours.buffer().len(), rest.len())
-            };
-            if n == 0 {
-                continue;
-            }
-            ours.buffer()[..n].copy_from_slice(&rest[..n]);
-            theirs.buffer()[..n].copy_from_slice(&rest[..n]);
+    (0..200).map(|_| handshake(chance)).sum()
+}
+
+fn handshake(chance: &mut Chance) -> u64 {
+    let most = chance.pick(&[4, 300, 65_535]);
+    let units = 1 + chance.below(most);
+    let mut reply = chance.bytes(8 + 4 * units as usize);
+    reply[6..8].copy_from_slice(&(units as u16).to_le_bytes());
+    let (mut ours, _) =
+        xiengmado::connect::Connect::with_buffer(ByteOrder::Little, b"", b"", 262_148).unwrap();
+    let (mut theirs, _) = crate::connect::Connect::with_authorization(Vec::new(), Vec::new());
+    if chance.once(3) {
+        reply.truncate(chance.below(reply.len() as u64) as usize);
+    }
+    let mut calls = 1;
+    let mut rest = &reply[..];
+    while !rest.is_empty() {
+        assert_eq!(ours.buffer().len(), theirs.buffer().len(), "buffer");
+        let n = if reply.len() > 2000 {
+            let most = ours.buffer().len().min(rest.len()) as u64;
+            chance.below(5000).min(most) as usize
+        } else {
+            piece(chance, ours.buffer().len(), rest.len())
+        };
+        if n > 0 {
+            shake(&mut ours, &mut theirs, &rest[..n]);
             rest = &rest[n..];
-            assert_eq!(ours.advance(n), theirs.advance(n), "advance");
-            let (read, wanted) = crate::connect::view(&theirs);
-            assert_eq!(ours.filled(), read, "bytes read");
-            assert_eq!(ours.filled().len() + ours.buffer().len(), wanted, "wanted");
             calls += 1;
         }
-        compare_setups(ours, theirs);
-        calls += 1;
     }
+    compare_setups(ours, theirs);
     calls
+}
+
+/// One piece of a reply.
+fn shake(
+    ours: &mut xiengmado::connect::Connect,
+    theirs: &mut crate::connect::Connect,
+    piece: &[u8],
+) {
+    let n = piece.len();
+    ours.buffer()[..n].copy_from_slice(piece);
+    theirs.buffer()[..n].copy_from_slice(piece);
+    assert_eq!(ours.advance(n), theirs.advance(n), "advance");
+    let (read, wanted) = crate::connect::view(theirs);
+    assert_eq!(ours.filled(), read, "bytes read");
+    assert_eq!(ours.filled().len() + ours.buffer().len(), wanted, "wanted");
 }
 
 /// The published parsers aren't given: what is compared is when a setup is there to be read.

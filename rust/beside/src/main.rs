@@ -36,6 +36,8 @@ mod record;
 #[path = "../../tests/replay/mod.rs"]
 mod replay;
 #[cfg(published)]
+mod script;
+#[cfg(published)]
 mod sessions;
 
 #[cfg(published)]

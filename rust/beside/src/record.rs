@@ -3,16 +3,9 @@
 use std::fs;
 use std::path::Path;
 
-use crate::chance::Chance;
 use crate::oracle::Oracle;
-use crate::replay::{self, hex, Side, State};
-
-/// What a `new` without rooms has place for; more would leave the domain on which both sides agree.
-const REQUESTS: usize = 65_536;
-const STORE: usize = 4_194_304;
-const DESCRIPTORS: usize = 256;
-
-const SEED: u64 = 1;
+use crate::replay::{self, hex, Side};
+use crate::script::{fail, Script};
 
 type Writer = fn(&mut Script);
 
@@ -48,138 +41,6 @@ pub fn record(folder: &str) {
             "record: {name}, {}",
             answers.lines().last().unwrap_or_default()
         );
-    }
-}
-
-fn fail(text: &str) -> ! {
-    println!("record: FAILED, {text}");
-    std::process::exit(1);
-}
-
-/// A script that grows, with the Rust's side after its ops.
-struct Script {
-    text: String,
-    rust: Oracle,
-    chance: Chance,
-    next_fd: u32,
-}
-
-impl Script {
-    fn new(name: &str) -> Self {
-        Script {
-            text: format!("# {name}: seeded, written by `make record`\n"),
-            rust: Oracle::fresh(true),
-            chance: Chance::new(SEED, name, 0),
-            next_fd: 1,
-        }
-    }
-
-    fn op(&mut self, line: &str) {
-        self.text += line;
-        self.text += "\n";
-        let Some(answer) = replay::op(line, &mut self.rust) else {
-            fail(&format!("no op: {line}"));
-        };
-        if answer.contains("panic") {
-            fail(&format!("outside the domain: {line}"));
-        }
-    }
-
-    fn state(&self) -> State {
-        let state = self.rust.state();
-        let fds: usize = state.replies.iter().map(|reply| reply.2.len()).sum();
-        let used: usize = state
-            .replies
-            .iter()
-            .map(|reply| 16 + reply.1)
-            .sum::<usize>()
-            + state.events.iter().map(|event| 16 + event.1).sum::<usize>();
-        if state.outstanding.len() > REQUESTS
-            || used > STORE
-            || fds + state.waiting.len() > DESCRIPTORS
-        {
-            fail("a script asks for more room than there is");
-        }
-        state
-    }
-
-    /// How many more requests can be outstanding.
-    fn room(&self) -> usize {
-        REQUESTS - self.state().outstanding.len()
-    }
-
-    /// Descriptors come; none where many are inside already.
-    fn fds(&mut self, count: u32) {
-        if count == 0 || self.state().waiting.len() > 40 {
-            return;
-        }
-        let list: Vec<String> = (0..count).map(|i| (self.next_fd + i).to_string()).collect();
-        self.next_fd += count;
-        self.op(&format!("fds {}", list.join(" ")));
-    }
-
-    /// A packet of a code and a number. One that takes descriptors claims no more than wait.
-    fn packet(&mut self, code: u8, number: u64, size: usize) -> Vec<u8> {
-        let mut bytes = self.chance.bytes(size);
-        bytes[0] = code;
-        bytes[1] = self.chance.below(4) as u8;
-        bytes[2..4].copy_from_slice(&(number as u16).to_le_bytes());
-        let state = self.state();
-        let full = state.read + u64::from((number as u16).wrapping_sub(state.read as u16));
-        let takes = state
-            .outstanding
-            .iter()
-            .any(|request| request.number == full && request.letter.is_uppercase());
-        if takes {
-            bytes[1] = bytes[1].min(state.waiting.len() as u8);
-        }
-        bytes
-    }
-
-    fn intake(&mut self, code: u8, number: u64, size: usize) {
-        let packet = self.packet(code, number, size);
-        self.op(&format!("intake {}", hex(&packet)));
-    }
-
-    /// A number that says something about the connection.
-    fn number(&mut self) -> u64 {
-        let state = self.state();
-        let held: Vec<u64> = state.replies.iter().map(|reply| reply.0).collect();
-        match self.chance.below(6) {
-            0 => state.read.saturating_sub(self.chance.below(3)),
-            1 => state.written + self.chance.below(2),
-            2 => state.written.saturating_sub(self.chance.below(8)),
-            _ if held.is_empty() => state.read,
-            _ => self.chance.pick(&held),
-        }
-    }
-
-    fn code(&mut self) -> u8 {
-        match self.chance.below(10) {
-            0..=3 => 1,
-            4 | 5 => 0,
-            6 => self.chance.pick(&[11, 35, 129, 163, 128]),
-            _ => self.chance.next() as u8,
-        }
-    }
-
-    fn poll(&mut self) {
-        let number = self.number();
-        let call =
-            self.chance
-                .pick(&["poll_reply_or_error", "poll_check", "poll_reply", "prepare"]);
-        self.op(&format!("{call} {number}"));
-    }
-
-    fn discard(&mut self) {
-        let number = self.number();
-        let mode = self.chance.pick(&["reply", "both"]);
-        self.op(&format!("discard {number} {mode}"));
-    }
-
-    fn send(&mut self) {
-        let kind = self.chance.pick(&["none", "none", "reply", "fds"]);
-        self.op(&format!("send {kind}"));
     }
 }
 
@@ -264,32 +125,44 @@ fn numbers(s: &mut Script) {
 fn discards(s: &mut Script) {
     for _ in 0..36 {
         s.op("new");
-        for _ in 0..4 {
-            let kind = s.chance.pick(&["fds", "fds", "fds", "reply", "none"]);
-            s.op(&format!("send {kind}"));
-        }
+        ask(s);
         for number in 1..=4 {
-            if s.chance.once(6) {
-                let mode = s.chance.pick(&["reply", "both"]);
-                s.op(&format!("discard {number} {mode}"));
-            }
-            for _ in 0..s.chance.below(5) {
-                let count = 1 + s.chance.below(4) as u32;
-                s.fds(count);
-                let code = s.chance.pick(&[1, 1, 1, 0]);
-                s.intake(code, number, 32);
-            }
+            answered(s, number);
         }
         s.op("state");
-        for _ in 0..8 {
-            match s.chance.below(3) {
-                0 => s.poll(),
-                _ => s.discard(),
-            }
-        }
+        let_go(s);
         s.op("state");
-        for _ in 0..3 {
-            s.op("poll_event");
+        s.ops("poll_event", 3);
+    }
+}
+
+/// Four requests, most of them with descriptors.
+fn ask(s: &mut Script) {
+    for _ in 0..4 {
+        let kind = s.chance.pick(&["fds", "fds", "fds", "reply", "none"]);
+        s.op(&format!("send {kind}"));
+    }
+}
+
+/// Up to four answers to a request, which may have been discarded before.
+fn answered(s: &mut Script, number: u64) {
+    if s.chance.once(6) {
+        let mode = s.chance.pick(&["reply", "both"]);
+        s.op(&format!("discard {number} {mode}"));
+    }
+    for _ in 0..s.chance.below(5) {
+        let count = 1 + s.chance.below(4) as u32;
+        s.fds(count);
+        let code = s.chance.pick(&[1, 1, 1, 0]);
+        s.intake(code, number, 32);
+    }
+}
+
+fn let_go(s: &mut Script) {
+    for _ in 0..8 {
+        match s.chance.below(3) {
+            0 => s.poll(),
+            _ => s.discard(),
         }
     }
 }
@@ -418,17 +291,15 @@ fn ids(s: &mut Script) {
             _ => s.chance.pick(&[1, 2, 3, 6, 7]) << s.chance.below(20),
         };
         s.op(&format!("ids {base:#x} {mask:#x}"));
-        for _ in 0..s.chance.below(12) {
-            s.op("gen");
-        }
+        let few = s.chance.below(12);
+        s.ops("gen", few);
         let (start, count) = match s.chance.below(5) {
             0 => (0, 1),
             1 => (base, 0),
             _ => (s.chance.below(1 << 28), 1 + s.chance.below(6)),
         };
         s.op(&format!("range {start} {count}"));
-        for _ in 0..s.chance.below(9) {
-            s.op("gen");
-        }
+        let few = s.chance.below(9);
+        s.ops("gen", few);
     }
 }

@@ -107,8 +107,8 @@ fn packet(both: &Both, chance: &mut Chance) -> Vec<u8> {
     bytes
 }
 
-/// One call of either side; false ends the run.
-fn step(both: &mut Both, chance: &mut Chance, w: &Weights, next_fd: &mut u32) -> bool {
+/// Which call comes next: its place among the weights.
+fn chosen(chance: &mut Chance, w: &Weights) -> usize {
     let all = [w.send, w.fds, w.packet, w.discard, w.poll, w.event];
     let mut at = chance.below(all.iter().sum());
     let call = all.iter().position(|&weight| {
@@ -116,19 +116,25 @@ fn step(both: &mut Both, chance: &mut Chance, w: &Weights, next_fd: &mut u32) ->
         at = at.wrapping_sub(weight);
         here
     });
-    match call.unwrap() {
+    call.unwrap()
+}
+
+/// So many new descriptors.
+fn new_fds(both: &mut Both, next_fd: &mut u32, count: u32) {
+    let list: Vec<u32> = (*next_fd..*next_fd + count).collect();
+    *next_fd += count;
+    both.fds(&list);
+}
+
+/// One call of either side; false ends the run.
+fn step(both: &mut Both, chance: &mut Chance, w: &Weights, next_fd: &mut u32) -> bool {
+    match chosen(chance, w) {
         0 => {
             both.send(kind(chance));
         }
         1 => {
-            let count = if chance.once(20) {
-                chance.below(300)
-            } else {
-                chance.below(5)
-            } as u32;
-            let list: Vec<u32> = (*next_fd..*next_fd + count).collect();
-            *next_fd += count;
-            both.fds(&list);
+            let most = if chance.once(20) { 300 } else { 5 };
+            new_fds(both, next_fd, chance.below(most) as u32);
         }
         2 => {
             let bytes = packet(both, chance);
@@ -173,85 +179,113 @@ fn mixed(chance: &mut Chance) -> u64 {
     run(Both::new(requests, store), chance, &MIXED, 4000)
 }
 
+fn ask(both: &mut Both, requests: u64) {
+    for _ in 0..requests {
+        both.send(ReplyFdKind::ReplyWithFDs);
+    }
+}
+
+/// A reply of a number, or an error. Byte 1, the descriptors of a reply, is any.
+fn answer(chance: &mut Chance, number: u64) -> Vec<u8> {
+    let mut bytes = chance.bytes(32);
+    bytes[0] = chance.pick(&[1, 1, 1, 0]);
+    bytes[2..4].copy_from_slice(&(number as u16).to_le_bytes());
+    bytes
+}
+
 /// Many descriptors, and many ways in which they are closed.
 fn descriptors(chance: &mut Chance) -> u64 {
     let mut both = Both::new(512, 100_000);
     let mut next_fd = 0;
-    let mut calls = 0;
+    let mut ended = 0;
     for _ in 0..300 {
         let requests = 1 + chance.below(6);
-        for _ in 0..requests {
-            both.send(ReplyFdKind::ReplyWithFDs);
+        ask(&mut both, requests);
+        ended += answered(&mut both, chance, &mut next_fd, requests);
+        let_go(&mut both, chance);
+    }
+    ended + both.finish()
+}
+
+/// Answers to the last requests, some of which are discarded first. A run that ends on the way gives way to a fresh
+/// one: how many calls were compared in those.
+fn answered(both: &mut Both, chance: &mut Chance, next_fd: &mut u32, requests: u64) -> u64 {
+    let last = both.engine.last_sequence_written();
+    let mut ended = 0;
+    for number in last + 1 - requests..=last {
+        if chance.once(8) {
+            both.discard(number, mode(chance));
         }
-        let last = both.engine.last_sequence_written();
-        for n in last + 1 - requests..=last {
-            if chance.once(8) {
-                both.discard(n, mode(chance));
-            }
-            for _ in 0..1 + chance.below(3) {
-                let count = chance.below(5) as u32;
-                let list: Vec<u32> = (next_fd..next_fd + count).collect();
-                next_fd += count;
-                both.fds(&list);
-                let mut bytes = chance.bytes(32);
-                bytes[0] = chance.pick(&[1, 1, 1, 0]);
-                bytes[1] = chance.below(u64::from(count) + 2) as u8;
-                bytes[2..4].copy_from_slice(&(n as u16).to_le_bytes());
-                if !both.packet(&bytes) {
-                    calls += both.calls;
-                    drop(both);
-                    both = Both::new(512, 100_000);
-                    break;
-                }
-            }
-        }
-        for _ in 0..chance.below(8) {
-            let number = number(&both, chance);
-            match chance.below(5) {
-                0 => both.discard(number, DiscardMode::DiscardReply),
-                1 => both.discard(number, DiscardMode::DiscardReplyAndError),
-                2 => both.poll_reply(number),
-                3 => both.poll_check(number),
-                _ => both.poll_reply_or_error(number),
-            }
+        if !claimed(both, chance, next_fd, number) {
+            ended += both.calls;
+            both.restart(512, 100_000);
         }
     }
-    calls + both.finish()
+    ended
+}
+
+/// Answers to one request, which claim as many descriptors as came, or fewer, or one more; false ends the run.
+fn claimed(both: &mut Both, chance: &mut Chance, next_fd: &mut u32, number: u64) -> bool {
+    (0..1 + chance.below(3)).all(|_| {
+        let count = chance.below(5) as u32;
+        new_fds(both, next_fd, count);
+        let mut bytes = answer(chance, number);
+        bytes[1] = chance.below(u64::from(count) + 2) as u8;
+        both.packet(&bytes)
+    })
+}
+
+/// All ways in which a held reply goes.
+fn let_go(both: &mut Both, chance: &mut Chance) {
+    for _ in 0..chance.below(8) {
+        let number = number(both, chance);
+        match chance.below(5) {
+            0 => both.discard(number, DiscardMode::DiscardReply),
+            1 => both.discard(number, DiscardMode::DiscardReplyAndError),
+            2 => both.poll_reply(number),
+            3 => both.poll_check(number),
+            _ => both.poll_reply_or_error(number),
+        }
+    }
 }
 
 /// Several replies and errors of one number, with others before and behind, then discarded.
 fn same_number(chance: &mut Chance) -> u64 {
-    let mut calls = 0;
-    for _ in 0..60 {
-        let mut both = Both::new(64, 100_000);
-        let mut next_fd = 0;
-        for _ in 0..6 {
-            both.send(ReplyFdKind::ReplyWithFDs);
-        }
-        for n in 1..=6u16 {
-            for _ in 0..chance.below(6) {
-                let count = chance.below(3) as u32;
-                let list: Vec<u32> = (next_fd..next_fd + count).collect();
-                next_fd += count;
-                both.fds(&list);
-                let mut bytes = chance.bytes(32);
-                bytes[0] = chance.pick(&[1, 1, 1, 0]);
-                bytes[1] = if bytes[0] == 1 { count as u8 } else { 3 };
-                bytes[2..4].copy_from_slice(&n.to_le_bytes());
-                assert!(both.packet(&bytes));
-            }
-        }
-        for _ in 0..6 {
-            let n = 1 + chance.below(6);
-            match chance.below(4) {
-                0 => both.discard(n, DiscardMode::DiscardReply),
-                1 | 2 => both.discard(n, DiscardMode::DiscardReplyAndError),
-                _ => both.poll_reply(n),
-            }
-        }
-        calls += both.finish();
+    (0..60).map(|_| six_numbers(chance)).sum()
+}
+
+fn six_numbers(chance: &mut Chance) -> u64 {
+    let mut both = Both::new(64, 100_000);
+    let mut next_fd = 0;
+    ask(&mut both, 6);
+    for number in 1..=6 {
+        several(&mut both, chance, &mut next_fd, number);
     }
-    calls
+    for _ in 0..6 {
+        discard_one(&mut both, chance);
+    }
+    both.finish()
+}
+
+/// Up to five replies and errors of a number; a reply takes all descriptors that came.
+fn several(both: &mut Both, chance: &mut Chance, next_fd: &mut u32, number: u64) {
+    for _ in 0..chance.below(6) {
+        let count = chance.below(3) as u32;
+        new_fds(both, next_fd, count);
+        let mut bytes = answer(chance, number);
+        bytes[1] = if bytes[0] == 1 { count as u8 } else { 3 };
+        assert!(both.packet(&bytes));
+    }
+}
+
+/// One of the six numbers is discarded, or asked for.
+fn discard_one(both: &mut Both, chance: &mut Chance) {
+    let number = 1 + chance.below(6);
+    match chance.below(4) {
+        0 => both.discard(number, DiscardMode::DiscardReply),
+        1 | 2 => both.discard(number, DiscardMode::DiscardReplyAndError),
+        _ => both.poll_reply(number),
+    }
 }
 
 /// Runs that start shortly before the numbers' low 16 bits, or their low 32, are all ones.

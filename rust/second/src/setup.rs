@@ -97,50 +97,62 @@ fn same(a: &ours::Setup, b: &theirs::Setup) {
     assert_eq!(usize::from(a.roots_len), b.roots.len());
 }
 
+type Answer = Result<ours::Setup, ConnectError>;
+
+/// Whether both read a failure.
+fn failed(answer: Answer, bytes: &[u8]) -> bool {
+    let read = theirs::SetupFailed::try_parse(bytes).ok();
+    match (answer, read) {
+        (Err(ConnectError::SetupFailed(a)), Some((b, _))) => {
+            let version = (b.protocol_major_version, b.protocol_minor_version);
+            assert_eq!(
+                (a.protocol_major_version, a.protocol_minor_version),
+                version
+            );
+            assert_eq!(
+                (a.status, a.length, a.reason),
+                (b.status, b.length, b.reason)
+            );
+            true
+        }
+        (Err(ConnectError::ParseError(_)), None) => false,
+        other => panic!("{other:?}: {bytes:?}"),
+    }
+}
+
+/// Whether both read a success.
+fn succeeded(answer: Answer, bytes: &[u8]) -> bool {
+    let read = theirs::Setup::try_parse(bytes).ok();
+    match (answer, read) {
+        (Ok(a), Some((b, _))) => {
+            same(&a, &b);
+            true
+        }
+        (Err(ConnectError::ParseError(_)), None) => false,
+        other => panic!("{other:?}: {bytes:?}"),
+    }
+}
+
+/// Both read a wish for more data.
+fn continued(answer: Answer, bytes: &[u8]) -> bool {
+    let read = theirs::SetupAuthenticate::try_parse(bytes).ok();
+    match (answer, read) {
+        (Err(ConnectError::SetupAuthenticate(a)), Some((b, _))) => {
+            assert_eq!((a.status, a.reason), (b.status, b.reason));
+            true
+        }
+        other => panic!("{other:?}: {bytes:?}"),
+    }
+}
+
 /// The status of a reply that both read. It has no formats and no screens, which the engine counts and does not read.
 pub fn reply(chance: &mut Chance) -> Option<u8> {
     let bytes = bytes(chance);
     let answer = fed(chance, &bytes);
-    match bytes[0] {
-        0 => {
-            let read = theirs::SetupFailed::try_parse(&bytes).ok();
-            match (answer, read) {
-                (Err(ConnectError::SetupFailed(a)), Some((b, _))) => {
-                    let version = (b.protocol_major_version, b.protocol_minor_version);
-                    assert_eq!(
-                        (a.protocol_major_version, a.protocol_minor_version),
-                        version
-                    );
-                    assert_eq!(
-                        (a.status, a.length, a.reason),
-                        (b.status, b.length, b.reason)
-                    );
-                    Some(0)
-                }
-                (Err(ConnectError::ParseError(_)), None) => None,
-                other => panic!("{other:?}: {bytes:?}"),
-            }
-        }
-        1 => {
-            let read = theirs::Setup::try_parse(&bytes).ok();
-            match (answer, read) {
-                (Ok(a), Some((b, _))) => {
-                    same(&a, &b);
-                    Some(1)
-                }
-                (Err(ConnectError::ParseError(_)), None) => None,
-                other => panic!("{other:?}: {bytes:?}"),
-            }
-        }
-        _ => {
-            let read = theirs::SetupAuthenticate::try_parse(&bytes).ok();
-            match (answer, read) {
-                (Err(ConnectError::SetupAuthenticate(a)), Some((b, _))) => {
-                    assert_eq!((a.status, a.reason), (b.status, b.reason));
-                    Some(2)
-                }
-                other => panic!("{other:?}: {bytes:?}"),
-            }
-        }
-    }
+    let read = match bytes[0] {
+        0 => failed(answer, &bytes),
+        1 => succeeded(answer, &bytes),
+        _ => continued(answer, &bytes),
+    };
+    read.then_some(bytes[0])
 }

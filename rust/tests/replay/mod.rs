@@ -3,6 +3,8 @@
 
 use std::fmt::Write;
 
+use xiengmado::engine::RECORD_HEADER;
+
 /// Why a side did not do what an op asks: `refused N`, or what the published Rust says.
 pub type Answer<T> = Result<T, String>;
 
@@ -34,6 +36,15 @@ pub struct State {
     pub events: Vec<(u64, usize)>,
     pub replies: Vec<(u64, usize, Vec<u32>)>,
     pub waiting: Vec<u32>,
+}
+
+impl State {
+    /// How many bytes of the packet store are used.
+    pub fn used(&self) -> usize {
+        let events = self.events.iter().map(|event| event.1);
+        let replies = self.replies.iter().map(|reply| reply.1);
+        events.chain(replies).map(|size| RECORD_HEADER + size).sum()
+    }
 }
 
 /// The rooms that `new` names: K, S and whether the order is little.
@@ -206,20 +217,15 @@ fn state(s: &State) -> String {
         write!(text, " {}{}", run.len(), run[0].letter).unwrap();
     }
     text += " events";
-    let mut used = 0;
     for (number, length) in &s.events {
         write!(text, " {number}:{length}").unwrap();
-        used += 16 + length;
     }
     text += " replies";
     for (number, length, fds) in &s.replies {
-        write!(text, " {number}:{length}").unwrap();
-        for fd in fds {
-            write!(text, ":{fd}").unwrap();
-        }
-        used += 16 + length;
+        let fds: String = fds.iter().map(|fd| format!(":{fd}")).collect();
+        write!(text, " {number}:{length}{fds}").unwrap();
     }
-    text + &list(" waiting", &s.waiting) + &format!(" used {used}")
+    text + &list(" waiting", &s.waiting) + &format!(" used {}", s.used())
 }
 
 fn reader(words: &[&str], side: &mut dyn Side) -> Option<Answer<String>> {

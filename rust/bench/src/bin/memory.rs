@@ -79,7 +79,7 @@ fn ours(requests: usize, events: usize) -> xiengmado::engine::Engine {
 
 #[cfg(published)]
 fn main() {
-    println!("| outstanding requests | held events of 32 bytes | Rust, bytes | its allocations | ours, bytes | its allocations |");
+    println!("\n| outstanding requests | held events of 32 bytes | Rust, bytes | its allocations | ours, bytes | its allocations |");
     println!("|---|---|---|---|---|---|");
     for (requests, events) in [(0, 0), (16, 16), (1_000, 1_000), (10_000, 10_000)] {
         let theirs = held(|| rust(requests, events));

@@ -1,0 +1,56 @@
+//! The calls of the static library, made safe, by the sections of `include/xiengmado.h`. The only unsafe code of this
+//! crate: each wrapper lends whole slices and numbers that overlap nothing.
+
+mod connection;
+mod handshake;
+mod ids;
+mod packets;
+mod places;
+mod reader;
+mod rooms;
+mod sequence;
+mod xc_misc;
+
+use std::os::fd::{AsRawFd, FromRawFd, OwnedFd, RawFd};
+
+use crate::errors::Refusal;
+
+pub(crate) use connection::*;
+pub(crate) use handshake::*;
+pub(crate) use ids::*;
+pub(crate) use packets::*;
+pub(crate) use places::*;
+pub(crate) use reader::*;
+pub(crate) use rooms::*;
+pub(crate) use sequence::*;
+pub(crate) use xc_misc::*;
+
+/// The rooms of a connection.
+#[derive(Debug, Clone)]
+pub(crate) struct Rooms {
+    pub(crate) requests: Box<[u8]>,
+    pub(crate) store: Box<[u8]>,
+    pub(crate) slots: Box<[u32]>,
+}
+
+#[inline]
+fn answer(code: u32) -> Result<(), Refusal> {
+    match code {
+        0 => Ok(()),
+        n => Err(Refusal::from_number(n).expect("a refusal has a number from 1 to 16")),
+    }
+}
+
+/// A descriptor as the engine sees it: an opaque number.
+#[inline]
+pub(crate) fn number(fd: &OwnedFd) -> u32 {
+    fd.as_raw_fd() as u32
+}
+
+/// The descriptor of a number that was given to an engine, forgotten by its owner, and has left the
+/// engine.
+#[inline]
+pub(crate) fn from_number(number: u32) -> OwnedFd {
+    // SAFETY: it is open and nobody else's: the engine hands each descriptor out once.
+    unsafe { OwnedFd::from_raw_fd(number as RawFd) }
+}
