@@ -2,6 +2,7 @@ pub mod Descriptors
 pub mod Room
 pub mod Sends
 pub mod Encoding
+pub mod State
 pub mod Saying
 pub mod Promised
 pub mod Balance
@@ -15,4 +16,6 @@ pub mod Outcomes
 pub mod Many
 pub mod Again
 pub mod EncodingLaws
+pub mod StateLaws
+pub mod Needed
 pub mod Theorems

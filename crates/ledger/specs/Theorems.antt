@@ -1,5 +1,5 @@
 -- THE THEOREMS over whole calls, statements alone: each is proved by a law of another file. Assumes nothing.
-use mathlib.Core.Bool.{true}
+use mathlib.Core.Bool.{Bool, true}
 use mathlib.Core.List.{List, _∷_, _++_}
 use mathlib.Core.Logic.{_↔_}
 use mathlib.Core.Path.{_≡_, sym}
@@ -38,7 +38,7 @@ use Rattle.model.specs.declared.Events.{Events}
 use Rattle.model.specs.declared.Fed.{Fed}
 use Rattle.sending.specs.Send.{same}
 use Rattle.batch.specs.Feed.{enqueuePackets}
-use Rattle.connection.specs.Calls.{Opens, Sends, EnqueuesFds, Enqueues, Discards, Polls, Checks, PollsReply, PollsEvent, Closes, Prepares, SendsMany, EnqueuesMany, PollsEvents}
+use Rattle.connection.specs.Calls.{Opens, Hands, Sends, EnqueuesFds, Enqueues, Discards, Polls, Checks, PollsReply, PollsEvent, Closes, Prepares, SendsMany, EnqueuesMany, PollsEvents}
 use Rattle.connection.specs.Opening as Opening
 use Rattle.connection.specs.Theorems.{Sentence}
 use Rattle.connection.specs.Theorems as Connection
@@ -50,6 +50,7 @@ use Rattle.ledger.specs.Descriptors.{within, accepted, handedOut, accept
 use Rattle.ledger.specs.Room.{filled, kept, SendShort, PacketShort, NoRoom, added, givenBack, NoDiscard}
 use Rattle.ledger.specs.Sends.{mostSends, withoutReply, numbersFrom, sends, allNoRoom, SendsRow}
 use Rattle.ledger.specs.Encoding.{InRange, Encodes}
+use Rattle.ledger.specs.State.{told, asRead, shownBy, writtenBy, Alike, Same, Ask, AllHeard, Row, Needed, withOrder, withK, withS, withWritten, withExpected, withRead, withOutstanding, withDescribed, withMode, withReplies, withEvents, withWaiting, withClosing}
 use Rattle.ledger.specs.EncodingLaws as EncodingLaws
 use Rattle.ledger.specs.Balance as Balance
 use Rattle.ledger.specs.Sessions as Sessions
@@ -61,6 +62,8 @@ use Rattle.ledger.specs.SendsLaws as SendsLaws
 use Rattle.ledger.specs.Outcomes as Outcomes
 use Rattle.ledger.specs.Many as Many
 use Rattle.ledger.specs.Again as Again
+use Rattle.ledger.specs.StateLaws as StateLaws
+use Rattle.ledger.specs.Needed as Part
 
 -- ---- 1. SOUND EXACTLY
 
@@ -344,3 +347,90 @@ fresh-values o s kind reply kinds = SendsLaws.fresh-values o s kind reply kinds
 pub new-values : (o : ℕ) (r : Rooms) (c : Connection) → Opens o r (gives (tt, c)) → length (r .requests) ≡ mostSends → (kind : ReplyFdKind) → hasReply kind ≡ true → (kinds : List ReplyFdKind)
     → (said : List Said) → SendsRow c r (withoutReply 65534 ++ (send ReplyFdKind.NoReply ∷ send kind ∷ send ReplyFdKind.NoReply ∷ sends kinds)) said → said ≡ numbersFrom 1 65534 ++ (refused 6 ∷ number 65535 ∷ number 65536 ∷ allNoRoom kinds)
 new-values o r c h k kind reply kinds said row = SendsLaws.new-values o r c h k kind reply kinds said row
+
+-- ---- 9. WHAT COUNTS AS STATE: what a client's state is read as, all of it and nothing else
+
+module _ {A B : Type 0} (f : A → B) (e : Answer (Done A)) (m : Client → Answer (A × Client)) (c : Connection) (r : Rooms) (S : Sound c r) where
+  -- STATE ALONE: the answer of a public call, and the state that it leaves as that is read, are the model's of the state as it is read: where things stand in the rooms has no part in them.
+  pub state-alone : (a : Answer (B × Connection)) (r' : Rooms) → Promise f e m c r a r' → asRead c a r' ≡ shownBy f (reads c r) (m (reads c r))
+  state-alone a r' h = StateLaws.alone f e m c r S a r' h
+
+  -- So is what it writes into a lent output, in front of what was there.
+  pub output-alone : (g : A → List ℕ) (out : List ℕ) (a : Answer (B × Connection)) (r' : Rooms) (out' : List ℕ) → Hands f g e m c r out a r' out' → out' ≡ writtenBy g (m (reads c r)) out
+  output-alone g out a r' out' h = StateLaws.written-alone f e m c r S g out out' (h .promise .model) (h .output)
+
+-- Two fresh states of one byte order, in rooms of the same lengths: `new` tells the same, whatever stands in the rooms,
+pub new-same : (o : ℕ) (r q : Rooms) → length (r .requests) ≡ length (q .requests) → length (r .store) ≡ length (q .store) → length (r .slots) ≡ length (q .slots) → (a b : Answer (Unit × Connection)) → Opens o r a → Opens o q b → told a ≡ told b
+new-same o r q k s f a b h i = StateLaws.new-same o r q k s f a b h i
+
+-- and the states that it hands back are alike.
+pub new-alike : (o : ℕ) (r q : Rooms) → length (r .requests) ≡ length (q .requests) → length (r .store) ≡ length (q .store) → (c d : Connection) → Opens o r (gives (tt, c)) → Opens o q (gives (tt, d)) → Alike c r d q
+new-alike o r q k s c d h i = StateLaws.new-alike o r q k s c d h i
+
+-- THE SAME STATE: two states that are read as the same, however they lie in their rooms, answer alike.
+module _ (c : Connection) (r : Rooms) (d : Connection) (q : Rooms) (k : Alike c r d q) where
+  -- `send_request` tells the same of both, and leaves states that are read as the same again.
+  pub send-request-same : (kind : ReplyFdKind) (a b : Answer (ℕ × Connection)) (r' q' : Rooms) → Sends c r kind a r' → Sends d q kind b q' → Same c a r' d b q'
+  send-request-same kind a b r' q' h i = StateLaws.send-request-same c r d q k kind a b r' q' h i
+
+  -- So with `enqueue_fds`,
+  pub enqueue-fds-same : (list : List ℕ) (a b : Answer (Unit × Connection)) (r' q' : Rooms) → EnqueuesFds c r list a r' → EnqueuesFds d q list b q' → Same c a r' d b q'
+  enqueue-fds-same list a b r' q' h i = StateLaws.enqueue-fds-same c r d q k list a b r' q' h i
+
+  -- with `enqueue_packet` of bytes,
+  pub enqueue-packet-same : (p : List ℕ) → getD p 1 0 < 256 → (a b : Answer (Filing × Connection)) (r' q' : Rooms) → Enqueues c r p a r' → Enqueues d q p b q' → Same c a r' d b q'
+  enqueue-packet-same p w a b r' q' h i = StateLaws.enqueue-packet-same c r d q k p w a b r' q' h i
+
+  -- with `discard_reply`,
+  pub discard-reply-same : (n : ℕ) (mode : DiscardMode) (a b : Answer (Unit × Connection)) (r' q' : Rooms) → Discards c r n mode a r' → Discards d q n mode b q' → Same c a r' d b q'
+  discard-reply-same n mode a b r' q' h i = StateLaws.discard-reply-same c r d q k n mode a b r' q' h i
+
+  -- with `poll_for_reply_or_error`, and the same is written into equal outputs,
+  pub poll-for-reply-or-error-same : (n : ℕ) (out fds : List ℕ) (a b : Answer (Shown × Connection)) (r' q' : Rooms) (x y v w : List ℕ) → Polls c r n out fds a r' x v → Polls d q n out fds b q' y w → Same c a r' d b q' × (x ≡ y) × (v ≡ w)
+  poll-for-reply-or-error-same n out fds a b r' q' x y v w h i = StateLaws.poll-for-reply-or-error-same c r d q k n out fds a b r' q' x y v w h i
+
+  -- with `poll_check_for_reply_or_error` and its output,
+  pub poll-check-for-reply-or-error-same : (n : ℕ) (out : List ℕ) (a b : Answer (ShownPoll × Connection)) (r' q' : Rooms) (x y : List ℕ) → Checks c r n out a r' x → Checks d q n out b q' y → Same c a r' d b q' × (x ≡ y)
+  poll-check-for-reply-or-error-same n out a b r' q' x y h i = StateLaws.poll-check-for-reply-or-error-same c r d q k n out a b r' q' x y h i
+
+  -- with `poll_for_reply` and its output,
+  pub poll-for-reply-same : (n : ℕ) (out : List ℕ) (a b : Answer (ShownPoll × Connection)) (r' q' : Rooms) (x y : List ℕ) → PollsReply c r n out a r' x → PollsReply d q n out b q' y → Same c a r' d b q' × (x ≡ y)
+  poll-for-reply-same n out a b r' q' x y h i = StateLaws.poll-for-reply-same c r d q k n out a b r' q' x y h i
+
+  -- with `poll_for_event_with_sequence` and its output,
+  pub poll-for-event-with-sequence-same : (out : List ℕ) (a b : Answer (ShownEvent × Connection)) (r' q' : Rooms) (x y : List ℕ) → PollsEvent c r out a r' x → PollsEvent d q out b q' y → Same c a r' d b q' × (x ≡ y)
+  poll-for-event-with-sequence-same out a b r' q' x y h i = StateLaws.poll-for-event-with-sequence-same c r d q k out a b r' q' x y h i
+
+  -- with `take_closed_fds` and its output,
+  pub take-closed-fds-same : (out : List ℕ) (a b : Answer (ℕ × Connection)) (r' q' : Rooms) (x y : List ℕ) → Closes c r out a r' x → Closes d q out b q' y → Same c a r' d b q' × (x ≡ y)
+  take-closed-fds-same out a b r' q' x y h i = StateLaws.take-closed-fds-same c r d q k out a b r' q' x y h i
+
+  -- with `send_requests`,
+  pub send-requests-same : (bytes : List ℕ) (a b : Answer (ShownSendings × Connection)) (r' q' : Rooms) → SendsMany c r bytes a r' → SendsMany d q bytes b q' → Same c a r' d b q'
+  send-requests-same bytes a b r' q' h i = StateLaws.send-requests-same c r d q k bytes a b r' q' h i
+
+  -- with `enqueue_packets` of bytes,
+  pub enqueue-packets-same : (bytes : List ℕ) → ((i : ℕ) → getD bytes i 0 < 256) → (a b : Answer (ShownFed × Connection)) (r' q' : Rooms) → EnqueuesMany c r bytes a r' → EnqueuesMany d q bytes b q' → Same c a r' d b q'
+  enqueue-packets-same bytes w a b r' q' h i = StateLaws.enqueue-packets-same c r d q k bytes w a b r' q' h i
+
+  -- with `poll_for_events` and its two outputs;
+  pub poll-for-events-same : (out marks : List ℕ) (a b : Answer (ShownHandings × Connection)) (r' q' : Rooms) (x y v w : List ℕ) → PollsEvents c r out marks a r' x v → PollsEvents d q out marks b q' y w → Same c a r' d b q' × (x ≡ y) × (v ≡ w)
+  poll-for-events-same out marks a b r' q' x y v w h i = StateLaws.poll-for-events-same c r d q k out marks a b r' q' x y v w h i
+
+  -- and `prepare_check_for_reply_or_error`, which can change neither, tells the same of both.
+  pub prepare-check-for-reply-or-error-same : (n : ℕ) (a b : Answer Bool) → Prepares c r n a → Prepares d q n b → a ≡ b
+  prepare-check-for-reply-or-error-same n a b h i = StateLaws.prepare-check-for-reply-or-error-same c r d q k n a b h i
+
+-- OVER ROWS: two rows of the same public calls, however long, that begin with states that are alike: the same is heard of each call, answers and outputs, and the states at the end are alike again.
+pub rows-same : (xs : List Ask) (c : Connection) (r : Rooms) (d : Connection) (q : Rooms) → Alike c r d q → (hs gs : AllHeard xs) (c' : Connection) (r' : Rooms) (d' : Connection) (q' : Rooms) → Row xs c r hs c' r' → Row xs d q gs d' q' → (hs ≡ gs) × Alike c' r' d' q'
+rows-same xs c r d q k hs gs c' r' d' q' l m = StateLaws.rows-same k l m
+
+-- So with two whole sessions, each from its `new` on.
+pub sessions-same : (o : ℕ) (r q : Rooms) → length (r .requests) ≡ length (q .requests) → length (r .store) ≡ length (q .store) → (c d : Connection) → Opens o r (gives (tt, c)) → Opens o q (gives (tt, d))
+    → (xs : List Ask) (hs gs : AllHeard xs) (c' : Connection) (r' : Rooms) (d' : Connection) (q' : Rooms) → Row xs c r hs c' r' → Row xs d q gs d' q' → hs ≡ gs
+sessions-same o r q k s c d h i xs hs gs c' r' d' q' l m = StateLaws.rows-same (StateLaws.new-alike o r q k s c d h i) l m .0
+
+-- NOTHING SUPERFLUOUS: of each part there are two values in range, all else the same, and calls that answer differently: byte order, K, S, the last number written, the next reply expected, the last read, the outstanding requests, whether one has descriptors and its mode, replies, events, the descriptors that wait, and those to be closed.
+pub each-needed :
+    Needed withOrder × Needed withK × Needed withS × Needed withWritten × Needed withExpected × Needed withRead × Needed withOutstanding × Needed withDescribed × Needed withMode × Needed withReplies × Needed withEvents × Needed withWaiting × Needed withClosing
+each-needed = Part.each-needed

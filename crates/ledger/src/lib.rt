@@ -1,8 +1,9 @@
 // Inside: what whole calls come to. No function, only theorems: over each call, and over runs and
 // sessions of them, every descriptor that was accepted is in one place, room is refused exactly
-// where it is short, and a promise allows one outcome.
+// where it is short, a promise allows one outcome, and what is read as state decides it.
 //
 // To believe: `specs/Descriptors.antt`, what is inside, what a call accepts and what it hands out;
 // `specs/Room.antt`, when a call lacks room; `specs/Encoding.antt`, when state and rooms encode a
-// model's state; `specs/Sends.antt`, rows of sends. `specs/Theorems.antt` says what is then certain,
+// model's state; `specs/Sends.antt`, rows of sends; `specs/State.antt`, outcomes as they are read,
+// states that are alike and rows of calls. `specs/Theorems.antt` says what is then certain,
 // statements alone.
