@@ -19,7 +19,6 @@ use Rattle.xc_misc.specs.Requests.{room}
 use Rattle.xc_misc.specs.Replies.{listOf, reaches, unitsChecked, replyChecked, listChecked, list}
 use Rattle.packet_reader.specs.Frame.{hasLength, total, totalOf, aim}
 use Rattle.packet_reader.specs.Reader as Reader
-use Rattle.packet_reader.specs.declared.PacketReader.{PacketReader}
 
 -- 32 bytes that begin with a code, write a length in units and, as a list of ids does, a count; least significant byte first
 abbrev packet : ℕ → ℕ → ℕ → List ℕ
@@ -28,9 +27,6 @@ packet code units count = code ∷ 0 ∷ 0 ∷ 0 ∷ units ∷ 0 ∷ 0 ∷ 0 ∷
 -- allocators that are not sound, and have no id left
 abbrev unsound : IdAllocator
 unsound = record { next = 1; last = 0; step = 0 }
-
-abbrev reader : ℕ → PacketReader
-reader order = record { order = order; filled = 0; target = 32 }
 
 -- which refusal an answer is
 abbrev Gets : {A : Type 0} → Answer A → ℕ → Type 0
@@ -61,7 +57,7 @@ unfolding room legal refuse either
 requests = (refl, refl)
 
 -- "advance 9, 7, 2"; "elsewhere 9, then by number"
-pub readers : Gets (Reader.made 0 31) 9 × Gets (Reader.made 0 32) 13 × Gets (Reader.advanced (reader 0) (packet 1 1 0) 33) 9 × Gets (Reader.advanced (reader 108) (packet 1 1 0) 33) 7 × Gets (Reader.advanced (reader 108) (packet 1 1 0) 32) 2
+pub readers : Gets (Reader.made 0 31) 9 × Gets (Reader.made 0 32) 13 × Gets (Reader.advanced (Reader.fresh 0) (packet 1 1 0) 33) 9 × Gets (Reader.advanced (Reader.fresh 108) (packet 1 1 0) 33) 7 × Gets (Reader.advanced (Reader.fresh 108) (packet 1 1 0) 32) 2
 unfolding Reader.made Reader.room Reader.soundb Reader.advanced Reader.reached aim totalOf total hasLength legal field numberIn lowNumber turned cut choose refuse both either
 readers = (refl, refl, refl, refl, refl)
 
