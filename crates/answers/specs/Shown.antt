@@ -1,5 +1,5 @@
 -- What is shown of the values that a call gives: the numbers behind the pointers of its export, in their order. Assumes nothing.
-use mathlib.Core.Path.{_≡_, refl, ap, _∙_}
+use mathlib.Core.Path.{_≡_, ap, _∙_}
 use mathlib.Core.Bool.{Bool, cond, not}
 use mathlib.Core.List.{List, [], _∷_}
 use Prim.Native.Nat.{ℕ, _≤_, _<_}
@@ -8,7 +8,6 @@ use borrow.Author.Tests.{eq-eqb, ne-eqb, lt-ltb, le-ltb}
 use lib.ListN.{length, set}
 use Rattle.octets.specs.Logic.{choose, either}
 use Rattle.refusal.specs.Answer.{Answer, gives, refuses, refuse, pass}
-use Rattle.sequence.specs.Sending as Sending
 use Rattle.x11_utils.specs.declared.X11Error.{X11Error}
 use Rattle.xc_misc.specs.declared.reply.GetVersionReply.{GetVersionReply}
 use Rattle.xc_misc.specs.declared.reply.GetXIDRangeReply.{GetXIDRangeReply}
@@ -31,8 +30,6 @@ use Rattle.model.specs.Feed as Feed
 use Rattle.model.specs.declared.Connection.{Connection}
 use Rattle.model.specs.declared.Place.{Place}
 use Rattle.model.specs.declared.Place.the-variants as Place
-use Rattle.model.specs.declared.ReplyFdKind.{ReplyFdKind}
-use Rattle.model.specs.declared.ReplyFdKind.the-variants as ReplyFdKind
 use Rattle.model.specs.declared.DiscardMode.{DiscardMode}
 use Rattle.model.specs.declared.DiscardMode.the-variants as DiscardMode
 use Rattle.rows.specs.State.{four, connectionRow, sentRow}
@@ -201,12 +198,9 @@ fed x = x .0 .bytes ∷ x .0 .packets ∷ haltNumber (x .0 .stopped) ∷ []
 abbrev pub flag : Bool → List ℕ
 flag b = cond b 1 0 ∷ []
 
--- what a kind and a mode mean
+-- the largest number that means a kind; which numbers mean a mode, and which mode
 abbrev pub mostKind : ℕ
 mostKind = 2
-
-unfoldable pub kindOf : ℕ → ReplyFdKind
-kindOf n = choose (eqb n 0) ReplyFdKind.NoReply (choose (eqb n 1) ReplyFdKind.ReplyWithoutFds ReplyFdKind.ReplyWithFds)
 
 unfoldable pub isMode : ℕ → Bool
 isMode n = either (eqb n 1) (eqb n 2)

@@ -2,8 +2,9 @@
 ghost use mathlib.Core.Path.{_≡_};
 ghost use Rattle.requests.specs.Room.{modeNumber};
 ghost use Rattle.model.specs.SaysBatch.{saysStop};
+ghost use Rattle.model.specs.SendRequests.{kindOf};
 ghost use Rattle.model.specs.Feed.{saysHalt};
-ghost use Rattle.answers.specs.Shown.{placeNumber, stopNumber, haltNumber, kindOf, modeOf, isMode};
+ghost use Rattle.answers.specs.Shown.{placeNumber, stopNumber, haltNumber, modeOf, isMode};
 use crate::code;
 use model::DiscardMode;
 use model::Halt;

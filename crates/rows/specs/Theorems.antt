@@ -18,7 +18,7 @@ use Rattle.connect.specs.Handshake as Handshake
 use Rattle.connect.specs.declared.handshake.Connect.{Connect}
 use Rattle.id_allocator.specs.Ids as Ids
 use Rattle.id_allocator.specs.declared.IdAllocator.{IdAllocator}
-use Rattle.rows.specs.State.{threeSlots, fits, fits-long, fits-zeros, connectionAt, connectionOf, connection-on, connectionRow, sentRow, byteRow, row, readerOf, readerRow, handshakeOf, handshakeRow, idsOf, idsRow}
+use Rattle.rows.specs.State.{connectionSlots, threeSlots, fits, fits-long, fits-zeros, connectionAt, connectionOf, connection-on, connectionRow, sentRow, byteRow, row, readerOf, readerRow, handshakeOf, handshakeRow, idsOf, idsRow}
 
 -- ---- A state that is put into a row is read back from it, whatever stood there.
 
@@ -79,7 +79,7 @@ sixteen a b c d e f g h i j k l m n o p x y w =
 pub sent-row : (s : List ℕ) (x y : ℕ) → fits s ≡ true → sentRow s (renumbered (connectionOf s) x y) ≡ connectionRow s (renumbered (connectionOf s) x y)
 sent-row s x y h = go s (fits-long s h .0) h
   where
-    go : (s : List ℕ) → length s ≡ 16 → Agrees x y s
+    go : (s : List ℕ) → length s ≡ connectionSlots → Agrees x y s
     go s q = peel (λ t. Agrees x y (t)) 15 (λ a at aq. peel (λ t. Agrees x y (a ∷ t)) 14 (λ b bt bq. peel (λ t. Agrees x y (a ∷ b ∷ t)) 13 (λ c ct cq. peel (λ t. Agrees x y (a ∷ b ∷ c ∷ t)) 12 (λ d dt dq. peel (λ t. Agrees x y (a ∷ b ∷ c ∷ d ∷ t)) 11 (λ e et eq. peel (λ t. Agrees x y (a ∷ b ∷ c ∷ d ∷ e ∷ t)) 10 (λ f ft fq. peel (λ t. Agrees x y (a ∷ b ∷ c ∷ d ∷ e ∷ f ∷ t)) 9 (λ g gt gq. peel (λ t. Agrees x y (a ∷ b ∷ c ∷ d ∷ e ∷ f ∷ g ∷ t)) 8 (λ h ht hq. peel (λ t. Agrees x y (a ∷ b ∷ c ∷ d ∷ e ∷ f ∷ g ∷ h ∷ t)) 7 (λ i it iq. peel (λ t. Agrees x y (a ∷ b ∷ c ∷ d ∷ e ∷ f ∷ g ∷ h ∷ i ∷ t)) 6 (λ j jt jq. peel (λ t. Agrees x y (a ∷ b ∷ c ∷ d ∷ e ∷ f ∷ g ∷ h ∷ i ∷ j ∷ t)) 5 (λ k kt kq. peel (λ t. Agrees x y (a ∷ b ∷ c ∷ d ∷ e ∷ f ∷ g ∷ h ∷ i ∷ j ∷ k ∷ t)) 4 (λ l lt lq. peel (λ t. Agrees x y (a ∷ b ∷ c ∷ d ∷ e ∷ f ∷ g ∷ h ∷ i ∷ j ∷ k ∷ l ∷ t)) 3 (λ m mt mq. peel (λ t. Agrees x y (a ∷ b ∷ c ∷ d ∷ e ∷ f ∷ g ∷ h ∷ i ∷ j ∷ k ∷ l ∷ m ∷ t)) 2 (λ n nt nq. peel (λ t. Agrees x y (a ∷ b ∷ c ∷ d ∷ e ∷ f ∷ g ∷ h ∷ i ∷ j ∷ k ∷ l ∷ m ∷ n ∷ t)) 1 (λ o ot oq. peel (λ t. Agrees x y (a ∷ b ∷ c ∷ d ∷ e ∷ f ∷ g ∷ h ∷ i ∷ j ∷ k ∷ l ∷ m ∷ n ∷ o ∷ t)) 0 (λ p pt pq. empty (λ t. Agrees x y (a ∷ b ∷ c ∷ d ∷ e ∷ f ∷ g ∷ h ∷ i ∷ j ∷ k ∷ l ∷ m ∷ n ∷ o ∷ p ∷ t)) (sixteen a b c d e f g h i j k l m n o p x y) pt pq) ot oq) nt nq) mt mq) lt lq) kt kq) jt jq) it iq) ht hq) gt gq) ft fq) et eq) dt dq) ct cq) bt bq) at aq) s q
 
 -- ---- A row that is no state is read as one that is not sound, so that every call refuses it by 9.

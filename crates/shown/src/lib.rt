@@ -7,7 +7,6 @@ use descriptors::Counts;
 use held::Window;
 use requests::Mode;
 use requests::Request;
-ghost use mathlib.Core.Path.{_≡_};
 ghost use Prim.Native.Nat.{_+_, _-_, _≤_};
 ghost use lib.ListN.{length};
 ghost use Rattle.held.specs.Head.{headerSize};

@@ -5,7 +5,7 @@ use Prim.Native.Nat.{ℕ, zero, suc, _^_, _-_, _<_}
 use native.Mathlib.Omega.{arith}
 use Rattle.refusal.specs.Answer.{Answer, gives, refuses, refuse}
 use Rattle.octets.specs.Logic.{choose, both, either}
-use Rattle.sequence.specs.Numbering.{FullNumber, full, inRange, full-least}
+use Rattle.sequence.specs.Numbering.{wireValues, FullNumber, full, inRange, full-least}
 use Rattle.packet_reader.specs.Frame.{hasLength, total}
 use Rattle.id_allocator.specs.Ids.{powerBelow, sound, noIds, generated, updated}
 use Rattle.id_allocator.specs.Runs.{after, call}
@@ -62,7 +62,7 @@ table =
     ∷ []
 
 -- a row of numbers by the sum
-by-sum : (read wire : ℕ) (a : Answer ℕ) → wire < 65536 → a ≡ inRange (full read wire) → FullNumber read wire a
+by-sum : (read wire : ℕ) (a : Answer ℕ) → wire < wireValues → a ≡ inRange (full read wire) → FullNumber read wire a
 by-sum read wire a h e = record { number = full read wire; is-least = full-least read wire h; answers = e }
 
 -- THE VALUES: every row of the table holds.

@@ -1,8 +1,8 @@
 -- What is seen of the rooms of a connection. Assumes nothing.
-use mathlib.Core.Path.{_≡_, refl, sym, ap, _∙_}
-use mathlib.Core.Bool.{Bool, true, false, cond, not}
+use mathlib.Core.Path.{_≡_, _∙_}
+use mathlib.Core.Bool.{true, false, cond, not}
 use mathlib.Core.List.{List, [], _∷_}
-use Prim.Native.Nat.{ℕ, _+_, _-_, _≤_, _<_}
+use Prim.Native.Nat.{ℕ, _+_, _-_, _≤_}
 use native.Mathlib.Omega.{arith}
 use lib.ListN.{length, drop}
 use Rattle.octets.specs.Put.{cut}
@@ -11,7 +11,6 @@ use Rattle.requests.specs.Room.{sized, requestAt, modeNumber}
 use Rattle.requests.specs.declared.Request.{Request}
 use Rattle.held.specs.Head.{Held, decoded, cost, headerSize, numOf, lenOf, fdsOf, kindOf}
 use Rattle.held.specs.Front.{Begins, Stands, begins-stands}
-use Rattle.answers.specs.Exported.{Exported, codeOf, shownOf}
 
 -- The request of a number: 9 for a room that is none.
 unfoldable pub requestKept : List ℕ → ℕ → Answer Request

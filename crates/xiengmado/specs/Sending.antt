@@ -1,14 +1,13 @@
 -- What a send writes into its row is the state that it leaves. Assumes nothing.
 use mathlib.Core.Path.{_≡_, refl, sym, ap, subst, _∙_}
-use mathlib.Core.Bool.{Bool, true, false, not}
+use mathlib.Core.Bool.{Bool, true, false}
 use mathlib.Core.List.{List}
 use Prim.Native.Nat.{ℕ}
 use native.Mathlib.Omega.{arith}
 use Rattle.octets.specs.Logic.{apart}
 use Rattle.refusal.specs.Answer.{Answer, gives, refuses, refuse, pass}
 use Rattle.sequence.specs.Sending as Rule
-use Rattle.model.specs.Model.{hasReply, sendRequest}
-use Rattle.model.specs.Reading.{Rooms, count}
+use Rattle.model.specs.Reading.{Rooms}
 use Rattle.model.specs.Promise.{Done, answerOf, guarded, guarded-on, guarded-off}
 use Rattle.model.specs.Sound.{soundb}
 use Rattle.model.specs.declared.Connection.{Connection}

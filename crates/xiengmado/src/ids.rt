@@ -2,7 +2,7 @@
 ghost use mathlib.Core.Path.{_≡_};
 ghost use mathlib.Core.List.{[], _∷_};
 ghost use Rattle.id_allocator.specs.Ids.{newIds, generated, updated};
-ghost use Rattle.answers.specs.Exported.{Exported, Kept};
+ghost use Rattle.answers.specs.Exported.{Kept};
 ghost use Rattle.answers.specs.Shown.{nothing, roomed};
 ghost use Rattle.rows.specs.State.{threeSlots, idsOf, idsRow};
 use answers::BAD;

@@ -1,6 +1,5 @@
 // `connection`: the public calls that make many steps. What stopped one is a number: 0 for the end,
 // that of the refusal of the next step, 255 for a byte that is no kind, or 254 for part of a packet.
-ghost use mathlib.Core.Path.{_≡_};
 ghost use mathlib.Core.List.{[], _∷_};
 ghost use Rattle.model.specs.Reading.{rooms};
 ghost use Rattle.connection.specs.Calls.{SendsMany, EnqueuesMany, PollsEvents};
