@@ -129,15 +129,15 @@ uint32_t xm_ids_update_xid_range(uint64_t *ids, size_t ids_len, uint32_t start, 
 
 /* ---- XC-MISC: requests go to the start of out, size says how many bytes; opcode is the extension's ---- */
 
-/* Refused by 13, and 8 where out has under 8 bytes. */
+/* Refused by 8 where out has under 8 bytes, then by 13. */
 uint32_t xm_xc_misc_get_version_request(uint8_t order, uint8_t opcode, uint16_t major,
                                         uint16_t minor, uint8_t *out, size_t out_len, size_t *size);
 
-/* Refused by 13, and 8 where out has under 4 bytes. */
+/* Refused by 8 where out has under 4 bytes, then by 13. */
 uint32_t xm_xc_misc_get_xid_range_request(uint8_t order, uint8_t opcode, uint8_t *out,
                                           size_t out_len, size_t *size);
 
-/* Refused by 13, and 8 where out has under 8 bytes. */
+/* Refused by 8 where out has under 8 bytes, then by 13. */
 uint32_t xm_xc_misc_get_xid_list_request(uint8_t order, uint8_t opcode, uint32_t count,
                                          uint8_t *out, size_t out_len, size_t *size);
 

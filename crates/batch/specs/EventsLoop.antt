@@ -14,7 +14,7 @@ use Rattle.refusal.specs.Numbers.{numberOf}
 use Rattle.refusal.specs.declared.Refusal.{Refusal}
 use Rattle.sequence.specs.declared.SequenceNumber.{SequenceNumber}
 use Rattle.model.specs.Client.{Held}
-use Rattle.model.specs.Model.{none, packet}
+use Rattle.model.specs.Model.{none}
 use Rattle.model.specs.Reading.{Rooms, rooms}
 use Rattle.model.specs.Sound.{Sound}
 use Rattle.model.specs.Promise.{answerOf, roomsOf, outputOf}
@@ -32,7 +32,7 @@ use Rattle.model.specs.declared.Stop.the-variants as Stops
 use Rattle.model.specs.declared.Stop as Declared
 use Rattle.polling.specs.Exact.{stays, eventExact}
 use Rattle.polling.specs.Theorems.{event-leaves}
-use Rattle.batch.specs.Events.{eventStep, handedExact, eventsExact, placed, marked, roomLeft, TurnStep, stoppedBy, Stored, EventsStep}
+use Rattle.batch.specs.Events.{eventStep, handedExact, eventsExact, placed, roomLeft, TurnStep, stoppedBy, Stored, EventsStep}
 use Rattle.batch.specs.EventsLaws.{Out, out-is, none-is, room-most, marks-there}
 
 -- ---- the turns, by the marks that are left

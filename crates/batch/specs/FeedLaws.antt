@@ -10,7 +10,7 @@ use lib.Seq.{length-take-le, getD-take, getD-drop}
 use borrow.Author.Tests.{ltb-true, ltb-false, lt-ltb, le-ltb, eq-eqb, ne-eqb}
 use Rattle.octets.specs.Logic.{choose}
 use Rattle.refusal.specs.Answer.{Answer, gives, refuses, refuse, pass}
-use Rattle.packet_reader.specs.Frame.{aim, Cut, cons, cuts, cutPackets}
+use Rattle.packet_reader.specs.Frame.{aim, Cut, cons, cuts, cutPackets, fixed}
 use Rattle.packet_reader.specs.CutLaws.{aim-least}
 use Rattle.packet_reader.specs.Reader.{mostBuffer}
 use Rattle.packet_reader.specs.Front.{Front, nothing, part, long, whole, frontOf, Part, Long, Whole, tells-nothing, tells-part, tells-long, tells-whole, packets-none, packets-next}
@@ -77,7 +77,7 @@ cut-whole o b n w =
 
 -- what a turn that goes on leaves of the row
 pub record Goes (o : ℕ) (vs : List Took) (s : Site) (b : List ℕ) (v : Took) (s' : Site) : Type 0 where
-  pub least : 32 ≤ v .bytes
+  pub least : fixed ≤ v .bytes
   pub fits : v .bytes ≤ length b
   pub exact : gives (record { value = v .filing; state = s' .state; left = s' .left }) ≡ enqueueExact (s .state) (s .left) (take (v .bytes) b)
   pub ahead : onward vs (row o s (cutPackets o b)) ≡ onward (vs ++ (v ∷ [])) (row o s' (cutPackets o (drop (v .bytes) b)))

@@ -1,7 +1,7 @@
 -- The short way out: a turn whose event is the oldest record. Assumes nothing.
 use mathlib.Core.Path.{_≡_, refl, sym, ap, _∙_, subst}
 use mathlib.Core.Bool.{Bool, true, false}
-use mathlib.Core.List.{List, [], _∷_}
+use mathlib.Core.List.{List, []}
 use Prim.Native.Nat.{ℕ, _+_, _-_, _≤_, _<_}
 use native.Mathlib.Omega.{arith}
 use lib.ListN.{length, take, drop, set}
@@ -14,11 +14,10 @@ use Rattle.held.specs.Reading.{Readable}
 use Rattle.held.specs.Moves.{window, Left}
 use Rattle.held.specs.First.{firstPlace, first-room, first-found, removed-first}
 use Rattle.held.specs.declared.Place.{Place}
-use Rattle.model.specs.Client.{Held}
-use Rattle.model.specs.Model.{Taken, packet}
-use Rattle.model.specs.Reading.{Rooms, rooms, slotsOf}
-use Rattle.model.specs.Promise.{Done, Exact, exact-given}
-use Rattle.model.specs.Says.{ShownEvent, shownEvent, bytesOfTaken, saysEvent}
+use Rattle.model.specs.Model.{packet}
+use Rattle.model.specs.Reading.{rooms, slotsOf}
+use Rattle.model.specs.Promise.{Exact, exact-given}
+use Rattle.model.specs.Says.{ShownEvent, shownEvent, bytesOfTaken}
 use Rattle.model.specs.Says as Says
 use Rattle.model.specs.declared.Connection.{Connection}
 use Rattle.model.specs.declared.Event.the-variants as Event

@@ -1,15 +1,13 @@
 -- A turn over an event of 32 bytes that goes the short way in. Assumes nothing.
-use mathlib.Core.Path.{_≡_, refl, sym, ap, _∙_, subst}
+use mathlib.Core.Path.{_≡_, ap, subst}
 use mathlib.Core.Bool.{false}
 use mathlib.Core.List.{List}
 use Prim.Native.Nat.{ℕ, _≤_}
-use native.Mathlib.Omega.{arith}
 use lib.ListN.{length, take, getD}
 use lib.Seq.{length-take-le}
-use Rattle.refusal.specs.Answer.{gives}
 use Rattle.sequence.specs.declared.SequenceNumber.{SequenceNumber}
 use Rattle.packet_reader.specs.Frame.{fixed, hasLength}
-use Rattle.packet_reader.specs.Front.{Front, whole, frontOf, front-fixed}
+use Rattle.packet_reader.specs.Front.{Front, whole, front-fixed}
 use Rattle.intake.specs.Exact.{enqueueExact, shown}
 use Rattle.intake.specs.Event.{Writable, PlainEvent, IsPlain, PlainStep, ready-writable}
 use Rattle.intake.specs.Theorems.{ready}

@@ -13,7 +13,7 @@ use Rattle.requests.specs.Room.{capacity}
 use Rattle.model.specs.Reading.{Rooms, rooms, reads}
 use Rattle.model.specs.Promise.{answerOf, roomsOf}
 use Rattle.model.specs.Sound.{Numbers, room-there}
-use Rattle.model.specs.Batch.{goes, stops, onward, many, Stop, ended, refused, meaningless, Site, site, exactTurn, exactMany}
+use Rattle.model.specs.Batch.{goes, stops, onward, many, ended, refused, meaningless, Site, site, exactTurn, exactMany}
 use Rattle.model.specs.BatchLaws.{exact-gave, exact-stayed, row-goes, row-stops, row-ends}
 use Rattle.model.specs.SendRequests.{kinds, kindOf, sendings, shownSendings}
 use Rattle.model.specs.SaysBatch.{saysStop}

@@ -6,7 +6,6 @@ use model::SentMany;
 use model::Stop;
 use sequence::SequenceNumber;
 ghost use mathlib.Core.Path.{_≡_};
-ghost use mathlib.Core.List.{List};
 ghost use Rattle.model.specs.SendRequests.{kindOf};
 ghost use Rattle.batch.specs.Send.{Ready, SendsStep, answered};
 

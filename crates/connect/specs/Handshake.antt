@@ -31,7 +31,7 @@ replyLength o s = head + 4 * field o 6 2 s
 unfoldable pub aim : ℕ → List ℕ → ℕ → ℕ
 aim o s n = choose (ltb n head) head (replyLength o s)
 
--- 01, Rooms: a setup buffer has 8 to 262,148 bytes
+-- 01, Rooms: a setup buffer has 8 to 262,148 bytes, the most that a length of 16 bits can ask for: 8 + 4 × 65,535
 abbrev pub mostBuffer : ℕ
 mostBuffer = 262148
 

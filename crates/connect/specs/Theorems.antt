@@ -153,9 +153,6 @@ reason-all o b h =
 
 -- ---- 01, Refusal numbers, the order of refusals: where two apply, the first of the order is given
 
-abbrev handshake : ℕ → Connect
-handshake order = record { order = order; filled = 0; target = head }
-
 -- eight bytes of a reply that begin with a status and end in a length, least significant byte first
 abbrev reply : ℕ → ℕ → List ℕ
 reply status units = status ∷ 0 ∷ 0 ∷ 0 ∷ 0 ∷ 0 ∷ units ∷ 0 ∷ []
@@ -166,7 +163,12 @@ unfolding Request.room legal refuse either
 request-order = (refl, refl, refl, refl)
 
 -- "advance 9, 7, 2"; "setup reading 9, 15, 14"; "elsewhere 9, then by number"
-pub handshake-order : (made 0 7 ≡ refuses 9) × (made 0 8 ≡ refuses 13) × (advanced (handshake 0) (reply 7 1) 9 ≡ refuses 9) × (advanced (handshake 108) (reply 7 1) 9 ≡ refuses 7)
-    × (advanced (handshake 108) (reply 7 1) 8 ≡ refuses 2) × (setup (handshake 0) (reply 7 0) ≡ refuses 9) × (setup (handshake 108) (reply 7 0) ≡ refuses 15)
+pub handshake-order : (made 0 7 ≡ refuses 9) × (made 0 8 ≡ refuses 13) × (advanced (fresh 0) (reply 7 1) 9 ≡ refuses 9) × (advanced (fresh 108) (reply 7 1) 9 ≡ refuses 7)
+    × (advanced (fresh 108) (reply 7 1) 8 ≡ refuses 2) × (setup (fresh 0) (reply 7 0) ≡ refuses 9) × (setup (fresh 108) (reply 7 0) ≡ refuses 15)
 unfolding made room soundb advanced reached aim replyLength setup legal field numberIn lowNumber turned cut choose refuse both either
 handshake-order = (refl, refl, refl, refl, refl, refl, refl)
+
+-- "Setup buffer: 8 to 262,148"
+pub buffer-ends : (made 108 8 ≡ gives (fresh 108)) × (made 66 262148 ≡ gives (fresh 66)) × (made 108 262149 ≡ refuses 9)
+unfolding made room legal refuse both either
+buffer-ends = (refl, refl, refl)

@@ -67,7 +67,8 @@ impl Connect {
         Capacity::Bytes(self.target - self.filled)
     }
 
-    // The part of the buffer that is to be filled next; empty once the reply is complete.
+    // The part of the buffer that is to be filled next; empty once the reply is complete, and where
+    // the handshake is unsound.
     pub fn buffer<'a>(self, buf: &'a mut [u8]) -> &'a mut [u8]
         ensures { λ r. ⌜ Lent self (buf .entry) r ⌝ }
     {

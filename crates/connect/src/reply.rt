@@ -19,7 +19,7 @@ const SUCCESS: u8 = 1;
 
 const AUTHENTICATE: u8 = 2;
 
-// The fixed fields of a success, by Core's names.
+// The fixed fields of a success; Core's names stand above them.
 pub struct Setup {
     // protocol-major-version and protocol-minor-version.
     pub major: u16,

@@ -9,15 +9,17 @@ use borrow.Author.Tests.{leb-true, eqb-true, eq-eqb, ne-eqb, not-false}
 use Rattle.octets.specs.Logic.{both-left, both-right}
 use Rattle.octets.specs.Bytes.{legal}
 use Rattle.refusal.specs.Answer.{Answer, gives, refuses, refuse, pass, gives-past, gives-rest, refuse-under}
-use Rattle.requests.specs.Room.{outstanding, capacity}
+use Rattle.requests.specs.Room.{capacity, mostRequests}
 use Rattle.requests.specs.Theorems.{outstanding-none, legals-none, sized-is}
 use Rattle.held.specs.Reading as Store
 use Rattle.held.specs.Theorems as Held
 use Rattle.held.specs.Soundness.{Holds}
+use Rattle.held.specs.Head.{mostStore}
 use Rattle.descriptors.specs.Room as Slots
 use Rattle.descriptors.specs.Theorems as Fds
+use Rattle.descriptors.specs.Room.{mostDescriptors}
 use Rattle.model.specs.Client.{Client}
-use Rattle.model.specs.Model.{mostDescriptors, mostRequests, leastBytes, mostBytes, roomy, fresh, new}
+use Rattle.model.specs.Model.{leastStore, roomy, fresh, new}
 use Rattle.model.specs.Reading.{Rooms, reads, withDescriptors, eventOf, slotsOf}
 use Rattle.model.specs.Promise.{Done, answerOf, roomsOf, modelOf, exact-refused, exact-given, gives-same, model-refuse}
 use Rattle.model.specs.Sound.{Sound}
@@ -26,7 +28,7 @@ use Rattle.sending.specs.Send.{same}
 use Rattle.connection.specs.Calls.{freshState, openExact, opened, Opens}
 
 module _ (o : ℕ) (r : Rooms) (f : length (r .slots) ≡ mostDescriptors) (g : roomy (length (r .requests)) (length (r .store)) ≡ true) where
-  most : length (r .store) ≤ mostBytes
+  most : length (r .store) ≤ mostStore
   unfolding roomy
   most = leb-true _ _ (both-right _ _ (both-right _ _ g))
 
@@ -57,7 +59,7 @@ module _ (o : ℕ) (r : Rooms) (f : length (r .slots) ≡ mostDescriptors) (g : 
   fresh-sound h =
       let a : 1 ≤ length (r .requests) = leb-true _ _ (both-left _ _ (both-left _ _ g)) in
       let b : length (r .requests) ≤ mostRequests = leb-true _ _ (both-right _ _ (both-left _ _ g)) in
-      let l : leastBytes ≤ length (r .store) = leb-true _ _ (both-left _ _ (both-right _ _ g)) in
+      let l : leastStore ≤ length (r .store) = leb-true _ _ (both-left _ _ (both-right _ _ g)) in
       record {
         order = h;
         requests = sized-is (length (r .requests)) (r .requests) .1 (record { least = a; most = b; holds = refl });

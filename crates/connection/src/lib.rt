@@ -24,8 +24,6 @@ use model::Sent;
 use model::SentMany;
 use refusal::Refusal;
 ghost use mathlib.Core.Path.{_≡_};
-ghost use mathlib.Core.List.{List};
-ghost use lib.ListN.{length};
 ghost use Rattle.model.specs.Model.{roomy};
 ghost use Rattle.model.specs.Reading.{rooms};
 ghost use Rattle.model.specs.Says.{saysNext, saysSent, saysEnqueued, saysPolled, saysPollReply, saysEvent, saysClosed, saysPrepared};

@@ -1,19 +1,19 @@
 -- The oldest record of a window: it is found where it is an event, and nothing moves where it goes. Assumes nothing.
 use mathlib.Core.Path.{_≡_, refl, sym, ap, _∙_}
 use mathlib.Core.Bool.{true}
-use mathlib.Core.List.{List, [], _∷_}
+use mathlib.Core.List.{List}
 use Prim.Native.Nat.{ℕ, _+_, _-_, _≤_, _<_}
 use native.Mathlib.Omega.{arith}
 use lib.Dec.{ltb}
-use lib.ListN.{length, drop}
+use lib.ListN.{drop}
 use borrow.Author.Tests.{le-ltb}
-use Rattle.octets.specs.Put.{put, cut, length-cut, put-none}
+use Rattle.octets.specs.Put.{put, cut, put-none}
 use Rattle.held.specs.General.{choose-yes, choose-no}
-use Rattle.held.specs.Head.{Held, Fits, headerSize, leastPacket, event, numOf, lenOf, fdsOf, kindOf}
-use Rattle.held.specs.Front.{Stands, stands}
-use Rattle.held.specs.Reading.{inside, flat, records, All, Readable}
-use Rattle.held.specs.Find.{placeOf, sought, suits-any, wanted, foundEvent}
-use Rattle.held.specs.Moves.{window, Left, left, size, next, removed}
+use Rattle.held.specs.Head.{headerSize, leastPacket, event, numOf, lenOf, fdsOf, kindOf}
+use Rattle.held.specs.Reading.{records, Readable}
+use Rattle.held.specs.Rest.{rest-all, turn, turn-room}
+use Rattle.held.specs.Find.{sought, suits-any, wanted, foundEvent}
+use Rattle.held.specs.Moves.{window, left, size, next, removed}
 use Rattle.held.specs.declared.Window.{Window}
 use Rattle.held.specs.declared.Place.{Place}
 use Rattle.held.specs.declared.Found.{Found}
@@ -23,31 +23,16 @@ use Rattle.held.specs.declared.Found.the-variants as Found
 abbrev pub firstPlace : Window → List ℕ → Place
 firstPlace w s = record { at = w .start; len = lenOf (drop (w .start) s); number = numOf (drop (w .start) s); fds = fdsOf (drop (w .start) s); before = 0 }
 
--- the record that stands there
-pub record First (w : Window) (s : List ℕ) : Type 0 where
-  pub it : Held
-  pub rest : List Held
-  pub is : records w s ≡ it ∷ rest
-  pub here : Stands s (w .start) (w .end - w .start) it (flat rest)
-
-first : (w : Window) (s : List ℕ) → Readable w s → w .start < w .end → First w s
-unfolding flat All
-first w s R h = go (records w s) (R .bytes) (R .fit) refl
-  where
-    go : (hs : List Held) → inside w s ≡ flat hs → All Fits hs → records w s ≡ hs → First w s
-    go [] e f i = absurd (omega (arith, ap length e, length-cut (w .start) (w .end - w .start) s (omega (arith, R .order, R .within))))
-    go (x ∷ t) e f i = record { it = x; rest = t; is = i; here = stands s (w .start) (w .end - w .start) x (flat t) (omega (arith, R .order, R .within)) e (f .0) }
-
 module _ (w : Window) (s : List ℕ) (R : Readable w s) (some : w .start < w .end) where
   -- it lies in the window,
   pub first-room : (w .start + (headerSize + leastPacket) ≤ w .end) × (w .start + (headerSize + lenOf (drop (w .start) s)) ≤ w .end)
-  first-room = let H = first w s R some .here in (omega (arith, H .least, H .most), omega (arith, H .len, H .most))
+  first-room = let z = turn-room s (w .start) (w .end) (records w s) (rest-all w s R) some in (omega (arith, z), omega (arith, z))
 
   -- and is found where it is an event.
   pub first-found : kindOf (drop (w .start) s) ≡ event → Found.At (firstPlace w s) ≡ foundEvent w s
   unfolding foundEvent sought
   first-found k =
-      let F = first w s R some in
+      let F = turn s (w .start) (w .end) (records w s) (rest-all w s R) some in
       let H = F .here in
       let t : wanted event true 0 (F .it) ≡ true = sym (suits-any event true 0 (F .it .kind) (F .it .number) (sym (H .kind) ∙ k) refl) in
       (λ i. Found.At (record { at = w .start; len = H .len i; number = H .number i; fds = H .fds i; before = 0 }))

@@ -2,7 +2,6 @@
 use mathlib.Core.Path.{_≡_, refl, sym, ap, _∙_, subst}
 use mathlib.Core.Bool.{Bool, true, false}
 use mathlib.Core.List.{List, [], _∷_, _++_}
-use mathlib.Core.Logic.{_⊎_, inl, inr}
 use Prim.Native.Nat.{ℕ, suc, _+_, _-_, _*_, _≤_, _<_, _^_}
 use native.Mathlib.Omega.{arith}
 use lib.Dec.{eqb}
@@ -12,14 +11,10 @@ use lib.Seq.{take-at, drop-at, drop-drop}
 use borrow.Author.Tests.{eq-eqb, eqb-true}
 use Rattle.octets.specs.Logic.{choose, both, both-left, both-right, both-yes, apart}
 use Rattle.octets.specs.Bytes.{littleOrder, word, Octets, lowNumber, turned, numberIn, length-bytesOf, number-bytes}
-use Rattle.octets.specs.Put.{cut, cut-cut, take-cut, drop-cut}
+use Rattle.octets.specs.Put.{put, cut, cut-add, cut-cut, take-cut, drop-cut, cut-put, cut-put-before}
 use Rattle.octets.specs.Field.{field, field-one}
 
 -- ---- tests
-
-pub is-or-not : (b : Bool) → (b ≡ true) ⊎ (b ≡ false)
-is-or-not true = inl refl
-is-or-not false = inr refl
 
 pub choose-yes : {A : Type 0} (b : Bool) (x y : A) → b ≡ true → choose b x y ≡ x
 unfolding choose
@@ -87,6 +82,16 @@ cut-left s at m a b e h = sym (take-cut s at m (length a) h) ∙ ap (λ (l : Lis
 
 pub cut-right : (s : List ℕ) (at m : ℕ) (a b : List ℕ) → cut at m s ≡ a ++ b → length a ≤ m → cut (at + length a) (m - length a) s ≡ b
 cut-right s at m a b e h = sym (drop-cut s at m (length a) h) ∙ ap (λ (l : List ℕ). drop (length a) l) e ∙ drop-at a b (length a) refl
+
+-- a cut that ends with what was put at an index holds what stood before it, and that
+pub cut-put-last : (s : List ℕ) (a at e : ℕ) (v : List ℕ) → a ≤ at → at ≤ e → e ≤ length s → length v ≡ e - at → cut a (e - a) (put s at v) ≡ cut a (at - a) s ++ v
+cut-put-last s a at e v h k r l =
+    let p : e - a ≡ at - a + (e - at) = omega arith in
+    let q : a + (at - a) ≡ at = omega arith in
+    ap (λ (n : ℕ). cut a n (put s at v)) p
+    ∙ cut-add a (at - a) (e - at) (put s at v)
+    ∙ (λ i. cut-put-before s at v a (at - a) (omega arith) (omega arith) i ++ cut (q i) (e - at) (put s at v))
+    ∙ ap (λ (x : List ℕ). cut a (at - a) s ++ x) (cut-put s at v (e - at) l (omega arith))
 
 -- ---- fields
 

@@ -149,6 +149,14 @@ fits-so h f =
     (both-yes _ _ (le-leb (length (h .packet)) mostPacket (f .most))
     (both-yes _ _ (le-leb (h .kind) event (f .kind)) (le-leb (h .fds) (mostFds (h .kind)) (f .count)))))
 
+-- A packet of a length that is allowed fits as a reply with a count of one byte, and as an event without descriptors.
+pub fits-reply : (number fds : ℕ) (p : List ℕ) → number < 2 ^ 64 → fds < 256 → leastPacket ≤ length p → length p ≤ mostPacket → Fits (held number fds reply p)
+unfolding mostFds choose
+fits-reply number fds p n f l m = record { number = n; least = l; most = m; kind = omega arith; count = omega arith }
+
+pub fits-event : (number : ℕ) (p : List ℕ) → number < 2 ^ 64 → leastPacket ≤ length p → length p ≤ mostPacket → Fits (held number 0 event p)
+fits-event number p n l m = record { number = n; least = l; most = m; kind = omega arith; count = omega arith }
+
 -- one byte holds the count
 pub mostFds-byte : (kind : ℕ) → mostFds kind ≤ 255
 unfolding mostFds choose
@@ -217,17 +225,17 @@ module _ (x : List ℕ) (o : Octets x) where
   encoded-decoded h z =
       let n : ℕ = lenOf x in
       let l : length (cut headerSize n x) ≡ n = length-cut headerSize n x h in
-      let whole : cut 0 (headerSize + n) x ≡ cut 0 8 x ++ (cut 8 4 x ++ (cut 12 1 x ++ (cut 13 1 x ++ (cut 14 2 x ++ cut headerSize n x)))) =
+      let whole : cut 0 (headerSize + n) x ≡ cut numberAt 8 x ++ (cut lengthAt 4 x ++ (cut countAt 1 x ++ (cut kindAt 1 x ++ (cut zeroAt 2 x ++ cut headerSize n x)))) =
       cut-add 0 headerSize n x
       ∙ ap (λ (l : List ℕ). l ++ cut headerSize n x)
-      (cut-add 0 8 8 x
-      ∙ ap (λ (l : List ℕ). cut 0 8 x ++ l)
-      (cut-add 8 4 4 x ∙ ap (λ (l : List ℕ). cut 8 4 x ++ l) (cut-add 12 1 3 x ∙ ap (λ (l : List ℕ). cut 12 1 x ++ l) (cut-add 13 1 2 x))))
+      (cut-add numberAt 8 8 x
+      ∙ ap (λ (l : List ℕ). cut numberAt 8 x ++ l)
+      (cut-add lengthAt 4 4 x ∙ ap (λ (l : List ℕ). cut lengthAt 4 x ++ l) (cut-add countAt 1 3 x ∙ ap (λ (l : List ℕ). cut countAt 1 x ++ l) (cut-add kindAt 1 2 x))))
       ∙ simp append-assoc in
       (λ k.
-      word-field 0 8 (omega arith) k
-      ++ ((ap (word 4) l ∙ word-field 8 4 (omega arith)) k
-      ++ (word-field 12 1 (omega arith) k ++ (word-field 13 1 (omega arith) k ++ ((ap (word 2) (sym z) ∙ word-field 14 2 (omega arith)) k ++ cut headerSize n x)))))
+      word-field numberAt 8 (omega arith) k
+      ++ ((ap (word 4) l ∙ word-field lengthAt 4 (omega arith)) k
+      ++ (word-field countAt 1 (omega arith) k ++ (word-field kindAt 1 (omega arith) k ++ ((ap (word 2) (sym z) ∙ word-field zeroAt 2 (omega arith)) k ++ cut headerSize n x)))))
       ∙ sym whole
 
 -- A record is made an event by two bytes.
@@ -260,11 +268,11 @@ put-encoded s s₁ s₂ s₃ s₄ s₅ at number n fds kind p a b c d e l f g ro
     let l8 : length (word 8 number) ≡ 8 = length-bytesOf littleOrder 8 number in
     let l4 : length (word 4 n) ≡ 4 = length-bytesOf littleOrder 4 n in
     let l2 : length (word 2 0) ≡ 2 = length-bytesOf littleOrder 2 0 in
-    let q₁ : s₁ ≡ put s at (word 8 number) = put-next s s s₁ at 0 [] (word 8 number) (sym (put-none s at)) refl a (omega arith) in
-    let q₂ : s₂ ≡ put s at (word 8 number ++ word 4 n) = put-next s s₁ s₂ at 8 _ _ q₁ l8 b (omega arith) in
-    let q₃ : s₃ ≡ put s at (word 8 number ++ word 4 n ++ (fds ∷ kind ∷ [])) = put-next s s₂ s₃ at 12 _ _ q₂ (simp (length-append, length-bytesOf)) c (omega arith) in
-    let q₄ : s₄ ≡ put s at (word 8 number ++ word 4 n ++ (fds ∷ kind ∷ []) ++ word 2 0) = put-next s s₃ s₄ at 14 _ _ q₃ (simp (length-append, length-bytesOf)) d (omega arith) in
-    let q₅ : s₅ ≡ put s at (word 8 number ++ word 4 n ++ (fds ∷ kind ∷ []) ++ word 2 0 ++ p) = put-next s s₄ s₅ at 16 _ _ q₄ (simp (length-append, length-bytesOf)) e room in
+    let q₁ : s₁ ≡ put s at (word 8 number) = put-next s s s₁ at numberAt [] (word 8 number) (sym (put-none s at)) refl a (omega arith) in
+    let q₂ : s₂ ≡ put s at (word 8 number ++ word 4 n) = put-next s s₁ s₂ at lengthAt _ _ q₁ l8 b (omega arith) in
+    let q₃ : s₃ ≡ put s at (word 8 number ++ word 4 n ++ (fds ∷ kind ∷ [])) = put-next s s₂ s₃ at countAt _ _ q₂ (simp (length-append, length-bytesOf)) c (omega arith) in
+    let q₄ : s₄ ≡ put s at (word 8 number ++ word 4 n ++ (fds ∷ kind ∷ []) ++ word 2 0) = put-next s s₃ s₄ at zeroAt _ _ q₃ (simp (length-append, length-bytesOf)) d (omega arith) in
+    let q₅ : s₅ ≡ put s at (word 8 number ++ word 4 n ++ (fds ∷ kind ∷ []) ++ word 2 0 ++ p) = put-next s s₄ s₅ at headerSize _ _ q₄ (simp (length-append, length-bytesOf)) e room in
     q₅ ∙ (λ k. put s at (word 8 number ++ word 4 (l k) ++ two k ++ word 2 0 ++ p)) ∙ ap (put s at) (simp append-assoc)
   where
     mod-byte : (x : ℕ) → x < 256 → x % 256 ≡ x

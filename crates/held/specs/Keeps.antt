@@ -4,7 +4,7 @@ use mathlib.Core.List.{List, [], _∷_, _++_, append-assoc, append-nil}
 use Prim.Native.Nat.{ℕ, _+_, _-_, _≤_}
 use native.Mathlib.Omega.{arith}
 use lib.ListN.{length}
-use Rattle.held.specs.Head.{Held, Fits, cost, encoded, asEvent}
+use Rattle.held.specs.Head.{Held, Fits, cost, encoded, asEvent, fits-event}
 use Rattle.held.specs.Front.{Stands, stands}
 use Rattle.held.specs.Reading.{used, flat, records, costs, Known, Sound}
 use Rattle.held.specs.Rows.{length-flat, flat-append, all-here}
@@ -69,11 +69,6 @@ module _ (last : ℕ) (w : Window) (s : List ℕ) (S : Sound last w s) where
         (sym (flat-append (L .front) (L .back)))
         (fine-without last (L .front) it (L .back) was)
 
-    fits-event : Fits (asEvent it)
-    fits-event =
-        let f : Fits it = fits-it in
-        record { number = f .number; least = f .least; most = f .most; kind = omega arith; count = omega arith }
-
     pub kept-demoted : Kept last (length s) (left w (demoted w s p)) (L .front ++ L .back ++ (asEvent it ∷ []))
     unfolding flat
     kept-demoted =
@@ -84,5 +79,5 @@ module _ (last : ℕ) (w : Window) (s : List ℕ) (S : Sound last w s) where
         (flat-append a (asEvent it ∷ [])
         ∙ (λ k. flat-append (L .front) (L .back) k ++ append-nil (encoded (asEvent it)) k)
         ∙ append-assoc (flat (L .front)) (flat (L .back)) (encoded (asEvent it))))
-        (fine-last last a (asEvent it) (fine-without last (L .front) it (L .back) was) fits-event (all-here (Known last) (L .front) it (L .back) (was .known))
+        (fine-last last a (asEvent it) (fine-without last (L .front) it (L .back) was) (fits-event (it .number) (it .packet) (fits-it .number) (fits-it .least) (fits-it .most)) (all-here (Known last) (L .front) it (L .back) (was .known))
         (λ e. absurd (omega arith)))

@@ -2,6 +2,7 @@ pub mod General
 pub mod Head
 pub mod Front
 pub mod Reading
+pub mod Rest
 pub mod Rows
 pub mod Soundness
 pub mod Walk

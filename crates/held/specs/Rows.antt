@@ -3,7 +3,6 @@ use mathlib.Core.Path.{_≡_, refl, sym, ap, _∙_}
 use mathlib.Core.Bool.{Bool, true, false}
 use mathlib.Core.List.{List, [], _∷_, _++_, append-assoc}
 use Prim.Native.Nat.{ℕ, zero, suc, _+_, _≤_, _<_}
-use native.Mathlib.Nat.{add-assoc, zero-add}
 use native.Mathlib.Omega.{arith}
 use native.Mathlib.Decide.{ℕ-discrete}
 use lib.Dec.{eqb}
@@ -27,10 +26,14 @@ unfolding flat
 flat-append [] b = refl
 flat-append (h ∷ a) b = ap (λ (l : List ℕ). encoded h ++ l) (flat-append a b) ∙ sym (append-assoc (encoded h) (flat a) (flat b))
 
+-- what adds up over a row adds up over two side by side
+adds : (one : Held → ℕ) (sum : List Held → ℕ) → sum [] ≡ 0 → ((h : Held) (l : List Held) → sum (h ∷ l) ≡ one h + sum l) → (a b : List Held) → sum (a ++ b) ≡ sum a + sum b
+adds one sum z s [] b = omega arith
+adds one sum z s (h ∷ a) b = omega (arith, s h (a ++ b), s h a, adds one sum z s a b)
+
 pub costs-append : (a b : List Held) → costs (a ++ b) ≡ costs a + costs b
 unfolding costs
-costs-append [] b = sym (zero-add (costs b))
-costs-append (h ∷ a) b = ap (λ (n : ℕ). cost h + n) (costs-append a b) ∙ sym (add-assoc (cost h) (costs a) (costs b))
+costs-append = adds cost costs refl (λ h l. refl)
 
 -- a longer reading changes nothing
 enough : (f g : ℕ) (x : List ℕ) → length x ≤ f → length x ≤ g → readUpTo f x ≡ readUpTo g x
@@ -87,8 +90,7 @@ only-other kind h hs e = choose-no _ _ _ (ne-eqb (h .kind) kind e)
 
 pub fdsIn-append : (a b : List Held) → fdsIn (a ++ b) ≡ fdsIn a + fdsIn b
 unfolding fdsIn
-fdsIn-append [] b = sym (zero-add (fdsIn b))
-fdsIn-append (h ∷ a) b = ap (λ (n : ℕ). h .fds + n) (fdsIn-append a b) ∙ sym (add-assoc (h .fds) (fdsIn a) (fdsIn b))
+fdsIn-append = adds (λ h. h .fds) fdsIn refl (λ h l. refl)
 
 -- the descriptors are the replies', since an event has none
 pub fds-step : (h : Held) (hs : List Held) → Fits h → fdsIn (only reply (h ∷ hs)) ≡ h .fds + fdsIn (only reply hs)

@@ -5,8 +5,8 @@ use Prim.Native.Nat.{ℕ, _+_, _-_, _≤_}
 use native.Mathlib.Omega.{arith}
 use lib.Dec.{ltb}
 use lib.ListN.{length, length-append}
-use Rattle.octets.specs.Put.{put, cut, cut-add, length-cut, length-put, cut-put, cut-put-before, cut-put-after}
-use Rattle.held.specs.General.{choose-either, cut-left, cut-right}
+use Rattle.octets.specs.Put.{put, cut, cut-add, length-cut, length-put, cut-put, cut-put-after}
+use Rattle.held.specs.General.{choose-either, cut-left, cut-right, cut-put-last}
 use Rattle.held.specs.Head.{Held, cost, encoded, asEvent, length-encoded, encoded-event, headerSize, countAt, event}
 use Rattle.held.specs.Reading.{inside, used}
 use Rattle.held.specs.Moves.{window, Left, left, behind, slid, stays, stays-room, appended, size, next, Within, removed, demoted}
@@ -32,16 +32,11 @@ shows-behind n l x h S r =
     let a : ℕ = l .window .start in
     let e : ℕ = l .window .end in
     let v : length (encoded h) ≡ cost h = length-encoded h in
-    let q : e + cost h - a ≡ e - a + cost h = omega (arith, S .order) in
-    let p : a + (e - a) ≡ e = omega (arith, S .order) in
     record {
       long = length-put s e (encoded h) (omega (arith, S .long)) ∙ S .long;
       order = omega (arith, S .order);
       within = r;
-      bytes = ap (λ (m : ℕ). cut a m (put s e (encoded h))) q
-          ∙ cut-add a (e - a) (cost h) (put s e (encoded h))
-          ∙ (λ k. cut-put-before s e (encoded h) a (e - a) (omega arith) (omega (arith, S .long)) k ++ cut (p k) (cost h) (put s e (encoded h)))
-          ∙ (λ k. S .bytes k ++ cut-put s e (encoded h) (cost h) v (omega (arith, S .long)) k);
+      bytes = cut-put-last s a e (e + cost h) (encoded h) (S .order) (omega arith) (omega (arith, S .long)) (omega arith) ∙ ap (λ (y : List ℕ). y ++ encoded h) (S .bytes);
     }
 
 shows-slid : (n : ℕ) (l : Left) (x : List ℕ) → Shows n l x → Shows n (slid l) x
@@ -127,16 +122,12 @@ module _ (n : ℕ) (w : Window) (s : List ℕ) (p : Place) (f : List ℕ) (h : H
       let lv : length v ≡ p .at - w .start = length-cut (w .start) (p .at - w .start) s (omega (arith, I .from, I .fits, I .within)) in
       choose-either (λ (l : Left). Shows n l (f ++ b)) (ltb (w .end - next p) (p .at - w .start)) _ _
       (λ t.
-      let e : w .end - size p - w .start ≡ p .at - w .start + (w .end - next p) = omega (arith, I .from, I .fits) in
-      let m : w .start + (p .at - w .start) ≡ p .at = omega (arith, I .from) in
       record {
         long = length-put s (p .at) u (omega (arith, I .fits, I .within)) ∙ S .long;
         order = omega (arith, I .from, I .fits);
         within = omega (arith, S .within);
-        bytes = ap (λ (i : ℕ). cut (w .start) i (put s (p .at) u)) e
-            ∙ cut-add (w .start) (p .at - w .start) (w .end - next p) (put s (p .at) u)
-            ∙ (λ k. cut-put-before s (p .at) u (w .start) (p .at - w .start) (omega arith) (omega (arith, I .fits, I .within)) k ++ cut (m k) (w .end - next p) (put s (p .at) u))
-            ∙ (λ k. before-is k ++ (cut-put s (p .at) u (w .end - next p) lu (omega (arith, I .fits, I .within)) ∙ after-is) k);
+        bytes = cut-put-last s (w .start) (p .at) (w .end - size p) u (I .from) (omega (arith, I .fits)) (omega (arith, I .within)) (omega (arith, lu))
+            ∙ (λ k. before-is k ++ after-is k);
       })
       (λ t.
       let a : ℕ = w .start + size p in
@@ -164,14 +155,9 @@ module _ (n : ℕ) (w : Window) (s : List ℕ) (p : Place) (f : List ℕ) (h : H
       let is : v ≡ b ++ encoded (asEvent h) = λ k. after-is k ++ (ap (λ (x : List ℕ). put x countAt (0 ∷ event ∷ [])) place-is ∙ encoded-event h) k in
       let lv : length v ≡ w .end - p .at =
       ap length is ∙ length-append b (encoded (asEvent h)) ∙ omega (arith, length-encoded (asEvent h), length-encoded h, lengths, B .at, S .order) in
-      let e : used w ≡ p .at - w .start + (w .end - p .at) = omega (arith, I .from, I .fits) in
-      let m : w .start + (p .at - w .start) ≡ p .at = omega (arith, I .from) in
       record {
         long = length-put s (p .at) v (omega (arith, I .fits, I .within)) ∙ S .long;
         order = S .order;
         within = S .within;
-        bytes = ap (λ (i : ℕ). cut (w .start) i (put s (p .at) v)) e
-            ∙ cut-add (w .start) (p .at - w .start) (w .end - p .at) (put s (p .at) v)
-            ∙ (λ k. cut-put-before s (p .at) v (w .start) (p .at - w .start) (omega arith) (omega (arith, I .fits, I .within)) k ++ cut (m k) (w .end - p .at) (put s (p .at) v))
-            ∙ (λ k. before-is k ++ (cut-put s (p .at) v (w .end - p .at) lv (omega (arith, I .fits, I .within)) ∙ is) k);
+        bytes = cut-put-last s (w .start) (p .at) (w .end) v (I .from) (omega (arith, I .fits)) (I .within) lv ∙ (λ k. before-is k ++ is k);
       }

@@ -1,5 +1,5 @@
 -- How many replies there are of a number, and of higher ones. Assumes nothing.
-use mathlib.Core.Path.{_≡_}
+use mathlib.Core.Path.{_≡_, refl, ap, _∙_}
 use mathlib.Core.Bool.{Bool, true, false}
 use mathlib.Core.List.{List, [], _∷_}
 use Prim.Native.Nat.{ℕ, _+_, _≤_, _<_}
@@ -40,38 +40,26 @@ tallyOne n k m = record { own = choose (both (eqb k reply) (eqb m n)) 1 0; above
 
 -- ---- laws
 
--- a record in front counts for itself
+-- where f picks records by a test t, one in front of a row is one more if it is of the kind and passes
+front-one : (b : Bool) (h : Held) (l : List Held) → length (choose b (h ∷ l) l) ≡ choose b 1 0 + length l
+unfolding choose
+front-one true h l = omega arith
+front-one false h l = omega arith
+
+front-kind : (f : List Held → List Held) (t : Bool) (h : Held) (l : List Held) → f (h ∷ l) ≡ choose t (h ∷ f l) (f l) → (a : Bool) → length (f (choose a (h ∷ l) l)) ≡ choose (both a t) 1 0 + length (f l)
+unfolding choose both
+front-kind f t h l e true = ap length e ∙ front-one t h (f l)
+front-kind f t h l e false = omega arith
+
+-- so it counts for itself, among those of the number and among those above it
 module _ (n : ℕ) (h : Held) (l : List Held) where
-  abbrev one : Tally
-  one = tallyOne n (h .kind) (h .number)
+  pub own-front : length (own n (only reply (h ∷ l))) ≡ tallyOne n (h .kind) (h .number) .own + length (own n (only reply l))
+  unfolding own only tallyOne
+  own-front = front-kind (own n) (eqb (h .number) n) h (only reply l) refl (eqb (h .kind) reply)
 
-  own-one : (b : Bool) → length (choose b (h ∷ own n l) (own n l)) ≡ choose b 1 0 + length (own n l)
-  unfolding choose
-  own-one true = omega arith
-  own-one false = omega arith
-
-  own-kind : (a : Bool) → length (own n (choose a (h ∷ l) l)) ≡ choose (both a (eqb (h .number) n)) 1 0 + length (own n l)
-  unfolding choose both own
-  own-kind true = own-one (eqb (h .number) n)
-  own-kind false = omega arith
-
-  above-one : (b : Bool) → length (choose b (h ∷ higher n l) (higher n l)) ≡ choose b 1 0 + length (higher n l)
-  unfolding choose
-  above-one true = omega arith
-  above-one false = omega arith
-
-  above-kind : (a : Bool) → length (higher n (choose a (h ∷ l) l)) ≡ choose (both a (ltb n (h .number))) 1 0 + length (higher n l)
-  unfolding choose both higher
-  above-kind true = above-one (ltb n (h .number))
-  above-kind false = omega arith
-
-pub own-front : (n : ℕ) (h : Held) (l : List Held) → length (own n (only reply (h ∷ l))) ≡ tallyOne n (h .kind) (h .number) .own + length (own n (only reply l))
-unfolding only tallyOne
-own-front n h l = own-kind n h (only reply l) (eqb (h .kind) reply)
-
-pub above-front : (n : ℕ) (h : Held) (l : List Held) → length (higher n (only reply (h ∷ l))) ≡ tallyOne n (h .kind) (h .number) .above + length (higher n (only reply l))
-unfolding only tallyOne
-above-front n h l = above-kind n h (only reply l) (eqb (h .kind) reply)
+  pub above-front : length (higher n (only reply (h ∷ l))) ≡ tallyOne n (h .kind) (h .number) .above + length (higher n (only reply l))
+  unfolding higher only tallyOne
+  above-front = front-kind (higher n) (ltb n (h .number)) h (only reply l) refl (eqb (h .kind) reply)
 
 -- what each record comes to
 module _ (n k m : ℕ) where

@@ -3,13 +3,13 @@ use mathlib.Core.Path.{_≡_, refl, sym, ap, _∙_}
 use mathlib.Core.Bool.{true}
 use mathlib.Core.List.{List, [], _∷_, _++_, append-nil}
 use mathlib.Core.Logic.{_↔_}
-use Prim.Native.Nat.{ℕ, _+_, _-_, _≤_, _<_, _^_}
+use Prim.Native.Nat.{ℕ, _+_, _-_, _≤_, _<_}
 use native.Mathlib.Omega.{arith}
 use lib.ListN.{length, getD}
 use Rattle.octets.specs.Logic.{choose, apart}
 use Rattle.octets.specs.Put.{put, cut, cut-none, getD-cut}
 use Rattle.held.specs.General.{choose-either}
-use Rattle.held.specs.Head.{Held, held, Fits, cost, mostFds, mostPacket, asEvent, reply, event, headerSize, leastPacket, mostStore}
+use Rattle.held.specs.Head.{Held, Fits, cost, asEvent, reply, event, headerSize, mostStore}
 use Rattle.held.specs.Front.{Stands}
 use Rattle.held.specs.Reading.{used, flat, records, replies, events, only, fdsIn, costs, All, Rising, Sound, soundb}
 use Rattle.held.specs.Rows.{only-append, only-is, only-other, costs-append, costs-kinds}
@@ -60,14 +60,6 @@ sound-empty last w s m e i =
     holds last w s [] m (omega arith) i (ap (λ (n : ℕ). cut (w .start) n s) z ∙ cut-none s (w .start)) (record { fit = tt; rising = tt; known = tt })
 
 -- ---- append
-
--- A packet of a length that is allowed fits as a reply with a count of one byte, and as an event without descriptors.
-pub fits-reply : (number fds : ℕ) (p : List ℕ) → number < 2 ^ 64 → fds < 256 → leastPacket ≤ length p → length p ≤ mostPacket → Fits (held number fds reply p)
-unfolding mostFds choose
-fits-reply number fds p n f l m = record { number = n; least = l; most = m; kind = omega arith; count = omega arith }
-
-pub fits-event : (number : ℕ) (p : List ℕ) → number < 2 ^ 64 → leastPacket ≤ length p → length p ≤ mostPacket → Fits (held number 0 event p)
-fits-event number p n l m = record { number = n; least = l; most = m; kind = omega arith; count = omega arith }
 
 -- The new record is the last of its list, the other list is as it was, and its cost is used.
 pub record Appended (w : Window) (s : List ℕ) (h : Held) (l : Left) : Type 0 where

@@ -1,9 +1,8 @@
 // Where a record is: one pass from the oldest on.
 ghost use mathlib.Core.Path.{_≡_};
-ghost use mathlib.Core.Bool.{true, false};
 ghost use Prim.Native.Nat.{_+_, _≤_};
 ghost use lib.ListN.{length, drop};
-ghost use Rattle.held.specs.Head.{headerSize, reply, event, kindOf, numOf};
+ghost use Rattle.held.specs.Head.{headerSize, kindOf, numOf};
 ghost use Rattle.held.specs.Reading.{Readable};
 ghost use Rattle.held.specs.Find.{suits, found, foundReply, foundEvent};
 use crate::Found;

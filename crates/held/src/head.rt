@@ -4,7 +4,7 @@ ghost use mathlib.Core.List.{[], _∷_};
 ghost use Prim.Native.Nat.{_+_, _-_, _≤_};
 ghost use lib.ListN.{length, drop};
 ghost use Rattle.octets.specs.Put.{put, cut};
-ghost use Rattle.held.specs.Head.{headerSize, mostPacket, countAt, event, held, encoded, mostFds, numOf, lenOf, fdsOf, kindOf, zeroOf};
+ghost use Rattle.held.specs.Head.{headerSize, mostPacket, countAt, held, encoded, mostFds, numOf, lenOf, fdsOf, kindOf, zeroOf};
 ghost use Rattle.held.specs.Front.{Sized};
 
 // Where the fields stand: eight bytes, four, one, one and two. The packet stands behind them.

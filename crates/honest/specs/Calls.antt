@@ -11,7 +11,7 @@ use Rattle.octets.specs.Field.{field}
 use Rattle.refusal.specs.Answer.{Answer, gives, refuses, refuse, gives-rest}
 use Rattle.sequence.specs.Numbering.{full, inRange}
 use Rattle.model.specs.Client.{Held, Client, setWaiting}
-use Rattle.model.specs.Model.{hasReply, sendRequest, enqueueFds, takeClosed, codeOf, numberOf, numbered, askedOf, placeOf, claimed, filed, Filing, takeIn, enqueuePacket, withMode, discarding, discardReply, Found, nothing, at, find, takenBy, pollForReplyOrError, checkedBy, pollCheck, repliedBy, pollForReply, eventBy, pollForEvent}
+use Rattle.model.specs.Model.{hasReply, sendRequest, enqueueFds, takeClosed, codeOf, packetNumber, numbered, askedOf, placeOf, claimed, filed, Filing, takeIn, enqueuePacket, withMode, discarding, discardReply, Found, nothing, at, find, takenBy, pollForReplyOrError, checkedBy, pollCheck, repliedBy, pollForReply, eventBy, pollForEvent}
 use Rattle.model.specs.Calls.{send, enqueue-fds, enqueue, discard, poll, check, poll-reply, prepare, poll-event, take-closed, Said, step, outcome}
 use Rattle.model.specs.Promise.{gives-same, pass-given}
 use Rattle.model.specs.declared.ReplyFdKind.{ReplyFdKind}
@@ -129,7 +129,7 @@ countedAs c p n = setWaiting (numbered c p n) (drop (claimed p (askedOf c n)) (c
 -- What an accepted packet comes to: under its number n it is taken in and filed.
 pub record Taking (c : Client) (p : List ℕ) (x : Filing × Client) : Type 0 where
   pub n : ℕ
-  pub number-is : gives n ≡ numberOf c p
+  pub number-is : gives n ≡ packetNumber c p
   pub filing-is : x .0 ≡ record { place = placeOf (codeOf p) (askedOf c n); number = n }
   pub next-is : x .1 ≡ filed (placeOf (codeOf p) (askedOf c n)) (heldAs c p n) (countedAs c p n)
 
@@ -168,7 +168,7 @@ module _ (c : Client) (p : List ℕ) (x : Filing × Client) (k : Taking c p x) w
   lands = rw (k .filing-is, k .next-is) (lands-filed (placeOf (codeOf p) (askedOf c (k .n))) (heldAs c p (k .n)) c (countedAs c p (k .n)) refl refl)
 
   pub counted : unnumbered p ≡ false → Counted c p x
-  unfolding numberOf numbered choose
+  unfolding packetNumber numbered choose
   counted h =
       let a : k .n ≡ x .0 .number = ap (λ y. y .number) (sym (k .filing-is)) in
       record {
@@ -181,7 +181,7 @@ module _ (c : Client) (p : List ℕ) (x : Filing × Client) (k : Taking c p x) w
 
   -- and one that carries none leaves them.
   pub uncounted : unnumbered p ≡ true → Still c (x .1)
-  unfolding numberOf numbered choose
+  unfolding packetNumber numbered choose
   uncounted h =
       let a : k .n ≡ c .numbers .read = gives-same (k .number-is ∙ (λ i. choose (h i) (gives (c .numbers .read)) (inRange (full (c .numbers .read) (field (c .order) 2 2 p))))) in
       (still-taken .0, still-taken .1 ∙ (λ i. record { written = c .numbers .written; expected = choose (h i) (c .numbers .expected) (max (c .numbers .expected) (a i)); read = a i }))

@@ -10,7 +10,7 @@ use borrow.Author.Tests.{leb-false, lt-leb, le-ltb}
 use Rattle.octets.specs.Logic.{choose, both}
 use Rattle.octets.specs.Field.{field}
 use Rattle.refusal.specs.Answer.{gives, refuse, gives-past, gives-rest}
-use Rattle.sequence.specs.Numbering.{lastNumber, full, inRange, full-near}
+use Rattle.sequence.specs.Numbering.{lastNumber, wireValues, full, inRange, full-near}
 use Rattle.sequence.specs.Sending as Sending
 use Rattle.sequence.specs.Sending.{sending, mustSync, syncSpan}
 use Rattle.model.specs.Client.{Numbers}
@@ -26,7 +26,7 @@ pub data Ruled (o : ℕ) : Numbers → List Event → Type 0 where
   takes-one : {n : Numbers} {l : List Event} (t : ℕ) (p : List ℕ) (f : Filing) → gives (f .number) ≡ inRange (full (n .read) (field o 2 2 p)) → Ruled o n l
       → Ruled o (record { written = n .written; expected = max (n .expected) (f .number); read = f .number }) (took t p f ∷ l)
 
--- NEVER STUCK: once a request with a reply was sent, no sync is asked for.
+-- FREED: once a request with a reply was sent, no sync is asked for.
 pub sync-frees : (w e : ℕ) (x : Sending.Numbers) → gives x ≡ sending w e true → mustSync (x .number) (x .expected) ≡ false
 unfolding sending mustSync choose both
 sync-frees w e x q =
@@ -42,7 +42,7 @@ pub record Before (l : List Event) (t : ℕ) : Type 0 where
   pub q : ℕ
   pub asked : Asked l q
   pub less : q < t
-  pub near : t ≤ q + 65535
+  pub near : t < q + wireValues
 
 -- `covered` is what carries it: each number further than 65,535 past the last read has a request with a reply closely before it, and it only gets weaker as the last read rises.
 pub record Inv (n : Numbers) (l : List Event) : Type 0 where
@@ -54,7 +54,7 @@ pub record Inv (n : Numbers) (l : List Event) : Type 0 where
   pub anchor : (n .expected ≤ n .read) ⊎ Asked l (n .expected)
   pub last : (n .read ≡ 0) ⊎ Heard l (n .read)
   pub heard : (u : ℕ) → Heard l u → u ≤ n .read
-  pub covered : (t : ℕ) → n .read + 65535 < t → t ≤ n .written → Before l t
+  pub covered : (t : ℕ) → n .read + wireValues ≤ t → t ≤ n .written → Before l t
   pub right : Right l
 
 -- it holds at the start
@@ -83,12 +83,12 @@ before-more e {l} b = record { q = b .q; asked = asked-more e l (b .q) (b .asked
 
 module _ (o : ℕ) (n : Numbers) (l : List Event) (i : Inv n l) where
   -- An honest packet is at most 65,535 past the last read: else a request with a reply stands between.
-  near-read : (t : ℕ) (p : List ℕ) → Fair o l t p → t ≤ n .read + 65535
-  near-read t p f = elim (decLe t (n .read + 65535)) [ yes h ↦ h | no far ↦ absurd (never far) ]
+  near-read : (t : ℕ) (p : List ℕ) → Fair o l t p → t < n .read + wireValues
+  near-read t p f = elim (decLe (n .read + wireValues) t) [ yes far ↦ absurd (never far) | no near ↦ omega arith ]
     where
-      never : ¬ (t ≤ n .read + 65535) → ⊥
+      never : n .read + wireValues ≤ t → ⊥
       never far =
-          let b : Before l t = i .covered t (omega arith) (omega (arith, f .known, i .counted)) in
+          let b : Before l t = i .covered t far (omega (arith, f .known, i .counted)) in
           omega (arith, i .heard (b .q) (f .answered (b .q) (b .asked) (omega (arith, b .less))), b .near)
 
   past-read : (t : ℕ) (p : List ℕ) → Fair o l t p → n .read ≤ t
@@ -96,7 +96,7 @@ module _ (o : ℕ) (n : Numbers) (l : List Event) (i : Inv n l) where
 
   -- So the least number at or above the last read is the true one,
   pub full-true : (t : ℕ) (p : List ℕ) → Fair o l t p → full (n .read) (field o 2 2 p) ≡ t
-  full-true t p f = rw (f .wire) (full-near (n .read) t (past-read t p f) (near-read t p f))
+  full-true t p f = rw (f .wire) (full-near (n .read) t (past-read t p f) (omega (arith, near-read t p f)))
 
   -- and it is never past the last number.
   pub true-range : (t : ℕ) (p : List ℕ) → Fair o l t p → inRange (full (n .read) (field o 2 2 p)) ≡ gives t
@@ -106,7 +106,7 @@ module _ (o : ℕ) (n : Numbers) (l : List Event) (i : Inv n l) where
       rw (full-true t p f, le-ltb lastNumber t e)
 
   -- The request that is sent next is at most 65,535 past a request with a reply, or past the last read.
-  covered-next : (t : ℕ) → n .read + 65535 < t → t ≤ n .written + 1 → Before l t
+  covered-next : (t : ℕ) → n .read + wireValues ≤ t → t ≤ n .written + 1 → Before l t
   covered-next t far p = elim (decLe t (n .written)) [ yes q ↦ i .covered t far q | no new ↦ here new ]
     where
       here : ¬ (t ≤ n .written) → Before l t

@@ -8,8 +8,9 @@ use lib.Dec.{ltb}
 use lib.ListN.{length}
 use Rattle.octets.specs.Logic.{choose}
 use Rattle.refusal.specs.Answer.{Answer, gives, refuses, refuse, pass}
+use Rattle.held.specs.Head.{leastPacket, mostPacket}
 use Rattle.model.specs.Client.{Client}
-use Rattle.model.specs.Model.{numberOf, askedOf, Filing, takeIn, enqueuePacket}
+use Rattle.model.specs.Model.{packetNumber, askedOf, Filing, takeIn, enqueuePacket}
 use Rattle.model.specs.Calls.{Call, step}
 use Rattle.model.specs.Promise.{Done, Promise, gives-same}
 use Rattle.model.specs.Reading.{Rooms, reads}
@@ -31,12 +32,12 @@ true-numbers r h = ruled-inv (runs-ruled r) h .right
 -- A run with an honest server, and the packet p with the true number t that comes next.
 module _ {c : Client} {log : List Event} (r : Runs c log) (h : Honest (c .order) log) (t : ℕ) (p : List ℕ) (carries : unnumbered p ≡ false) (fair : Fair (c .order) log t p) where
   -- Its number is t, and numbers do not end before it.
-  pub next-number : numberOf c p ≡ gives t
-  unfolding numberOf choose
+  pub next-number : packetNumber c p ≡ gives t
+  unfolding packetNumber choose
   next-number = rw carries (true-range (c .order) (c .numbers) log (ruled-inv (runs-ruled r) h) t p fair)
 
   -- So 1 and 2 apart, intake is the taking in under the true number,
-  pub next-packet : enqueuePacket c p ≡ refuse (ltb (length p) 32) 1 (refuse (ltb 65536 (length p)) 2 (takeIn c p t (askedOf c t)))
+  pub next-packet : enqueuePacket c p ≡ refuse (ltb (length p) leastPacket) 1 (refuse (ltb mostPacket (length p)) 2 (takeIn c p t (askedOf c t)))
   unfolding enqueuePacket pass
   next-packet = rw next-number
 

@@ -1,4 +1,4 @@
--- There are runs with an honest server: one with every kind of call and packet, runs of any length, and one that is both, past 65,536. Assumes nothing.
+-- There are runs with an honest server: one with each call, and an event, a KeymapNotify, an error and replies that are held, have a descriptor or are dropped; runs of any length; and one that is both, past 65,536. Assumes nothing.
 use mathlib.Core.Bool.{Bool, true, false}
 use mathlib.Core.List.{List, [], _∷_, _++_}
 use mathlib.Core.Logic.{inl, inr, ⊎-elim}
@@ -18,7 +18,7 @@ use Rattle.sequence.specs.Numbering.{lastNumber, wireValues}
 use Rattle.requests.specs.declared.Request.{Request}
 use Rattle.model.specs.Client.{Client, costs}
 use Rattle.model.specs.Model as Model
-use Rattle.model.specs.Model.{fresh, joining, sendRequest, Filing, somebody, numberOf, enqueuePacket, packet, pollForReplyOrError}
+use Rattle.model.specs.Model.{fresh, joining, sendRequest, Filing, somebody, packetNumber, enqueuePacket, packet, pollForReplyOrError}
 use Rattle.model.specs.Calls.{Call, send, enqueue-fds, enqueue, discard, poll, check, poll-reply, prepare, poll-event, take-closed, Said, number, done, filed, absent, answer, closed, refused, step, run}
 use Rattle.model.specs.Calls as Calls
 use Rattle.model.specs.declared.ReplyFdKind.the-variants.{NoReply, ReplyWithoutFds, ReplyWithFds}
@@ -152,7 +152,7 @@ module _ (n : ℕ) (rest : List Request) (short : length rest ≤ 1) (fewer : le
       let h : n + 1 + 1 - length (rest ++ (last ∷ [])) ≤ n + 1 = simp length-append (omega arith) in
       rw (le-ltb (n + 1) (n + 1 + 1 - length (rest ++ (last ∷ []))) h, way, drop-at rest (last ∷ []) (length rest) refl)
 
-  take-one : numberOf (sentOne n rest) (replyTo (n + 1)) ≡ gives (n + 1) → enqueuePacket (sentOne n rest) (replyTo (n + 1)) ≡ gives (inReplies (n + 1), tookOne (n + 1))
+  take-one : packetNumber (sentOne n rest) (replyTo (n + 1)) ≡ gives (n + 1) → enqueuePacket (sentOne n rest) (replyTo (n + 1)) ≡ gives (inReplies (n + 1), tookOne (n + 1))
   unfolding enqueuePacket pass refuse bytesOf turned lowBytes choose Model.takeIn Model.placeOf Model.claimed both costs Model.numbered
   take-one e =
       let m : max (n + 1) (n + 1) ≡ n + 1 = omega arith in

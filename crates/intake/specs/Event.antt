@@ -1,14 +1,14 @@
 -- The short way in: an event whose record goes behind the window as it stands, and that this is the step. Assumes nothing.
 use mathlib.Core.Path.{_≡_, refl, sym, ap, _∙_}
-use mathlib.Core.Bool.{Bool, true, false}
+use mathlib.Core.Bool.{true, false}
 use mathlib.Core.List.{List}
 use Prim.Native.Nat.{ℕ, _+_, _≤_, _<_}
 use native.Mathlib.Omega.{arith}
-use lib.Dec.{ltb, eqb}
-use lib.ListN.{length, getD}
+use lib.Dec.{ltb}
+use lib.ListN.{length}
 use borrow.Author.Tests.{le-ltb, ne-eqb}
 use Rattle.octets.specs.Logic.{choose, both}
-use Rattle.refusal.specs.Answer.{Answer, gives, refuses, refuse, pass}
+use Rattle.refusal.specs.Answer.{Answer, gives, refuse, pass}
 use Rattle.sequence.specs.Numbering.{lastNumber, saysFull}
 use Rattle.sequence.specs.declared.SequenceNumber.{SequenceNumber}
 use Rattle.sequence.specs.declared.Full.{Full}
@@ -17,20 +17,18 @@ use Rattle.held.specs.Head.{headerSize, leastPacket, mostPacket, held, event}
 use Rattle.held.specs.Reading.{used}
 use Rattle.held.specs.Moves.{left, Leaves, stays, behind, stays-room, append-behind}
 use Rattle.held.specs.declared.Window.{Window}
-use Rattle.model.specs.Client.{header}
-use Rattle.model.specs.Model.{errorCode, replyCode, codeOf, errorPlace, replyPlace, wantsDescriptors, placeOf, claimed}
+use Rattle.model.specs.Model.{errorCode, replyCode, codeOf, placeOf, claimed}
 use Rattle.model.specs.Model as Model
-use Rattle.model.specs.Reading.{Rooms, rooms}
+use Rattle.model.specs.Reading.{rooms}
 use Rattle.model.specs.declared.Connection.{Connection}
-use Rattle.model.specs.declared.Place.{Place}
 use Rattle.model.specs.declared.Place.the-variants as Place
 use Rattle.intake.specs.declared.event.Plain.{Plain}
 use Rattle.intake.specs.declared.event.Plain.the-variants as Plain
-use Rattle.intake.specs.Plan.{Ready, Task, task, numberIn, askedIn, overRoom, planBy, planOf}
-use Rattle.intake.specs.Exact.{numberedState, movedState, filing, filedAs, carriedOut, enqueueExact}
+use Rattle.intake.specs.Plan.{Ready, task, packetNumberIn, askedIn, overRoom, planBy, planOf}
+use Rattle.intake.specs.Exact.{numberedState, movedState, filing, carriedOut, enqueueExact}
 use Rattle.intake.specs.Steps.{file-event}
 
--- what is asked of the state: the window lies in its store, and there is a number after the last written
+-- what is asked of the state: the window lies in its store, and the last written is a full number
 pub record Writable (c : Connection) (s : List ℕ) : Type 0 where
   pub within : c .window .end ≤ length s
   pub store : length s ≡ c .room
@@ -44,7 +42,7 @@ pub record PlainEvent (c : Connection) (s p : List ℕ) (n : ℕ) : Type 0 where
   pub code : replyCode < codeOf p
   pub least : leastPacket ≤ length p
   pub most : length p ≤ mostPacket
-  pub number : gives n ≡ numberIn c p
+  pub number : gives n ≡ packetNumberIn c p
   pub stays-there : stays (c .window) s (headerSize + length p) ≡ true
 
 abbrev pub IsPlain : Connection → List ℕ → List ℕ → Plain → Type 0
@@ -57,7 +55,7 @@ pub record PlainStep (c : Connection) (s p : List ℕ) (n : ℕ) (a : Connection
 
 -- ---- laws
 
-pub plain-numbered : (c : Connection) (s p : List ℕ) (x : Full) → saysFull x ≡ numberIn c p → (n : SequenceNumber) → x ≡ Full.Number n
+pub plain-numbered : (c : Connection) (s p : List ℕ) (x : Full) → saysFull x ≡ packetNumberIn c p → (n : SequenceNumber) → x ≡ Full.Number n
     → replyCode < codeOf p → leastPacket ≤ length p → length p ≤ mostPacket → stays (c .window) s (headerSize + length p) ≡ true → PlainEvent c s p (n .0)
 plain-numbered c s p x e n g h least most t = record { code = h; least = least; most = most; number = ap saysFull (sym g) ∙ e; stays-there = t }
 
@@ -83,7 +81,7 @@ module _ (c : Connection) (s p : List ℕ) (n : ℕ) (W : Writable c s) (P : Pla
   -- it finds room
   over-no : overRoom c Place.Events (length p) ≡ false
   unfolding overRoom both
-  over-no = le-ltb (c .room) (used (c .window) + (header + length p)) (omega (arith, plain-room, W .store))
+  over-no = le-ltb (c .room) (used (c .window) + (headerSize + length p)) (omega (arith, plain-room, W .store))
 
   plan-plain : (a : Model.Asked) → planBy c p n a ≡ gives (task Place.Events n 0)
   unfolding planBy refuse
@@ -94,7 +92,7 @@ module _ (c : Connection) (s p : List ℕ) (n : ℕ) (W : Writable c s) (P : Pla
   plan-is : (q : List ℕ) → planOf c q p ≡ gives (task Place.Events n 0)
   unfolding planOf refuse pass
   plan-is q =
-      let x : planOf c q p ≡ pass (numberIn c p) (λ m. planBy c p m (askedIn c q m)) = simp (le-ltb (length p) leastPacket (P .least), le-ltb mostPacket (length p) (P .most)) in
+      let x : planOf c q p ≡ pass (packetNumberIn c p) (λ m. planBy c p m (askedIn c q m)) = simp (le-ltb (length p) leastPacket (P .least), le-ltb mostPacket (length p) (P .most)) in
       x
       ∙ ap (λ (z : Answer ℕ). pass z (λ m. planBy c p m (askedIn c q m))) (sym (P .number))
       ∙ plan-plain (askedIn c q n)

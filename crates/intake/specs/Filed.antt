@@ -14,10 +14,10 @@ use Rattle.held.specs.Rows.{fdsIn-append}
 use Rattle.held.specs.Theorems as Held
 use Rattle.descriptors.specs.Room as Slots
 use Rattle.descriptors.specs.Theorems as Fds
-use Rattle.model.specs.Client.{Client, setReplies, setEvents, setWaiting, setClosing, header}
+use Rattle.model.specs.Client.{setReplies, setEvents, setWaiting, setClosing}
 use Rattle.model.specs.Client as Client
 use Rattle.model.specs.Model.{isHeld, filed}
-use Rattle.model.specs.Reading.{Rooms, rooms, count, withDescriptors, eventOf, slotsOf, reads}
+use Rattle.model.specs.Reading.{Rooms, rooms, withDescriptors, eventOf, slotsOf, reads}
 use Rattle.model.specs.ReadingLaws.{with-append, with-more}
 use Rattle.model.specs.Sound.{Sound}
 use Rattle.model.specs.declared.Connection.{Connection}
@@ -31,7 +31,7 @@ pub record Fine (c : Connection) (place : Place) (k n : ℕ) : Type 0 where
   pub most : n ≤ Record.mostPacket
   pub some : k ≤ c .counts .waiting
   pub byte : k ≤ 255
-  pub room : isHeld place ≡ true → Store.used (c .window) + (header + n) ≤ c .room
+  pub room : isHeld place ≡ true → Store.used (c .window) + (Record.headerSize + n) ≤ c .room
 
 -- one record more, with the descriptors that stand behind all others
 with-one : (a : List Record.Held) (h : Record.Held) (fds more : List ℕ) → Store.fdsIn a ≡ length fds
@@ -97,7 +97,7 @@ module _ (c : Connection) (r : Rooms) (S : Sound c r) where
 
   -- ---- held
 
-  module _ (p : List ℕ) (least : Record.leastPacket ≤ length p) (most : length p ≤ Record.mostPacket) (room : Store.used (c .window) + (header + length p) ≤ c .room) where
+  module _ (p : List ℕ) (least : Record.leastPacket ≤ length p) (most : length p ≤ Record.mostPacket) (room : Store.used (c .window) + (Record.headerSize + length p) ≤ c .room) where
     append-done : (h : Record.Held) → h .number ≡ c .read → h .packet ≡ p → h .kind ≤ Record.event → h .fds ≤ Record.mostFds (h .kind)
         → Held.Appended (c .window) (r .store) h (appended (c .window) (r .store) h)
     append-done h n e kind count =

@@ -20,7 +20,7 @@ use Rattle.model.specs.Reading.{Rooms, count, reads}
 use Rattle.model.specs.ReadingLaws.{first-read}
 use Rattle.model.specs.Sound.{Sound}
 use Rattle.model.specs.declared.Connection.{Connection}
-use Rattle.intake.specs.Plan.{numberIn, raisedTo, firstAfter, askedIn}
+use Rattle.intake.specs.Plan.{packetNumberIn, raisedTo, firstAfter, askedIn}
 use Rattle.intake.specs.Exact.{numberedState}
 use Rattle.intake.specs.General.{gives-same}
 
@@ -38,8 +38,8 @@ in-range n m e =
     (x, omega arith)
 
 -- A packet's number is at or above the last read, and not past the last one.
-pub number-bounds : (c : Connection) (p : List ℕ) (n : ℕ) → c .read ≤ lastNumber → gives n ≡ numberIn c p → (c .read ≤ n) × (n ≤ lastNumber)
-unfolding numberIn choose
+pub number-bounds : (c : Connection) (p : List ℕ) (n : ℕ) → c .read ≤ lastNumber → gives n ≡ packetNumberIn c p → (c .read ≤ n) × (n ≤ lastNumber)
+unfolding packetNumberIn choose
 number-bounds c p n h e = go (eqb (codeOf p) keymapNotify) e
   where
     go : (b : Bool) → gives n ≡ choose b (gives (c .read)) (inRange (full (c .read) (field (c .order) 2 2 p))) → (c .read ≤ n) × (n ≤ lastNumber)

@@ -11,11 +11,10 @@ use Rattle.refusal.specs.Answer.{Answer, gives, refuses, refuse, pass}
 use Rattle.refusal.specs.Numbers.{numberOf}
 use Rattle.sequence.specs.Numbering.{full, inRange}
 use Rattle.requests.specs.Room.{capacity, requestAt}
-use Rattle.held.specs.Head.{leastPacket, mostPacket}
+use Rattle.held.specs.Head.{leastPacket, mostPacket, mostStore, headerSize}
 use Rattle.held.specs.Reading.{used}
 use Rattle.descriptors.specs.Room as Slots
-use Rattle.model.specs.Client.{header}
-use Rattle.model.specs.Model.{mostBytes, keymapNotify, codeOf, nobody, somebody, placeOf, claimed, isHeld}
+use Rattle.model.specs.Model.{keymapNotify, codeOf, nobody, somebody, placeOf, claimed, isHeld}
 use Rattle.model.specs.Model as Model
 use Rattle.model.specs.Sound.{Numbers}
 use Rattle.model.specs.declared.Connection.{Connection}
@@ -49,7 +48,7 @@ saysPlan (Plan.Stop r) = refuses (numberOf r)
 -- the window lies in a store of at most 16,777,216 bytes
 pub record Fitting (c : Connection) : Type 0 where
   pub order : c .window .start ≤ c .window .end
-  pub most : c .window .end ≤ mostBytes
+  pub most : c .window .end ≤ mostStore
 
 -- what the step needs of a sound state
 pub record Ready (c : Connection) (q s f : List ℕ) : Type 0 where
@@ -63,8 +62,8 @@ pub record Ready (c : Connection) (q s f : List ℕ) : Type 0 where
 -- ---- the number
 
 -- "The full number is the least number at or above the last read whose low 16 bits are the wire number"; "Code 11 carries no number and is filed under the last read."
-unfoldable pub numberIn : Connection → List ℕ → Answer ℕ
-numberIn c p = choose (eqb (codeOf p) keymapNotify) (gives (c .read)) (inRange (full (c .read) (field (c .order) 2 2 p)))
+unfoldable pub packetNumberIn : Connection → List ℕ → Answer ℕ
+packetNumberIn c p = choose (eqb (codeOf p) keymapNotify) (gives (c .read)) (inRange (full (c .read) (field (c .order) 2 2 p)))
 
 -- "and the next reply expected if that was lower"; code 11 raises nothing
 unfoldable pub raisedTo : ℕ → ℕ → ℕ → ℕ
@@ -82,7 +81,7 @@ askedIn c q n = choose (ltb n (c .first)) nobody (choose (ltb (c .written) n) no
 
 -- used plus the cost of a packet that is to be held is over S
 unfoldable pub overRoom : Connection → Place → ℕ → Bool
-overRoom c place n = both (isHeld place) (ltb (c .room) (used (c .window) + (header + n)))
+overRoom c place n = both (isHeld place) (ltb (c .room) (used (c .window) + (headerSize + n)))
 
 -- a packet that has its number and whose request is known: 4, 5
 unfoldable pub planBy : Connection → List ℕ → ℕ → Model.Asked → Answer Task
@@ -96,4 +95,4 @@ unfoldable pub planOf : Connection → List ℕ → List ℕ → Answer Task
 planOf c q p =
     refuse (ltb (length p) leastPacket) 1
     (refuse (ltb mostPacket (length p)) 2
-    (pass (numberIn c p) (λ n. planBy c p n (askedIn c q n))))
+    (pass (packetNumberIn c p) (λ n. planBy c p n (askedIn c q n))))

@@ -16,9 +16,8 @@ use Rattle.sequence.specs.declared.Full.the-variants as Full
 use Rattle.sequence.specs.declared.SequenceNumber.{SequenceNumber}
 use Rattle.refusal.specs.declared.Refusal.{Refusal}
 use Rattle.requests.specs.declared.Request.{Request}
-use Rattle.held.specs.Head.{leastPacket, mostPacket}
+use Rattle.held.specs.Head.{leastPacket, mostPacket, headerSize}
 use Rattle.held.specs.Reading.{used}
-use Rattle.model.specs.Client.{header}
 use Rattle.model.specs.Model.{replyCode, codeOf, placeOf, claimed, isHeld}
 use Rattle.model.specs.Model as Model
 use Rattle.model.specs.declared.Connection.{Connection}
@@ -26,7 +25,7 @@ use Rattle.model.specs.declared.Place.{Place}
 use Rattle.intake.specs.declared.Asked.{Asked}
 use Rattle.intake.specs.declared.Asked.the-variants as Asked
 use Rattle.intake.specs.General.{pass-given}
-use Rattle.intake.specs.Plan.{saysAsked, Task, task, numberIn, askedIn, overRoom, planBy, planOf}
+use Rattle.intake.specs.Plan.{saysAsked, Task, task, packetNumberIn, askedIn, overRoom, planBy, planOf}
 
 -- ---- what a packet claims
 
@@ -87,7 +86,7 @@ module _ (c : Connection) (q p : List ℕ) where
   unfolding planOf refuse
   plan-long h f = simp (le-ltb (length p) leastPacket h, lt-ltb mostPacket (length p) f)
 
-  module _ (h : leastPacket ≤ length p) (f : length p ≤ mostPacket) (x : Full) (e : saysFull x ≡ numberIn c p) where
+  module _ (h : leastPacket ≤ length p) (f : length p ≤ mostPacket) (x : Full) (e : saysFull x ≡ packetNumberIn c p) where
     plan-past : pass (saysFull x) (λ n. planBy c p n (askedIn c q n)) ≡ planOf c q p
     unfolding planOf refuse
     plan-past = ap (λ (z : Answer ℕ). pass z (λ n. planBy c p n (askedIn c q n))) e ∙ simp (le-ltb (length p) leastPacket h, le-ltb mostPacket (length p) f)
@@ -105,11 +104,11 @@ module _ (c : Connection) (q p : List ℕ) where
 pub record Planned (c : Connection) (q p : List ℕ) (t : Task) : Type 0 where
   pub least : leastPacket ≤ length p
   pub most : length p ≤ mostPacket
-  pub number : gives (t .number) ≡ numberIn c p
+  pub number : gives (t .number) ≡ packetNumberIn c p
   pub place-is : t .place ≡ placeOf (codeOf p) (askedIn c q (t .number))
   pub claimed-is : t .claimed ≡ claimed p (askedIn c q (t .number))
   pub some : t .claimed ≤ c .counts .waiting
-  pub room : isHeld (t .place) ≡ true → used (c .window) + (header + length p) ≤ c .room
+  pub room : isHeld (t .place) ≡ true → used (c .window) + (headerSize + length p) ≤ c .room
 
 by-past : (c : Connection) (p : List ℕ) (n : ℕ) (a : Model.Asked) (t : Task) → gives t ≡ planBy c p n a
     → (t ≡ task (placeOf (codeOf p) a) n (claimed p a)) × (claimed p a ≤ c .counts .waiting) × (overRoom c (placeOf (codeOf p) a) (length p) ≡ false)
@@ -119,9 +118,9 @@ by-past c p n a t e =
     let z : gives t ≡ gives (task (placeOf (codeOf p) a) n (claimed p a)) = gives-rest _ _ _ r in
     (cc, ltb-false (c .counts .waiting) (claimed p a) (gives-past _ _ _ e), gives-past _ _ _ r)
 
-pub over-not : (c : Connection) (place : Place) (n : ℕ) → overRoom c place n ≡ false → isHeld place ≡ true → used (c .window) + (header + n) ≤ c .room
+pub over-not : (c : Connection) (place : Place) (n : ℕ) → overRoom c place n ≡ false → isHeld place ≡ true → used (c .window) + (headerSize + n) ≤ c .room
 unfolding overRoom both
-over-not c place n o h = ltb-false (c .room) (used (c .window) + (header + n)) (sym (simp h) ∙ o)
+over-not c place n o h = ltb-false (c .room) (used (c .window) + (headerSize + n)) (sym (simp h) ∙ o)
 
 pub planned : (c : Connection) (q p : List ℕ) (t : Task) → gives t ≡ planOf c q p → Planned c q p t
 unfolding planOf

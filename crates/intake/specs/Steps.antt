@@ -9,7 +9,7 @@ use Rattle.refusal.specs.Numbers.{numberOf}
 use Rattle.refusal.specs.declared.Refusal.{Refusal}
 use Rattle.sequence.specs.declared.SequenceNumber.{SequenceNumber}
 use Rattle.held.specs.Head.{held, reply, event}
-use Rattle.held.specs.Moves.{left, Leaves, appended}
+use Rattle.held.specs.Moves.{Leaves, appended}
 use Rattle.held.specs.declared.Window.{Window}
 use Rattle.descriptors.specs.Room as Slots
 use Rattle.descriptors.specs.declared.Counts.{Counts}

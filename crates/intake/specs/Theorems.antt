@@ -9,13 +9,12 @@ use lib.ListN.{length, take, drop, getD}
 use borrow.Author.Tests.{ltb-false, eqb-true}
 use Rattle.octets.specs.Logic.{choose, both}
 use Rattle.refusal.specs.Answer.{Answer, gives, refuse, pass, refuse-under}
-use Rattle.requests.specs.Room.{capacity}
 use Rattle.requests.specs.Theorems.{sized-is}
-use Rattle.held.specs.Head.{leastPacket, mostPacket}
+use Rattle.held.specs.Head.{leastPacket, mostPacket, headerSize}
 use Rattle.held.specs.Theorems as Held
 use Rattle.descriptors.specs.Theorems as Fds
-use Rattle.model.specs.Client.{Client, setWaiting, header}
-use Rattle.model.specs.Model.{codeOf, errorCode, replyCode, nobody, somebody, errorPlace, replyUnder, replyPlace, placeOf, wantsDescriptors, claimed, isHeld, filed, Filing, numberOf, numbered, askedOf, takeIn, enqueuePacket}
+use Rattle.model.specs.Client.{Client, setWaiting}
+use Rattle.model.specs.Model.{codeOf, errorCode, replyCode, nobody, somebody, errorPlace, replyUnder, replyPlace, placeOf, wantsDescriptors, claimed, isHeld, filed, Filing, packetNumber, numbered, askedOf, takeIn, enqueuePacket}
 use Rattle.model.specs.Model as Model
 use Rattle.model.specs.Reading.{Rooms, slotsOf, reads}
 use Rattle.model.specs.ReadingLaws.{used-read, length-wait}
@@ -26,7 +25,7 @@ use Rattle.model.specs.declared.Place.{Place}
 use Rattle.model.specs.declared.Place.the-variants as Place
 use Rattle.requests.specs.declared.Mode.{Mode}
 use Rattle.requests.specs.declared.Mode.the-variants as Mode
-use Rattle.intake.specs.Plan.{Ready, Task, task, numberIn, askedIn, overRoom, planBy, planOf}
+use Rattle.intake.specs.Plan.{Ready, Task, task, packetNumberIn, askedIn, overRoom, planBy, planOf}
 use Rattle.intake.specs.Exact.{numberedState, filing, filedAs, carriedOut, enqueueExact}
 use Rattle.intake.specs.General.{pass-given, pass-agree, pass-refuse, pass-pass, model-pass, gives-same}
 use Rattle.intake.specs.Planned.{over-not, Planned, planned}
@@ -95,7 +94,7 @@ by-pass c p n a f =
 plan-pass : {B : Type 0} (c : Connection) (q p : List ℕ) (f : Task → Answer B) → pass (planOf c q p) f
     ≡ refuse (ltb (length p) leastPacket) 1
     (refuse (ltb mostPacket (length p)) 2
-    (pass (numberIn c p)
+    (pass (packetNumberIn c p)
     (λ n.
     refuse (ltb (c .counts .waiting) (claimed p (askedIn c q n))) 4
     (refuse (overRoom c (placeOf (codeOf p) (askedIn c q n)) (length p)) 5 (f (task (placeOf (codeOf p) (askedIn c q n)) n (claimed p (askedIn c q n))))))))
@@ -104,11 +103,11 @@ plan-pass c q p f =
     pass-refuse (ltb (length p) leastPacket) 1 _ f
     ∙ ap (refuse (ltb (length p) leastPacket) 1)
     (pass-refuse (ltb mostPacket (length p)) 2 _ f
-    ∙ ap (refuse (ltb mostPacket (length p)) 2) (pass-pass (numberIn c p) _ f ∙ pass-agree (numberIn c p) _ _ (λ n e. by-pass c p n (askedIn c q n) f)))
+    ∙ ap (refuse (ltb mostPacket (length p)) 2) (pass-pass (packetNumberIn c p) _ f ∙ pass-agree (packetNumberIn c p) _ _ (λ n e. by-pass c p n (askedIn c q n) f)))
 
 -- The number is the model's.
-number-read : (c : Connection) (r : Rooms) (p : List ℕ) → numberIn c p ≡ numberOf (reads c r) p
-unfolding numberIn numberOf reads
+number-read : (c : Connection) (r : Rooms) (p : List ℕ) → packetNumberIn c p ≡ packetNumber (reads c r) p
+unfolding packetNumberIn packetNumber reads
 number-read c r p = refl
 
 filed-value : (place : Place) (c : Connection) (r : Rooms) (k : ℕ) (p : List ℕ) → filedAs place c r k p .value ≡ filing place (c .read)
@@ -120,7 +119,7 @@ filed-value Place.Dropped c r k p = refl
 
 module _ (c : Connection) (r : Rooms) (S : Sound c r) (p : List ℕ) (byte : getD p 1 0 < 256) where
   -- a packet that has its number and is to be filed
-  module _ (n : ℕ) (N : gives n ≡ numberIn c p) where
+  module _ (n : ℕ) (N : gives n ≡ packetNumberIn c p) where
     abbrev next : Connection
     next = numberedState c (codeOf p) n
 
@@ -155,7 +154,7 @@ module _ (c : Connection) (r : Rooms) (S : Sound c r) (p : List ℕ) (byte : get
         )))
         ∙ (λ i.
         refuse (ltb (sym (length-wait c r S) i) k) 4
-        (refuse (both (isHeld place) (ltb (c .room) (sym (used-read c r S) i + (header + length p)))) 5
+        (refuse (both (isHeld place) (ltb (c .room) (sym (used-read c r S) i + (headerSize + length p)))) 5
         (gives (
           filing place n,
           filed place (record { number = n; packet = p; descriptors = take k (reads c r .waiting) }) (setWaiting (numbered (reads c r) p n) (drop k (reads c r .waiting))),
@@ -169,7 +168,7 @@ module _ (c : Connection) (r : Rooms) (S : Sound c r) (p : List ℕ) (byte : get
       ∙ plan-pass c (r .requests) p _
       ∙ refuse-under (ltb (length p) leastPacket) 1
       (λ short. refuse-under (ltb mostPacket (length p)) 2
-      (λ long. pass-agree (numberIn c p) _ _
+      (λ long. pass-agree (packetNumberIn c p) _ _
       (λ n N. take-in n N (askedIn c (r .requests) n) (ltb-false (length p) leastPacket short) (ltb-false mostPacket (length p) long) ∙ ap (takeIn (reads c r) p n) (asked-read c r S n))
       ∙ ap (λ (x : Answer ℕ). pass x (λ n. takeIn (reads c r) p n (askedOf (reads c r) n))) (number-read c r p)))
 

@@ -7,6 +7,7 @@ use sequence::Full;
 use sequence::SequenceNumber;
 ghost use Prim.Native.Nat.{_≤_};
 ghost use lib.ListN.{length};
+ghost use Rattle.held.specs.Head.{leastPacket, mostPacket};
 ghost use Rattle.intake.specs.Event.{Writable, IsPlain, PlainEvent, PlainStep};
 use super::REPLY;
 use super::moved;
@@ -20,7 +21,7 @@ pub enum Plain {
 }
 
 pub fn plain_of(c: Connection, store: &[u8], packet: &[u8]) -> Plain
-    requires { ⌜ Writable c (now store) × (32 ≤ length (now packet)) × (length (now packet) ≤ 65536) ⌝ }
+    requires { ⌜ Writable c (now store) × (leastPacket ≤ length (now packet)) × (length (now packet) ≤ mostPacket) ⌝ }
     ensures { λ r. ⌜ IsPlain c (now (store .entry)) (now (packet .entry)) r ⌝ }
 {
     if packet[0] <= REPLY {

@@ -27,8 +27,9 @@ ghost use Prim.Native.Nat.{_≤_, _<_};
 ghost use lib.ListN.{length};
 ghost use Rattle.requests.specs.Room.{capacity};
 ghost use Rattle.sequence.specs.Numbering.{saysFull, lastNumber};
+ghost use Rattle.held.specs.Head.{leastPacket, mostPacket};
 ghost use Rattle.model.specs.Model.{errorUnder, errorPlace, replyUnder, replyPlace, placeOf, claimed, isHeld};
-ghost use Rattle.intake.specs.Plan.{saysAsked, saysPlan, Ready, Fitting, numberIn, raisedTo, firstAfter, askedIn, overRoom, planBy, planOf};
+ghost use Rattle.intake.specs.Plan.{saysAsked, saysPlan, Ready, Fitting, packetNumberIn, raisedTo, firstAfter, askedIn, overRoom, planBy, planOf};
 ghost use Rattle.intake.specs.Exact.{numberedState, movedState, MayFile, FileDone, EnqueueStep};
 
 // The fewest and the most bytes of a packet.
@@ -61,8 +62,8 @@ enum Plan {
 
 // The number that a packet is filed under.
 pub(crate) fn number_of(c: Connection, packet: &[u8]) -> Full
-    requires { ⌜ 32 ≤ length (now packet) ⌝ }
-    ensures { λ r. ⌜ saysFull r ≡ numberIn c (now (packet .entry)) ⌝ }
+    requires { ⌜ leastPacket ≤ length (now packet) ⌝ }
+    ensures { λ r. ⌜ saysFull r ≡ packetNumberIn c (now (packet .entry)) ⌝ }
 {
     if packet[0] == KEYMAP_NOTIFY {
         return Full::Number(SequenceNumber(c.read));
@@ -170,7 +171,7 @@ fn place_of(code: u8, asked: Asked) -> Place
 
 // How many descriptors a packet claims.
 fn claimed(packet: &[u8], asked: Asked) -> u8
-    requires { ⌜ 32 ≤ length (now packet) ⌝ }
+    requires { ⌜ leastPacket ≤ length (now packet) ⌝ }
     ensures { λ r. ⌜ r ≡ claimed (now (packet .entry)) (saysAsked asked) ⌝ }
 {
     if packet[0] != REPLY {
@@ -194,7 +195,7 @@ fn is_held(place: Place) -> bool
 
 // Whether a packet of n bytes that goes there finds no room.
 fn over_room(c: Connection, place: Place, n: usize) -> bool
-    requires { ⌜ Fitting c × (n ≤ 65536) ⌝ }
+    requires { ⌜ Fitting c × (n ≤ mostPacket) ⌝ }
     ensures { λ r. ⌜ r ≡ overRoom c place n ⌝ }
 {
     if !is_held(place) {
@@ -206,7 +207,7 @@ fn over_room(c: Connection, place: Place, n: usize) -> bool
 
 // What is to be done with a packet that has its number.
 fn plan_by(c: Connection, requests: &[u8], packet: &[u8], number: SequenceNumber) -> Plan
-    requires { ⌜ (32 ≤ length (now packet)) × (0 < capacity (now requests)) × (length (now packet) ≤ 65536) × Fitting c ⌝ }
+    requires { ⌜ (leastPacket ≤ length (now packet)) × (0 < capacity (now requests)) × (length (now packet) ≤ mostPacket) × Fitting c ⌝ }
     ensures { λ r. ⌜ saysPlan r ≡ planBy c (now (packet .entry)) (number .0) (askedIn c (now (requests .entry)) (number .0)) ⌝ }
 {
     let request = request_of(c, requests, number.0);

@@ -2,21 +2,21 @@
 use mathlib.Core.Bool.{Bool, true, false}
 use mathlib.Core.List.{List, [], _∷_, _++_, append-assoc}
 use mathlib.Core.Path.{_≡_, refl, sym, ap, _∙_}
-use Prim.Native.Nat.{ℕ, zero, suc, _+_, _-_, _≤_, _<_}
+use Prim.Native.Nat.{ℕ, zero, suc, _+_, _≤_}
 use native.Mathlib.Omega.{arith}
 use lib.Dec.{ltb}
 use lib.ListN.{length, take, drop, length-append, length-drop, take-append-drop}
 use lib.Seq.{take-at, drop-at, take-all, length-take-le}
 use borrow.Author.Tests.{ltb-true, ltb-false}
 use Rattle.refusal.specs.Answer.{Answer, gives, refuses}
-use Rattle.packet_reader.specs.Frame.{aim, Cut, cons, cutPackets}
+use Rattle.packet_reader.specs.Frame.{aim, Cut, cons, cutPackets, fixed}
 use Rattle.packet_reader.specs.CutLaws.{aim-least, aim-total, total-append}
 use Rattle.packet_reader.specs.Front.{packets-none, packets-next, packets-whole}
 use Rattle.packet_reader.specs.Stream.{joined}
 use Rattle.model.specs.Client.{Client}
 use Rattle.model.specs.Model.{Filing, enqueuePacket}
 use Rattle.model.specs.Promise.{gives-same}
-use Rattle.model.specs.Batch.{Turn, goes, stops, Many, onward, onTurn, many}
+use Rattle.model.specs.Batch.{Many, onward, onTurn, many}
 use Rattle.model.specs.Feed.{Stopped, ended, partial, refused, Took, Feeding, bytesOf, modelTook}
 use Rattle.batch.specs.Feed.{stopAt, enqueuePackets}
 use Rattle.batch.specs.FeedTheorems.{feed-bytes}
@@ -49,7 +49,7 @@ cut-again o (suc n) a b h = go (λ u k. cut-again o n u b k) (ltb (length a) (ai
     go on false e =
         let t : ℕ = aim o a (length a) in
         let k : t ≤ length a = ltb-false _ _ e in
-        let w : 32 ≤ t = aim-least o a (length a) in
+        let w : fixed ≤ t = aim-least o a (length a) in
         let l : length (a ++ b) ≡ length a + length b = length-append a b in
         let p : length (take t a) ≡ t = length-take-le t a k in
         let s : a ++ b ≡ take t a ++ (drop t a ++ b) = ap (λ (x : List ℕ). x ++ b) (sym (take-append-drop t a)) ∙ append-assoc (take t a) (drop t a) b in
@@ -67,8 +67,8 @@ cut-again o (suc n) a b h = go (λ u k. cut-again o n u b k) (ltb (length a) (ai
 abbrev Row : Client → Stopped → List (List ℕ) → Many Took Stopped Client
 Row m over ps = many (λ c p. modelTook (length p) (enqueuePacket c p)) over m ps
 
-abbrev turned : Client → Stopped → List ℕ → List (List ℕ) → Answer (Filing × Client) → Many Took Stopped Client
-turned m over p rest a = onTurn (λ t c. onward (t ∷ []) (Row c over rest)) (λ x. record { values = []; stopped = x; end = m }) (modelTook (length p) a)
+abbrev afterTurn : Client → Stopped → List ℕ → List (List ℕ) → Answer (Filing × Client) → Many Took Stopped Client
+afterTurn m over p rest a = onTurn (λ t c. onward (t ∷ []) (Row c over rest)) (λ x. record { values = []; stopped = x; end = m }) (modelTook (length p) a)
 
 -- the row of the first packets, all of which were taken, and then that of the others
 row-again : (m : Client) (over w : Stopped) (ps qs : List (List ℕ)) → Waits (Row m over ps .stopped)
@@ -79,8 +79,8 @@ row-again m over w (p ∷ ps) qs h = go (enqueuePacket m p) refl (λ c k. row-ag
   where
     go : (a : Answer (Filing × Client)) → a ≡ enqueuePacket m p
         → ((c : Client) → Waits (Row c over ps .stopped) → (Row c w (ps ++ qs) ≡ onward (Row c over ps .values) (Row (Row c over ps .end) w qs)) × (length (Row c over ps .values) ≡ length ps) × (Row c over ps .end .order ≡ c .order))
-        → Waits (turned m over p ps a .stopped)
-        → (turned m w p (ps ++ qs) a ≡ onward (turned m over p ps a .values) (Row (turned m over p ps a .end) w qs)) × (length (turned m over p ps a .values) ≡ suc (length ps)) × (turned m over p ps a .end .order ≡ m .order)
+        → Waits (afterTurn m over p ps a .stopped)
+        → (afterTurn m w p (ps ++ qs) a ≡ onward (afterTurn m over p ps a .values) (Row (afterTurn m over p ps a .end) w qs)) × (length (afterTurn m over p ps a .values) ≡ suc (length ps)) × (afterTurn m over p ps a .end .order ≡ m .order)
     go (gives x) e on k =
         let z = on (x .1) k in
         (ap (onward (record { bytes = length p; filing = x .0 } ∷ [])) (z .0), ap suc (z .1), z .2 ∙ order-kept m p x e)

@@ -13,7 +13,7 @@ use Rattle.descriptors.specs.Room.{count}
 use Rattle.descriptors.specs.Counting.{count-append, count-split}
 use Rattle.model.specs.Client.{Held, Client, setReplies, setEvents, setWaiting, setClosing, descriptorsOf}
 use Rattle.model.specs.Model as Model
-use Rattle.model.specs.Model.{fresh, sendRequest, enqueueFds, takeClosed, close, asEvent, errorCode, replyCode, codeOf, numbered, Asked, askedOf, errorPlace, replyPlace, replyUnder, placeOf, claimed, wantsDescriptors, Filing, takeIn, enqueuePacket, withMode, ofNumber, notOf, above, turned, discarding, discardReply, Found, at, behind, find, Taken, takenBy, pollForReplyOrError, checkedBy, pollCheck, repliedBy, pollForReply, eventBy, pollForEvent}
+use Rattle.model.specs.Model.{fresh, sendRequest, enqueueFds, takeClosed, close, asEvent, errorCode, replyCode, codeOf, numbered, Asked, askedOf, errorPlace, replyPlace, replyUnder, placeOf, claimed, wantsDescriptors, Filing, takeIn, enqueuePacket, withMode, ofNumber, notOf, above, closingOrder, discarding, discardReply, Found, at, behind, find, Taken, takenBy, pollForReplyOrError, checkedBy, pollCheck, repliedBy, pollForReply, eventBy, pollForEvent}
 use Rattle.model.specs.Calls.{Call, send, enqueue-fds, enqueue, discard, poll, check, poll-reply, prepare, poll-event, take-closed, Said, done, closed, refused, step, outcome, run}
 use Rattle.model.specs.declared.ReplyFdKind.{ReplyFdKind}
 use Rattle.model.specs.declared.DiscardMode.{DiscardMode}
@@ -82,10 +82,10 @@ count-of-number d n (h ∷ l) = go (eqb (h .number) n) (count-of-number d n l)
     go false k = omega (arith, count-append d (h .descriptors) (descriptorsOf l), count-append d (h .descriptors) (descriptorsOf (notOf n l)))
 
 -- in whatever turn
-count-turned : (d k : ℕ) (l : List Held) → count d (descriptorsOf (turned k l)) ≡ count d (descriptorsOf l)
-unfolding turned
-count-turned d k [] = refl
-count-turned d k (h ∷ l) =
+count-order : (d k : ℕ) (l : List Held) → count d (descriptorsOf (closingOrder k l)) ≡ count d (descriptorsOf l)
+unfolding closingOrder
+count-order d k [] = refl
+count-order d k (h ∷ l) =
     let i : ℕ = k % length (h ∷ l) in
     omega (arith, count-of-append d (drop i (h ∷ l)) (take i (h ∷ l)), count-of-append d (take i (h ∷ l)) (drop i (h ∷ l)), ap (λ (y : List Held). count d (descriptorsOf y)) (take-append-drop i (h ∷ l)))
 
@@ -187,8 +187,8 @@ discarding-within DiscardMode.DiscardReply n c d =
     omega (arith, count-within d c, count-within d (discarding DiscardMode.DiscardReply n c), count-append d (c .closing) gone, count-of-number d n (c .replies))
 discarding-within DiscardMode.DiscardReplyAndError n c d =
     let k : ℕ = length (above n (c .replies)) in
-    let gone : List ℕ = descriptorsOf (turned k (ofNumber n (c .replies))) in
-    omega (arith, count-within d c, count-within d (discarding DiscardMode.DiscardReplyAndError n c), count-append d (c .closing) gone, count-turned d k (ofNumber n (c .replies)), count-of-number d n (c .replies))
+    let gone : List ℕ = descriptorsOf (closingOrder k (ofNumber n (c .replies))) in
+    omega (arith, count-within d c, count-within d (discarding DiscardMode.DiscardReplyAndError n c), count-append d (c .closing) gone, count-order d k (ofNumber n (c .replies)), count-of-number d n (c .replies))
 
 balances-discard : (f : Unit → Said) (c : Client) (n : ℕ) (m : DiscardMode) → Balances c (discard n m) (outcome f c (discardReply c n m))
 unfolding discardReply accepted handedOut

@@ -8,7 +8,8 @@ use lib.Dec.{ltb, eqb}
 use lib.ListN.{length}
 use Rattle.octets.specs.Logic.{choose}
 use Rattle.refusal.specs.Answer.{Answer, gives, refuses, refuse}
-use Rattle.model.specs.Client.{Held, Client, setReplies, setEvents, header, costs, used}
+use Rattle.held.specs.Head.{headerSize}
+use Rattle.model.specs.Client.{Held, Client, setReplies, setEvents, costs, used}
 use Rattle.model.specs.Model as Model
 use Rattle.model.specs.Model.{withMode, ofNumber, notOf, isError, asEvent, errorsOf, discarding, discardReply, Found, at, behind, find, noReply, repliedBy, pollForReply}
 use Rattle.model.specs.Calls.{discard, poll-reply, done, absent, step}
@@ -30,7 +31,7 @@ unfolding costs
 costs-append [] b = omega arith
 costs-append (h ∷ a) b = omega (arith, costs-append a b)
 
-pub costs-one : (h : Held) → costs (h ∷ []) ≡ header + length (h .packet)
+pub costs-one : (h : Held) → costs (h ∷ []) ≡ headerSize + length (h .packet)
 unfolding costs
 costs-one h = omega arith
 
@@ -40,7 +41,7 @@ unfolding ofNumber notOf costs choose
 costs-of-number n [] = refl
 costs-of-number n (h ∷ l) = go (eqb (h .number) n) (costs-of-number n l)
   where
-    go : (b : Bool) → costs (ofNumber n l) + costs (notOf n l) ≡ costs l → costs (choose b (h ∷ ofNumber n l) (ofNumber n l)) + costs (choose b (notOf n l) (h ∷ notOf n l)) ≡ header + length (h .packet) + costs l
+    go : (b : Bool) → costs (ofNumber n l) + costs (notOf n l) ≡ costs l → costs (choose b (h ∷ ofNumber n l) (ofNumber n l)) + costs (choose b (notOf n l) (h ∷ notOf n l)) ≡ headerSize + length (h .packet) + costs l
     go true k = omega arith
     go false k = omega arith
 
@@ -50,16 +51,16 @@ unfolding errorsOf costs choose
 costs-errors [] = omega arith
 costs-errors (h ∷ l) = go (isError h) (costs-errors l)
   where
-    go : (b : Bool) → costs (errorsOf l) ≤ costs l → costs (choose b (asEvent h ∷ errorsOf l) (errorsOf l)) ≤ header + length (h .packet) + costs l
+    go : (b : Bool) → costs (errorsOf l) ≤ costs l → costs (choose b (asEvent h ∷ errorsOf l) (errorsOf l)) ≤ headerSize + length (h .packet) + costs l
     go true k = omega arith
     go false k = omega arith
 
 -- the one that is found and those that stay
 abbrev pub CostsFound : ℕ → Found → Type 0
 CostsFound m Model.nothing = Unit {0}
-CostsFound m (at h l) = header + length (h .packet) + costs l ≡ m
+CostsFound m (at h l) = headerSize + length (h .packet) + costs l ≡ m
 
-costs-behind : (m : ℕ) (h : Held) (f : Found) → CostsFound m f → CostsFound (header + length (h .packet) + m) (behind h f)
+costs-behind : (m : ℕ) (h : Held) (f : Found) → CostsFound m f → CostsFound (headerSize + length (h .packet) + m) (behind h f)
 unfolding costs
 costs-behind m h Model.nothing k = tt
 costs-behind m h (at x l) k = omega arith
@@ -69,7 +70,7 @@ unfolding find choose costs
 costs-find n [] = tt
 costs-find n (h ∷ l) = go (eqb (h .number) n) (costs-find n l)
   where
-    go : (b : Bool) → CostsFound (costs l) (find n l) → CostsFound (header + length (h .packet) + costs l) (choose b (at h l) (behind h (find n l)))
+    go : (b : Bool) → CostsFound (costs l) (find n l) → CostsFound (headerSize + length (h .packet) + costs l) (choose b (at h l) (behind h (find n l)))
     go true k = refl
     go false k = costs-behind (costs l) h (find n l) k
 
@@ -114,7 +115,7 @@ module _ (c : Client) (n bytes : ℕ) (h : Held) (l : List Held) (found : find n
 
   pub move-used : used (moved c h l) ≡ used c
   move-used =
-      let k : header + length (h .packet) + costs l ≡ costs (c .replies) = subst (CostsFound (costs (c .replies))) found (costs-find n (c .replies)) in
+      let k : headerSize + length (h .packet) + costs l ≡ costs (c .replies) = subst (CostsFound (costs (c .replies))) found (costs-find n (c .replies)) in
       omega (arith, costs-append (c .events) (asEvent h ∷ []), costs-one (asEvent h))
 
   pub move-step-used : used (step c (poll-reply n bytes) .next) ≡ used c

@@ -8,8 +8,10 @@ use Rattle.octets.specs.Logic.{choose}
 use Rattle.refusal.specs.Answer.{gives}
 use Rattle.sequence.specs.Numbering.{lastNumber}
 use Rattle.sequence.specs.Sending.{syncSpan}
-use Rattle.model.specs.Client.{Client, header, costs, descriptorsOf}
-use Rattle.model.specs.Model.{hasReply, codeOf, numberOf, askedOf, claimed, placeOf, isHeld, mostDescriptors}
+use Rattle.held.specs.Head.{headerSize, leastPacket, mostPacket}
+use Rattle.descriptors.specs.Room.{mostDescriptors}
+use Rattle.model.specs.Client.{Client, costs, descriptorsOf}
+use Rattle.model.specs.Model.{hasReply, codeOf, packetNumber, askedOf, claimed, placeOf, isHeld}
 use Rattle.model.specs.Calls.{Call, send, enqueue-fds, enqueue, discard, poll, check, poll-reply, prepare, poll-event, take-closed, Said, number, done, filed, nothing, took, again, absent, answer, closed, refused}
 use Rattle.model.specs.declared.Connection.{Connection}
 use Rattle.model.specs.declared.ReplyFdKind.{ReplyFdKind}
@@ -40,13 +42,13 @@ pub record SendShort (f : Filled) (c : Client) (kind : ReplyFdKind) : Type 0 whe
 
 -- A packet finds no room: 1, 2, 3 and 4 do not apply, it is to be held, and used plus its cost is over S.
 pub record PacketShort (f : Filled) (c : Client) (p : List ℕ) : Type 0 where
-  pub not-short : 32 ≤ length p
-  pub not-long : length p ≤ 65536
+  pub not-short : leastPacket ≤ length p
+  pub not-long : length p ≤ mostPacket
   pub number : ℕ
-  pub numbered : numberOf c p ≡ gives number
+  pub numbered : packetNumber c p ≡ gives number
   pub enough-wait : claimed p (askedOf c number) ≤ length (c .waiting)
   pub to-be-held : isHeld (placeOf (codeOf p) (askedOf c number)) ≡ true
-  pub full : c .most-bytes < f .bytes + (header + length p)
+  pub full : c .most-bytes < f .bytes + (headerSize + length p)
 
 -- NO ROOM: what is filled and what a call adds is too much. No other call adds.
 abbrev pub NoRoom : Filled → Client → Call → Type 0
@@ -67,7 +69,7 @@ NoRoom f c (take-closed places) = ⊥
 unfoldable pub costOf : List ℕ → Said → ℕ
 costOf p (number n) = 0
 costOf p done = 0
-costOf p (filed place n) = choose (isHeld place) (header + length p) 0
+costOf p (filed place n) = choose (isHeld place) (headerSize + length p) 0
 costOf p nothing = 0
 costOf p (took h) = 0
 costOf p again = 0
@@ -94,7 +96,7 @@ givenBack (number n) = 0
 givenBack done = 0
 givenBack (filed place n) = 0
 givenBack nothing = 0
-givenBack (took h) = header + length (h .packet)
+givenBack (took h) = headerSize + length (h .packet)
 givenBack again = 0
 givenBack absent = 0
 givenBack (answer b) = 0

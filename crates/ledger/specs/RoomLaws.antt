@@ -13,9 +13,11 @@ use Rattle.refusal.specs.Answer.{Answer, gives, refuses, refuse, pass}
 use Rattle.octets.specs.Field.{field}
 use Rattle.sequence.specs.Numbering.{lastNumber, full, inRange}
 use Rattle.sequence.specs.Sending.{syncSpan, mustSync, sending}
-use Rattle.model.specs.Client.{Held, Client, setNumbers, setOutstanding, header, used, inside}
+use Rattle.held.specs.Head.{headerSize, leastPacket, mostPacket}
+use Rattle.descriptors.specs.Room.{mostDescriptors}
+use Rattle.model.specs.Client.{Held, Client, setNumbers, setOutstanding, used, inside}
 use Rattle.model.specs.Model as Model
-use Rattle.model.specs.Model.{mostDescriptors, hasReply, joining, sendRequest, keymapNotify, enqueueFds, takeClosed, codeOf, numberOf, askedOf, claimed, takeIn, enqueuePacket, discardReply, Found, at, find, PollReply, takenBy, pollForReplyOrError, checkedBy, pollCheck, repliedBy, pollForReply, eventBy, pollForEvent}
+use Rattle.model.specs.Model.{hasReply, joining, sendRequest, keymapNotify, enqueueFds, takeClosed, codeOf, packetNumber, askedOf, claimed, takeIn, enqueuePacket, discardReply, Found, at, find, PollReply, takenBy, pollForReplyOrError, checkedBy, pollCheck, repliedBy, pollForReply, eventBy, pollForEvent}
 use Rattle.model.specs.Calls.{Call, send, enqueue-fds, enqueue, discard, poll, check, poll-reply, prepare, poll-event, take-closed, refused, step}
 use Rattle.model.specs.Promise.{Done, Promise}
 use Rattle.model.specs.Reading.{Rooms, reads}
@@ -92,8 +94,8 @@ pass-refused (gives x) f k d e = (x, refl, e)
 pass-refused (refuses n) f k d e = absurd (d n refl (cc))
 
 -- a number is refused by 3 alone
-number-ends : (c : Client) (p : List ℕ) (n : ℕ) → numberOf c p ≡ refuses n → n ≡ 5 → ⊥
-unfolding numberOf inRange choose refuse
+number-ends : (c : Client) (p : List ℕ) (n : ℕ) → packetNumber c p ≡ refuses n → n ≡ 5 → ⊥
+unfolding packetNumber inRange choose refuse
 number-ends c p n e q = go (eqb (codeOf p) keymapNotify) (ltb lastNumber (full (c .numbers .read) (field (c .order) 2 2 p))) e
   where
     go : (x y : Bool) → choose x (gives (c .numbers .read)) (refuse y 3 (gives (full (c .numbers .read) (field (c .order) 2 2 p)))) ≡ refuses n → ⊥
@@ -107,10 +109,10 @@ module _ (c : Client) (p : List ℕ) where
   packet-short q =
       let a = refused-on _ 1 5 _ (λ i. omega arith) q in
       let b = refused-on _ 2 5 _ (λ i. omega arith) (a .1) in
-      let n = pass-refused (numberOf c p) _ 5 (number-ends c p) (b .1) in
+      let n = pass-refused (packetNumber c p) _ 5 (number-ends c p) (b .1) in
       let d = refused-on _ 4 5 _ (λ i. omega arith) (n .2) in
       let f = refused-here _ 5 _ (d .1) in
-      let over : c .most-bytes < used c + (header + length p) = ltb-true _ _ (both-right _ _ f) in
+      let over : c .most-bytes < used c + (headerSize + length p) = ltb-true _ _ (both-right _ _ f) in
       record {
         not-short = ltb-false _ _ (a .0);
         not-long = ltb-false _ _ (b .0);
@@ -124,15 +126,15 @@ module _ (c : Client) (p : List ℕ) where
   short-packet : PacketShort (filled c) c p → enqueuePacket c p ≡ refuses 5
   unfolding enqueuePacket takeIn pass
   short-packet s =
-      refused-past _ 1 5 _ (le-ltb (length p) 32 (s .not-short))
-      (refused-past _ 2 5 _ (le-ltb 65536 (length p) (s .not-long))
+      refused-past _ 1 5 _ (le-ltb (length p) leastPacket (s .not-short))
+      (refused-past _ 2 5 _ (le-ltb mostPacket (length p) (s .not-long))
       (ap (λ (y : Answer ℕ). pass y (λ n. takeIn c p n (askedOf c n))) (s .numbered)
       ∙ taking))
     where
       taking : takeIn c p (s .number) (askedOf c (s .number)) ≡ refuses 5
       taking =
           refused-past _ 4 5 _ (le-ltb (length (c .waiting)) (claimed p (askedOf c (s .number))) (s .enough-wait))
-          (here-refused _ 5 _ (both-yes _ _ (s .to-be-held) (lt-ltb (c .most-bytes) (used c + (header + length p)) (omega (arith, s .full)))))
+          (here-refused _ 5 _ (both-yes _ _ (s .to-be-held) (lt-ltb (c .most-bytes) (used c + (headerSize + length p)) (omega (arith, s .full)))))
 
 -- ---- the others
 

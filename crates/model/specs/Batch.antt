@@ -1,4 +1,4 @@
--- MANY STEPS BEHIND ONE CALL: a row of single calls, one after the other, up to the first that cannot be made. Such a call is never refused for what stops it: it says how far it came. Assumes nothing.
+-- MANY STEPS BEHIND ONE CALL: a row of single calls, one after the other, up to the first that cannot be made. Such a call says how far it came and what stopped it; `poll_for_events` alone is refused by that, where it came nowhere. Assumes nothing.
 use mathlib.Core.List.{List, [], _∷_, _++_}
 use Prim.Native.Nat.{ℕ}
 use Rattle.refusal.specs.Answer.{Answer, gives, refuses}

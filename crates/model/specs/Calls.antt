@@ -9,7 +9,7 @@ use Rattle.model.specs.declared.ReplyFdKind.{ReplyFdKind}
 use Rattle.model.specs.declared.DiscardMode.{DiscardMode}
 use Rattle.model.specs.declared.Place.{Place}
 
--- every call but `new`, with its arguments; of a lent output its length
+-- every single call but `new`, with its arguments, of a lent output its length; calls that make many steps are rows of these (`Batch.antt`)
 pub data Call : Type 0 where
   send : ReplyFdKind → Call
   enqueue-fds : List ℕ → Call

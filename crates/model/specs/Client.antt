@@ -3,6 +3,7 @@ use mathlib.Core.List.{List, [], _∷_, _++_}
 use Prim.Native.Nat.{ℕ, _+_, _-_}
 use lib.ListN.{length}
 use Rattle.requests.specs.declared.Request.{Request}
+use Rattle.held.specs.Head.{headerSize}
 
 -- the three full numbers
 pub record Numbers : Type 0 where
@@ -55,12 +56,9 @@ abbrev pub first : Client → ℕ
 first c = c .numbers .written + 1 - length (c .outstanding)
 
 -- 01, Numbering and filing: a held record costs 16 bytes and its packet
-abbrev pub header : ℕ
-header = 16
-
 unfoldable pub costs : List Held → ℕ
 costs [] = 0
-costs (h ∷ l) = header + length (h .packet) + costs l
+costs (h ∷ l) = headerSize + length (h .packet) + costs l
 
 -- used is the sum over both lists
 abbrev pub used : Client → ℕ

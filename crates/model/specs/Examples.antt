@@ -132,7 +132,7 @@ row10 = record {
   said = number 1 ∷ done ∷ nothing ∷ filed Replies 1 ∷ refused 8 ∷ refused 8 ∷ refused 8 ∷ took (kept 1 (pk 1 1 1) (4 ∷ [])) ∷ again ∷ filed Events 2 ∷ absent ∷ refused 8 ∷ took (kept 2 (pk 2 0 2) []) ∷ again ∷ [];
 }
 
--- 3 and then 6 on sending, never 6 with a reply; 3 on intake
+-- 6 without a reply and never with one; after that one more passes
 abbrev row11 : Row
 row11 = record {
   start = numbersAt 65534 0 0;
@@ -192,7 +192,7 @@ table = row1 ∷ row2 ∷ row3 ∷ row4 ∷ row5 ∷ row6 ∷ row7 ∷ row8 ∷ 
 
 -- THE EXAMPLES: each row runs as it says.
 pub examples : All table
-unfolding run step Model.sendRequest Model.enqueueFds Model.enqueuePacket Model.discardReply Model.takeClosed Model.pollForReplyOrError Model.pollCheck Model.pollForReply Model.prepareCheck Model.pollForEvent Model.find pass refuse sending mustSync both either choose Model.numberOf inRange full field numberIn cut turned bytesOf lowBytes lowNumber Model.numbered Model.askedOf Model.headOf Model.placeOf Model.claimed Model.takeIn costs descriptorsOf Model.withMode underMode Model.ofNumber Model.notOf Model.above Model.errorsOf Model.turned
+unfolding run step Model.sendRequest Model.enqueueFds Model.enqueuePacket Model.discardReply Model.takeClosed Model.pollForReplyOrError Model.pollCheck Model.pollForReply Model.prepareCheck Model.pollForEvent Model.find pass refuse sending mustSync both either choose Model.packetNumber inRange full field numberIn cut turned bytesOf lowBytes lowNumber Model.numbered Model.askedOf Model.headOf Model.placeOf Model.claimed Model.takeIn costs descriptorsOf Model.withMode underMode Model.ofNumber Model.notOf Model.above Model.errorsOf Model.closingOrder
 examples = (refl, (refl, (refl, (refl, (refl, (refl, (refl, (refl, (refl, (refl, (refl, (refl, (refl, (refl, (refl, (refl, (refl, (refl, (refl, tt)))))))))))))))))))
 
 -- `new`: the ranges of the two rooms to their ends, 9 before 13
@@ -206,7 +206,7 @@ pub long-first : (c : Client) (p : List ℕ) → 65536 < length p → Model.enqu
 unfolding Model.enqueuePacket refuse
 long-first c p h = let l : 32 ≤ length p = omega arith in simp (le-ltb (length p) 32 l, lt-ltb 65536 (length p) h)
 
-pub any-length : (c : Client) (p : List ℕ) → 32 ≤ length p → length p ≤ 65536 → Model.enqueuePacket c p ≡ pass (Model.numberOf c p) (λ n. Model.takeIn c p n (Model.askedOf c n))
+pub any-length : (c : Client) (p : List ℕ) → 32 ≤ length p → length p ≤ 65536 → Model.enqueuePacket c p ≡ pass (Model.packetNumber c p) (λ n. Model.takeIn c p n (Model.askedOf c n))
 unfolding Model.enqueuePacket refuse
 any-length c p h k = simp (le-ltb (length p) 32 h, le-ltb 65536 (length p) k)
 

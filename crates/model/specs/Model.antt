@@ -11,11 +11,13 @@ use Rattle.octets.specs.Field.{field}
 use Rattle.refusal.specs.Answer.{Answer, gives, refuse, pass}
 use Rattle.sequence.specs.Numbering.{full, inRange}
 use Rattle.sequence.specs.Sending.{sending}
-use Rattle.requests.specs.Room.{underMode}
+use Rattle.requests.specs.Room.{mostRequests, underMode}
 use Rattle.requests.specs.declared.Request.{Request}
 use Rattle.requests.specs.declared.Mode.{Mode}
 use Rattle.requests.specs.declared.Mode.the-variants as Mode
-use Rattle.model.specs.Client.{Held, Client, setNumbers, setOutstanding, setReplies, setEvents, setWaiting, setClosing, first, header, used, descriptorsOf, inside}
+use Rattle.held.specs.Head.{headerSize, leastPacket, mostPacket, mostStore}
+use Rattle.descriptors.specs.Room.{mostDescriptors}
+use Rattle.model.specs.Client.{Held, Client, setNumbers, setOutstanding, setReplies, setEvents, setWaiting, setClosing, first, used, descriptorsOf, inside}
 use Rattle.model.specs.declared.ReplyFdKind.{ReplyFdKind}
 use Rattle.model.specs.declared.ReplyFdKind.the-variants as ReplyFdKind
 use Rattle.model.specs.declared.DiscardMode.{DiscardMode}
@@ -25,21 +27,12 @@ use Rattle.model.specs.declared.Place.the-variants as Place
 
 -- ---- Rooms: the start
 
--- the ranges of the two rooms, and the most descriptors inside
-abbrev pub mostRequests : ℕ
-mostRequests = 65536
-
-abbrev pub leastBytes : ℕ
-leastBytes = 48
-
-abbrev pub mostBytes : ℕ
-mostBytes = 16777216
-
-abbrev pub mostDescriptors : ℕ
-mostDescriptors = 256
+-- "Request room K: 1 to 65,536 bytes", "Packet store S: 48 to 16,777,216 bytes": the other ends of the ranges have their names where the rooms are
+abbrev pub leastStore : ℕ
+leastStore = 48
 
 unfoldable pub roomy : ℕ → ℕ → Bool
-roomy k s = both (both (leb 1 k) (leb k mostRequests)) (both (leb leastBytes s) (leb s mostBytes))
+roomy k s = both (both (leb 1 k) (leb k mostRequests)) (both (leb leastStore s) (leb s mostStore))
 
 -- nothing was sent or read, and nothing is held
 abbrev pub fresh : ℕ → ℕ → ℕ → Client
@@ -102,8 +95,8 @@ abbrev pub codeOf : List ℕ → ℕ
 codeOf p = getD p 0 0
 
 -- "The full number is the least number at or above the last read whose low 16 bits are the wire number", 3 past the last one; "Code 11 carries no number and is filed under the last read."
-unfoldable pub numberOf : Client → List ℕ → Answer ℕ
-numberOf c p = choose (eqb (codeOf p) keymapNotify) (gives (c .numbers .read)) (inRange (full (c .numbers .read) (field (c .order) 2 2 p)))
+unfoldable pub packetNumber : Client → List ℕ → Answer ℕ
+packetNumber c p = choose (eqb (codeOf p) keymapNotify) (gives (c .numbers .read)) (inRange (full (c .numbers .read) (field (c .order) 2 2 p)))
 
 -- "It becomes the last read, and the next reply expected if that was lower. Then outstanding requests below the number go." Code 11 raises nothing.
 unfoldable pub numbered : Client → List ℕ → ℕ → Client
@@ -178,15 +171,15 @@ takeIn c p n a =
     let place = placeOf (codeOf p) a in
     let k = claimed p a in
     refuse (ltb (length (c .waiting)) k) 4
-    (refuse (both (isHeld place) (ltb (c .most-bytes) (used c + (header + length p)))) 5
+    (refuse (both (isHeld place) (ltb (c .most-bytes) (used c + (headerSize + length p)))) 5
     (gives (record { place = place; number = n }, filed place (record { number = n; packet = p; descriptors = take k (c .waiting) }) (setWaiting (numbered c p n) (drop k (c .waiting))))))
 
 -- `enqueue_packet`: 1, 2, 3, 4, 5
 unfoldable pub enqueuePacket : Client → List ℕ → Answer (Filing × Client)
 enqueuePacket c p =
-    refuse (ltb (length p) 32) 1
-    (refuse (ltb 65536 (length p)) 2
-    (pass (numberOf c p) (λ n. takeIn c p n (askedOf c n))))
+    refuse (ltb (length p) leastPacket) 1
+    (refuse (ltb mostPacket (length p)) 2
+    (pass (packetNumber c p) (λ n. takeIn c p n (askedOf c n))))
 
 -- ---- Discarding
 
@@ -226,16 +219,16 @@ errorsOf [] = []
 errorsOf (h ∷ l) = choose (isError h) (asEvent h ∷ errorsOf l) (errorsOf l)
 
 -- The Rust's `retain` closes what it removes from record k mod r on and then round, of r removed records with k kept behind them.
-unfoldable pub turned : ℕ → List Held → List Held
-turned k [] = []
-turned k (h ∷ l) = drop (k % length (h ∷ l)) (h ∷ l) ++ take (k % length (h ∷ l)) (h ∷ l)
+unfoldable pub closingOrder : ℕ → List Held → List Held
+closingOrder k [] = []
+closingOrder k (h ∷ l) = drop (k % length (h ∷ l)) (h ∷ l) ++ take (k % length (h ∷ l)) (h ∷ l)
 
 -- "then removes all held packets of that number; under DiscardReply the errors among them become events in their order"
 abbrev pub discarding : DiscardMode → ℕ → Client → Client
 discarding DiscardMode.DiscardReply n c =
     close (descriptorsOf (ofNumber n (c .replies))) (setEvents (setReplies c (notOf n (c .replies))) (c .events ++ errorsOf (ofNumber n (c .replies))))
 discarding DiscardMode.DiscardReplyAndError n c =
-    close (descriptorsOf (turned (length (above n (c .replies))) (ofNumber n (c .replies)))) (setReplies c (notOf n (c .replies)))
+    close (descriptorsOf (closingOrder (length (above n (c .replies))) (ofNumber n (c .replies)))) (setReplies c (notOf n (c .replies)))
 
 -- `discard_reply`: no refusal but 9
 unfoldable pub discardReply : Client → ℕ → DiscardMode → Answer (Unit × Client)

@@ -5,14 +5,13 @@ use Prim.Native.Nat.{ℕ, _+_, _≤_}
 use native.Mathlib.Omega.{arith}
 use lib.ListN.{length, take, drop, length-drop}
 use lib.Seq.{take-append-le, drop-append-le, drop-drop}
-use Rattle.requests.specs.Room.{outstanding}
 use Rattle.requests.specs.Theorems.{length-outstanding}
 use Rattle.held.specs.Head as Record
 use Rattle.held.specs.Reading as Store
 use Rattle.held.specs.Theorems as Held
 use Rattle.descriptors.specs.Room as Slots
 use Rattle.descriptors.specs.Theorems as Fds
-use Rattle.model.specs.Client.{first, header, costs, used, descriptorsOf, inside}
+use Rattle.model.specs.Client.{first, costs, used, descriptorsOf, inside}
 use Rattle.model.specs.Reading.{Rooms, count, withDescriptors, eventOf, slotsOf, reads}
 use Rattle.model.specs.Sound.{Sound}
 use Rattle.model.specs.declared.Connection.{Connection}
@@ -51,12 +50,12 @@ descriptors-with (h ∷ a) fds =
 pub costs-with : (a : List Record.Held) (fds : List ℕ) → costs (withDescriptors a fds) ≡ Store.costs a
 unfolding withDescriptors costs Store.costs
 costs-with [] fds = refl
-costs-with (h ∷ a) fds = ap (λ (n : ℕ). header + length (h .packet) + n) (costs-with a (drop (h .fds) fds))
+costs-with (h ∷ a) fds = ap (λ (n : ℕ). Record.headerSize + length (h .packet) + n) (costs-with a (drop (h .fds) fds))
 
 pub costs-events : (a : List Record.Held) → costs (map eventOf a) ≡ Store.costs a
 unfolding costs Store.costs
 costs-events [] = refl
-costs-events (h ∷ a) = ap (λ (n : ℕ). header + length (h .packet) + n) (costs-events a)
+costs-events (h ∷ a) = ap (λ (n : ℕ). Record.headerSize + length (h .packet) + n) (costs-events a)
 
 -- ---- of a sound state
 

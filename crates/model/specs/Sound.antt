@@ -13,35 +13,39 @@ use Rattle.sequence.specs.Numbering.{lastNumber}
 use Rattle.requests.specs.Room.{sized, capacity, legals}
 use Rattle.requests.specs.Theorems.{sized-is}
 use Rattle.descriptors.specs.Theorems as Fds
+use Rattle.held.specs.Head.{mostStore}
 use Rattle.held.specs.Reading as Store
 use Rattle.held.specs.Walk.{walked}
 use Rattle.held.specs.declared.Walked.the-variants as Walked
 use Rattle.held.specs.declared.Window.{Window}
 use Rattle.descriptors.specs.Room as Slots
-use Rattle.model.specs.Model.{leastBytes, mostBytes}
+use Rattle.model.specs.Model.{leastStore}
 use Rattle.model.specs.Reading.{Rooms, count, slotsOf}
 use Rattle.model.specs.declared.Connection.{Connection}
 
--- "its full numbers are in range, outstanding requests are a run without gaps from 1 or more up to the last written and at most K"; S is in its range
+-- "its full numbers are in range"; and so is S
+unfoldable pub limitsb : Connection → Bool
+limitsb c =
+    both (leb leastStore (c .room))
+    (both (leb (c .room) mostStore) (both (leb (c .written) lastNumber) (both (leb (c .expected) lastNumber) (leb (c .read) lastNumber))))
+
+-- "outstanding requests are a run without gaps from 1 or more up to the last written and at most K"
+unfoldable pub runb : ℕ → ℕ → ℕ → Bool
+runb first written most = both (leb 1 first) (both (leb first (written + 1)) (leb (written + 1 - first) most))
+
+unfoldable pub numbersb : Connection → Bool
+numbersb c = both (limitsb c) (runb (c .first) (c .written) (c .capacity))
+
+-- the same, number by number
 pub record Numbers (c : Connection) : Type 0 where
-  pub store-least : leastBytes ≤ c .room
-  pub store-most : c .room ≤ mostBytes
+  pub store-least : leastStore ≤ c .room
+  pub store-most : c .room ≤ mostStore
   pub written-most : c .written ≤ lastNumber
   pub expected-most : c .expected ≤ lastNumber
   pub read-most : c .read ≤ lastNumber
   pub first-least : 1 ≤ c .first
   pub first-most : c .first ≤ c .written + 1
   pub count-most : count c ≤ c .capacity
-
-unfoldable pub numbersb : Connection → Bool
-numbersb c =
-    both (leb leastBytes (c .room))
-    (both (leb (c .room) mostBytes)
-    (both (leb (c .written) lastNumber)
-    (both (leb (c .expected) lastNumber)
-    (both (leb (c .read) lastNumber)
-    (both (leb 1 (c .first))
-    (both (leb (c .first) (c .written + 1)) (leb (count c) (c .capacity))))))))
 
 -- "the store reads as held records .., reply numbers never fall, no held number is above the last read"; as many descriptors are held as the replies have
 unfoldable pub holdsb : ℕ → Window → ℕ → List ℕ → Bool
@@ -71,32 +75,47 @@ pub record Sound (c : Connection) (r : Rooms) : Type 0 where
   pub held : Store.soundb (c .read) (c .window) (r .store) ≡ true
   pub descriptors : Store.fdsIn (Store.replies (c .window) (r .store)) ≡ c .counts .held
 
--- The test of the numbers, and of the whole, holds exactly where the sentence does.
-pub numbers-is : (c : Connection) → numbersb c ≡ true → Numbers c
-unfolding numbersb
-numbers-is c h =
-    let h₁ = both-right _ _ h in let h₂ = both-right _ _ h₁ in let h₃ = both-right _ _ h₂ in let h₄ = both-right _ _ h₃ in let h₅ = both-right _ _ h₄ in let h₆ = both-right _ _ h₅ in
+-- The tests of the numbers, and of the whole, hold exactly where the sentence does.
+pub limits-written : (c : Connection) → limitsb c ≡ true → c .written ≤ lastNumber
+unfolding limitsb
+limits-written c h = leb-true _ _ (both-left _ _ (both-right _ _ (both-right _ _ h)))
+
+pub limits-run : (c : Connection) → limitsb c ≡ true → runb (c .first) (c .written) (c .capacity) ≡ true → Numbers c
+unfolding limitsb runb
+limits-run c h k =
+    let h₁ = both-right _ _ h in let h₂ = both-right _ _ (both-right _ _ h₁) in let k₁ = both-right _ _ k in
     record {
       store-least = leb-true _ _ (both-left _ _ h);
       store-most = leb-true _ _ (both-left _ _ h₁);
-      written-most = leb-true _ _ (both-left _ _ h₂);
-      expected-most = leb-true _ _ (both-left _ _ h₃);
-      read-most = leb-true _ _ (both-left _ _ h₄);
-      first-least = leb-true _ _ (both-left _ _ h₅);
-      first-most = leb-true _ _ (both-left _ _ h₆);
-      count-most = leb-true _ _ (both-right _ _ h₆);
+      written-most = limits-written c h;
+      expected-most = leb-true _ _ (both-left _ _ h₂);
+      read-most = leb-true _ _ (both-right _ _ h₂);
+      first-least = leb-true _ _ (both-left _ _ k);
+      first-most = leb-true _ _ (both-left _ _ k₁);
+      count-most = leb-true _ _ (both-right _ _ k₁);
     }
 
-pub is-numbers : (c : Connection) → Numbers c → numbersb c ≡ true
-unfolding numbersb
-is-numbers c n =
-    both-yes _ _ (le-leb leastBytes (c .room) (n .store-least))
-    (both-yes _ _ (le-leb (c .room) mostBytes (n .store-most))
+pub numbers-limits : (c : Connection) → Numbers c → limitsb c ≡ true
+unfolding limitsb
+numbers-limits c n =
+    both-yes _ _ (le-leb leastStore (c .room) (n .store-least))
+    (both-yes _ _ (le-leb (c .room) mostStore (n .store-most))
     (both-yes _ _ (le-leb (c .written) lastNumber (n .written-most))
-    (both-yes _ _ (le-leb (c .expected) lastNumber (n .expected-most))
-    (both-yes _ _ (le-leb (c .read) lastNumber (n .read-most))
-    (both-yes _ _ (le-leb 1 (c .first) (n .first-least))
-    (both-yes _ _ (le-leb (c .first) (c .written + 1) (n .first-most)) (le-leb (count c) (c .capacity) (n .count-most))))))))
+    (both-yes _ _ (le-leb (c .expected) lastNumber (n .expected-most)) (le-leb (c .read) lastNumber (n .read-most)))))
+
+pub numbers-run : (c : Connection) → Numbers c → runb (c .first) (c .written) (c .capacity) ≡ true
+unfolding runb
+numbers-run c n =
+    both-yes _ _ (le-leb 1 (c .first) (n .first-least))
+    (both-yes _ _ (le-leb (c .first) (c .written + 1) (n .first-most)) (le-leb (count c) (c .capacity) (n .count-most)))
+
+numbers-is : (c : Connection) → numbersb c ≡ true → Numbers c
+unfolding numbersb
+numbers-is c h = limits-run c (both-left _ _ h) (both-right _ _ h)
+
+is-numbers : (c : Connection) → Numbers c → numbersb c ≡ true
+unfolding numbersb
+is-numbers c n = both-yes _ _ (numbers-limits c n) (numbers-run c n)
 
 pub sound-is : (c : Connection) (r : Rooms) → soundb c r ≡ true → Sound c r
 unfolding soundb heldb holdsb
@@ -132,15 +151,7 @@ not-sound c r h = go (soundb c r) refl
     go true e = absurd (h (sound-is c r e))
     go false e = sym e
 
--- ---- the tests of the code, in its order: the store's length and the full numbers, then the run of outstanding requests, then the rooms
-
-unfoldable pub limitsb : Connection → Bool
-limitsb c =
-    both (leb leastBytes (c .room))
-    (both (leb (c .room) mostBytes) (both (leb (c .written) lastNumber) (both (leb (c .expected) lastNumber) (leb (c .read) lastNumber))))
-
-unfoldable pub runb : ℕ → ℕ → ℕ → Bool
-runb first written most = both (leb 1 first) (both (leb first (written + 1)) (leb (written + 1 - first) most))
+-- ---- what the tests of the code tell, in its order: the store's length and the full numbers, then the run of outstanding requests, then the rooms
 
 abbrev pub windowOf : ℕ → ℕ → Window
 windowOf start end = record { start = start; end = end }
@@ -149,43 +160,10 @@ both-on : {a b : Bool} → a ≡ true → b ≡ both a b
 unfolding both
 both-on {b = b} e = ap (λ (k : Bool). both k b) (sym e)
 
-pub limits-last : (c : Connection) → leastBytes ≤ c .room → c .room ≤ mostBytes → c .written ≤ lastNumber → c .expected ≤ lastNumber → leb (c .read) lastNumber ≡ limitsb c
+pub limits-last : (c : Connection) → leastStore ≤ c .room → c .room ≤ mostStore → c .written ≤ lastNumber → c .expected ≤ lastNumber → leb (c .read) lastNumber ≡ limitsb c
 unfolding limitsb
 limits-last c l m w e =
-    both-on (le-leb (c .expected) lastNumber e) ∙ both-on (le-leb (c .written) lastNumber w) ∙ both-on (le-leb (c .room) mostBytes m) ∙ both-on (le-leb leastBytes (c .room) l)
-
-pub limits-written : (c : Connection) → limitsb c ≡ true → c .written ≤ lastNumber
-unfolding limitsb
-limits-written c h = leb-true _ _ (both-left _ _ (both-right _ _ (both-right _ _ h)))
-
-pub limits-run : (c : Connection) → limitsb c ≡ true → runb (c .first) (c .written) (c .capacity) ≡ true → Numbers c
-unfolding limitsb runb
-limits-run c h k =
-    let h₁ = both-right _ _ h in let h₂ = both-right _ _ h₁ in let h₃ = both-right _ _ h₂ in
-    record {
-      store-least = leb-true _ _ (both-left _ _ h);
-      store-most = leb-true _ _ (both-left _ _ h₁);
-      written-most = leb-true _ _ (both-left _ _ h₂);
-      expected-most = leb-true _ _ (both-left _ _ h₃);
-      read-most = leb-true _ _ (both-right _ _ h₃);
-      first-least = leb-true _ _ (both-left _ _ k);
-      first-most = leb-true _ _ (both-left _ _ (both-right _ _ k));
-      count-most = leb-true _ _ (both-right _ _ (both-right _ _ k));
-    }
-
-pub numbers-limits : (c : Connection) → Numbers c → limitsb c ≡ true
-unfolding limitsb
-numbers-limits c n =
-    both-yes _ _ (le-leb leastBytes (c .room) (n .store-least))
-    (both-yes _ _ (le-leb (c .room) mostBytes (n .store-most))
-    (both-yes _ _ (le-leb (c .written) lastNumber (n .written-most))
-    (both-yes _ _ (le-leb (c .expected) lastNumber (n .expected-most)) (le-leb (c .read) lastNumber (n .read-most)))))
-
-pub numbers-run : (c : Connection) → Numbers c → runb (c .first) (c .written) (c .capacity) ≡ true
-unfolding runb
-numbers-run c n =
-    both-yes _ _ (le-leb 1 (c .first) (n .first-least))
-    (both-yes _ _ (le-leb (c .first) (c .written + 1) (n .first-most)) (le-leb (c .written + 1 - c .first) (c .capacity) (n .count-most)))
+    both-on (le-leb (c .expected) lastNumber e) ∙ both-on (le-leb (c .written) lastNumber w) ∙ both-on (le-leb (c .room) mostStore m) ∙ both-on (le-leb leastStore (c .room) l)
 
 -- what is left to test once all but the rooms was found
 pub rooms-left : (c : Connection) (r : Rooms) → legal (c .order) ≡ true → sized (c .capacity) (r .requests) ≡ true → length (r .store) ≡ c .room → Numbers c → Slots.sound (slotsOf c r) ≡ true

@@ -1,8 +1,8 @@
 // Inside: what a connection is. The types of its calls, the model, and how state and rooms are read
 // as the model's state.
 //
-// `specs/Model.antt` is the page to believe: the state as the rules speak of it and one executable
-// function for each call. Nothing there knows a room.
+// The pages to believe are `specs/Client.antt`, the state as the rules speak of it, and
+// `specs/Model.antt`, one executable function for each call. Nothing there knows a room.
 
 mod soundness;
 

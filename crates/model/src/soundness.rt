@@ -9,13 +9,12 @@ use held::Window;
 ghost use mathlib.Core.Path.{_≡_};
 ghost use Prim.Native.Nat.{_≤_, _<_};
 ghost use Rattle.octets.specs.Logic.{both};
+ghost use Rattle.sequence.specs.Numbering.{lastNumber};
 ghost use Rattle.requests.specs.Room.{capacity, legals};
-ghost use Rattle.model.specs.Reading.{Rooms, rooms};
+ghost use Rattle.model.specs.Reading.{rooms};
 ghost use Rattle.model.specs.Sound.{soundb, holdsb, limitsb, runb, windowOf};
 
-// The largest full number, and the fewest and the most bytes of a packet store.
-const LAST_NUMBER: u64 = 9223372036854775807;
-
+// The fewest and the most bytes of a packet store.
 pub const LEAST_STORE: usize = 48;
 
 pub const MOST_STORE: usize = 16777216;
@@ -66,18 +65,18 @@ fn limits(c: Connection) -> bool
     if MOST_STORE < c.room {
         return false;
     }
-    if LAST_NUMBER < c.written {
+    if sequence::LAST_NUMBER < c.written {
         return false;
     }
-    if LAST_NUMBER < c.expected {
+    if sequence::LAST_NUMBER < c.expected {
         return false;
     }
-    c.read <= LAST_NUMBER
+    c.read <= sequence::LAST_NUMBER
 }
 
 // The outstanding requests are a run from 1 or more up to the last written, and at most so many.
 fn run(first: u64, written: u64, most: usize) -> bool
-    requires { ⌜ written ≤ 9223372036854775807 ⌝ }
+    requires { ⌜ written ≤ lastNumber ⌝ }
     ensures { λ r. ⌜ r ≡ runb first written most ⌝ }
 {
     if first < 1 {

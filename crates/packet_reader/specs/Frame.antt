@@ -11,8 +11,21 @@ use Rattle.octets.specs.Field.{field}
 abbrev pub fixed : ℕ
 fixed = 32
 
+abbrev pub replyCode : ℕ
+replyCode = 1
+
+abbrev pub genericEvent : ℕ
+genericEvent = 35
+
+abbrev pub sentBit : ℕ
+sentBit = 128
+
 unfoldable pub hasLength : ℕ → Bool
-hasLength code = either (eqb code 1) (eqb (code % 128) 35)
+hasLength code = either (eqb code replyCode) (eqb (code % sentBit) genericEvent)
+
+-- 01, Refusal numbers: no packet has over 65,536 bytes
+abbrev pub mostPacket : ℕ
+mostPacket = 65536
 
 -- the bytes of a packet that begins with the code and whose bytes 4 to 7 write the length
 unfoldable pub total : ℕ → ℕ → ℕ

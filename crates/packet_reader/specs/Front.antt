@@ -8,9 +8,8 @@ use lib.Dec.{ltb, eqb}
 use lib.ListN.{length, take, drop, getD, length-drop, take-append-drop}
 use borrow.Author.Tests.{ltb-true, ltb-false, lt-ltb, le-ltb, eqb-true, eqb-false, eq-eqb, ne-eqb}
 use Rattle.octets.specs.Logic.{choose}
-use Rattle.packet_reader.specs.Frame.{fixed, hasLength, total, totalOf, aim, Cut, cons, cuts, cutPackets}
+use Rattle.packet_reader.specs.Frame.{fixed, mostPacket, hasLength, total, totalOf, aim, cons, cuts, cutPackets}
 use Rattle.packet_reader.specs.CutLaws.{aim-least, aim-head, aim-total, cut-rest}
-use Rattle.packet_reader.specs.Reader.{mostBuffer}
 use Rattle.packet_reader.specs.Stream.{joined}
 use Rattle.packet_reader.specs.declared.Begins.{Begins}
 use Rattle.packet_reader.specs.declared.Begins.the-variants as Begins
@@ -25,7 +24,7 @@ pub data Front : Type 0 where
 unfoldable pub frontOf : ℕ → List ℕ → Front
 frontOf o s =
     choose (eqb (length s) 0) nothing
-    (choose (ltb mostBuffer (aim o s (length s))) long
+    (choose (ltb mostPacket (aim o s (length s))) long
     (choose (ltb (length s) (aim o s (length s))) part (whole (aim o s (length s)))))
 
 -- what the enum says
@@ -59,24 +58,24 @@ module _ (o : ℕ) (s : List ℕ) where
   unfolding frontOf choose
   front-nothing h = simp (eq-eqb (length s) 0 h)
 
-  pub front-short : (length s ≡ 0 → ⊥) → length s < 32 → part ≡ frontOf o s
+  pub front-short : (length s ≡ 0 → ⊥) → length s < fixed → part ≡ frontOf o s
   unfolding frontOf choose
   front-short h k =
-      let a : aim o s (length s) ≡ 32 = aim-head o s (length s) k in
-      simp (ne-eqb (length s) 0 h, a, lt-ltb (length s) 32 k)
+      let a : aim o s (length s) ≡ fixed = aim-head o s (length s) k in
+      simp (ne-eqb (length s) 0 h, a, lt-ltb (length s) fixed k)
 
   module _ (t : ℕ) (e : t ≡ aim o s (length s)) (h : length s ≡ 0 → ⊥) where
-    pub front-long : mostBuffer < t → long ≡ frontOf o s
+    pub front-long : mostPacket < t → long ≡ frontOf o s
     unfolding frontOf choose
-    front-long k = simp (ne-eqb (length s) 0 h, sym e, lt-ltb mostBuffer t k)
+    front-long k = simp (ne-eqb (length s) 0 h, sym e, lt-ltb mostPacket t k)
 
-    pub front-part : t ≤ mostBuffer → length s < t → part ≡ frontOf o s
+    pub front-part : t ≤ mostPacket → length s < t → part ≡ frontOf o s
     unfolding frontOf choose
-    front-part k l = simp (ne-eqb (length s) 0 h, sym e, le-ltb mostBuffer t k, lt-ltb (length s) t l)
+    front-part k l = simp (ne-eqb (length s) 0 h, sym e, le-ltb mostPacket t k, lt-ltb (length s) t l)
 
-    pub front-whole : t ≤ mostBuffer → t ≤ length s → whole t ≡ frontOf o s
+    pub front-whole : t ≤ mostPacket → t ≤ length s → whole t ≡ frontOf o s
     unfolding frontOf choose
-    front-whole k l = simp (ne-eqb (length s) 0 h, sym e, le-ltb mostBuffer t k, le-ltb (length s) t l)
+    front-whole k l = simp (ne-eqb (length s) 0 h, sym e, le-ltb mostPacket t k, le-ltb (length s) t l)
 
 -- a packet that has no length of its own has 32 bytes
 total-fixed : (o : ℕ) (s : List ℕ) → hasLength (getD s 0 0) ≡ false → totalOf o s ≡ fixed
@@ -91,17 +90,17 @@ front-fixed o s h e = front-whole o s fixed (sym (aim-total o s (length s) h ∙
 pub record Part (o : ℕ) (s : List ℕ) : Type 0 where
   pub some : 0 < length s
   pub lacks : length s < aim o s (length s)
-  pub most : aim o s (length s) ≤ mostBuffer
+  pub most : aim o s (length s) ≤ mostPacket
 
 pub record Long (o : ℕ) (s : List ℕ) : Type 0 where
   pub some : 0 < length s
-  pub over : mostBuffer < aim o s (length s)
+  pub over : mostPacket < aim o s (length s)
 
 pub record Whole (o : ℕ) (s : List ℕ) (n : ℕ) : Type 0 where
   pub target : n ≡ aim o s (length s)
   pub least : fixed ≤ n
   pub fits : n ≤ length s
-  pub most : n ≤ mostBuffer
+  pub most : n ≤ mostPacket
 
 -- which of the four something is
 abbrev Tells : ℕ → List ℕ → Front → Type 0
@@ -113,9 +112,9 @@ Tells o s (whole n) = Whole o s n
 module _ (o : ℕ) (s : List ℕ) where
   tells : Tells o s (frontOf o s)
   unfolding frontOf choose
-  tells = go (eqb (length s) 0) refl (ltb mostBuffer (aim o s (length s))) refl (ltb (length s) (aim o s (length s))) refl
+  tells = go (eqb (length s) 0) refl (ltb mostPacket (aim o s (length s))) refl (ltb (length s) (aim o s (length s))) refl
     where
-      go : (a : Bool) → eqb (length s) 0 ≡ a → (b : Bool) → ltb mostBuffer (aim o s (length s)) ≡ b → (c : Bool) → ltb (length s) (aim o s (length s)) ≡ c
+      go : (a : Bool) → eqb (length s) 0 ≡ a → (b : Bool) → ltb mostPacket (aim o s (length s)) ≡ b → (c : Bool) → ltb (length s) (aim o s (length s)) ≡ c
           → Tells o s (choose a nothing (choose b long (choose c part (whole (aim o s (length s))))))
       go true e b f c g = eqb-true (length s) 0 e
       go false e true f c g =
@@ -152,7 +151,7 @@ cuts-enough o zero m s h k = cut-rest o zero s (omega (arith, aim-least o s (len
 cuts-enough o (suc n) zero s h k = cut-rest o (suc n) s (omega (arith, aim-least o s (length s))) ∙ sym (cut-rest o zero s (omega (arith, aim-least o s (length s))))
 cuts-enough o (suc n) (suc m) s h k =
     go (ltb (length s) (aim o s (length s))) refl
-    (λ f. let w : 32 ≤ aim o s (length s) = aim-least o s (length s) in
+    (λ f. let w : fixed ≤ aim o s (length s) = aim-least o s (length s) in
     let l : length (drop (aim o s (length s)) s) ≡ length s - aim o s (length s) = length-drop (aim o s (length s)) s in
     cuts-enough o n m (drop (aim o s (length s)) s) (omega arith) (omega arith))
   where
@@ -172,7 +171,7 @@ packets-none o s h = cut-rest o (length s) s h
 pub packets-next : (o : ℕ) (s : List ℕ) → aim o s (length s) ≤ length s → cutPackets o s ≡ cons (take (aim o s (length s)) s) (cutPackets o (drop (aim o s (length s)) s))
 unfolding cutPackets
 packets-next o s h =
-    let w : 32 ≤ aim o s (length s) = aim-least o s (length s) in
+    let w : fixed ≤ aim o s (length s) = aim-least o s (length s) in
     let l : length (drop (aim o s (length s)) s) ≡ length s - aim o s (length s) = length-drop (aim o s (length s)) s in
     cuts-enough o (length s) (suc (length s)) s (omega arith) (omega arith)
     ∙ cut-next o (length s) s h

@@ -11,7 +11,7 @@ use Rattle.octets.specs.Bytes.{legal}
 use Rattle.octets.specs.Put.{cut}
 use Rattle.refusal.specs.Answer.{Answer, gives, refuses, refuse, decides}
 use Rattle.refusal.specs.Numbers.{numberOf, refusalOf, listed}
-use Rattle.packet_reader.specs.Frame.{fixed, aim}
+use Rattle.packet_reader.specs.Frame.{fixed, mostPacket, aim}
 use Rattle.packet_reader.specs.declared.PacketReader.{PacketReader}
 use Rattle.packet_reader.specs.declared.Made.{Made}
 use Rattle.packet_reader.specs.declared.Made.the-variants as Made
@@ -22,7 +22,7 @@ use Rattle.packet_reader.specs.declared.Advanced.the-variants as Advance
 
 -- 01, Rooms: a packet buffer has 32 to 65,536 bytes
 abbrev pub mostBuffer : ℕ
-mostBuffer = 65536
+mostBuffer = mostPacket
 
 unfoldable pub room : ℕ → Bool
 room n = both (leb fixed n) (leb n mostBuffer)

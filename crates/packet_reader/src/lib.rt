@@ -8,7 +8,7 @@
 ghost use mathlib.Core.Path.{_≡_};
 ghost use Prim.Native.Nat.{_≤_};
 ghost use lib.ListN.{length};
-ghost use Rattle.packet_reader.specs.Frame.{hasLength, total, totalOf, aim};
+ghost use Rattle.packet_reader.specs.Frame.{hasLength, total, aim};
 ghost use Rattle.packet_reader.specs.Front.{frontOf, saysBegins};
 ghost use Rattle.packet_reader.specs.Reader.{fresh as Reader·fresh, soundb, made, capacity, advanced, saysMade, saysCapacity, saysAdvanced, Lent};
 use refusal::Refusal;
@@ -68,6 +68,7 @@ pub enum Begins {
     Whole(usize),
 }
 
+// An order other than `l` counts as `B`: whoever calls has tested it.
 pub fn front(order: u8, bytes: &[u8]) -> Begins
     ensures { λ r. ⌜ saysBegins r ≡ frontOf order (now (bytes .entry)) ⌝ }
 {
@@ -141,7 +142,7 @@ impl PacketReader {
         Capacity::Bytes(self.target - self.filled)
     }
 
-    // The part of the buffer that is to be filled next.
+    // The part of the buffer that is to be filled next; empty where the reader is unsound.
     pub fn buffer<'a>(self, buf: &'a mut [u8]) -> &'a mut [u8]
         ensures { λ r. ⌜ Lent self (buf .entry) r ⌝ }
     {

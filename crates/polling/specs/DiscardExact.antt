@@ -16,7 +16,6 @@ use Rattle.held.specs.Lies.{Other, FirstReply, FindsReply}
 use Rattle.held.specs.Theorems as Held
 use Rattle.held.specs.declared.Window.{Window}
 use Rattle.held.specs.declared.Place.{Place}
-use Rattle.held.specs.declared.Found.{Found}
 use Rattle.held.specs.declared.Found.the-variants as Found
 use Rattle.held.specs.Tally.{own, lower, higher}
 use Rattle.descriptors.specs.Room as Slots

@@ -10,7 +10,7 @@ use lib.Seq.{drop-drop}
 use borrow.Author.Tests.{leb-true}
 use Rattle.octets.specs.Logic.{choose, both, both-left, both-right}
 use Rattle.refusal.specs.Answer.{gives}
-use Rattle.requests.specs.Room.{outstanding, putMode, underMode, capacity, sized, legals}
+use Rattle.requests.specs.Room.{outstanding, putMode, underMode, sized, legals}
 use Rattle.requests.specs.Theorems.{mode-put, outstanding-mode, sized-is, sized-put, legals-put}
 use Rattle.held.specs.General.{choose-either}
 use Rattle.held.specs.Head as Record
@@ -22,9 +22,9 @@ use Rattle.held.specs.Theorems as Held
 use Rattle.held.specs.Tally.{own, lower, higher}
 use Rattle.descriptors.specs.Room as Slots
 use Rattle.descriptors.specs.Theorems as Fds
-use Rattle.model.specs.Client.{Client, setOutstanding, descriptorsOf, first}
+use Rattle.model.specs.Client.{Client, setOutstanding, descriptorsOf}
 use Rattle.model.specs.Client as Client
-use Rattle.model.specs.Model.{withMode, modeOf, joining, ofNumber, notOf, above, errorsOf, turned, discarding, discardReply, errorCode}
+use Rattle.model.specs.Model.{withMode, modeOf, joining, ofNumber, notOf, above, errorsOf, closingOrder, discarding, discardReply, errorCode}
 use Rattle.model.specs.Model as Model
 use Rattle.model.specs.Reading.{Rooms, count, slotsOf, withDescriptors, eventOf, reads}
 use Rattle.model.specs.ReadingLaws.{first-read}
@@ -52,14 +52,14 @@ errors-read (h ∷ a) fds = go (eqb (getD (h .packet) 0 0) errorCode) (errors-re
     go false e = e
 
 -- a row from record k mod r on and then round
-turned-is : (k : ℕ) (w : List Client.Held) → turned k w ≡ drop (k % length w) w ++ take (k % length w) w
-unfolding turned
-turned-is k [] = nil (k % 0)
+closing-order : (k : ℕ) (w : List Client.Held) → closingOrder k w ≡ drop (k % length w) w ++ take (k % length w) w
+unfolding closingOrder
+closing-order k [] = nil (k % 0)
   where
     nil : (n : ℕ) → _≡_ {A = List Client.Held} [] (drop n [] ++ take n [])
     nil zero = refl
     nil (suc n) = refl
-turned-is k (h ∷ l) = refl
+closing-order k (h ∷ l) = refl
 
 module _ (c : Connection) (r : Rooms) (S : Sound c r) (n : ℕ) (m : DiscardMode) where
   abbrev rs : List Record.Held
@@ -145,14 +145,14 @@ module _ (c : Connection) (r : Rooms) (S : Sound c r) (n : ℕ) where
   list-order = ap descriptorsOf (append-nil _ ∙ sym (of-read n 0 (repliesOf c r) (Slots.holding (slotsOf c r)) (rising c r S n DiscardMode.DiscardReply)))
 
   round-order : descriptorsOf (drop (turnAt DiscardMode.DiscardReplyAndError n (repliesOf c r)) (w c r S n DiscardMode.DiscardReplyAndError) ++ take (turnAt DiscardMode.DiscardReplyAndError n (repliesOf c r)) (w c r S n DiscardMode.DiscardReplyAndError))
-      ≡ descriptorsOf (turned (length (above n read-replies)) (ofNumber n read-replies))
+      ≡ descriptorsOf (closingOrder (length (above n read-replies)) (ofNumber n read-replies))
   round-order =
       let o = repliesOf c r in
       let f = Slots.holding (slotsOf c r) in
       let R = rising c r S n DiscardMode.DiscardReplyAndError in
       let x = w c r S n DiscardMode.DiscardReplyAndError in
       ap descriptorsOf
-      (sym ((λ k. turned (above-read n 0 o f R k) (of-read n 0 o f R k)) ∙ turned-is (length (higher n o)) x
+      (sym ((λ k. closingOrder (above-read n 0 o f R k) (of-read n 0 o f R k)) ∙ closing-order (length (higher n o)) x
       ∙ ap (λ (j : ℕ). drop (length (higher n o) % j) x ++ take (length (higher n o) % j) x) (length-with (own n o) (drop (fdsBelow n o) f))))
 
   -- the whole, as it is read

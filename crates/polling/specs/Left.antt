@@ -15,7 +15,7 @@ use Rattle.held.specs.Theorems as Held
 use Rattle.held.specs.declared.Place.{Place}
 use Rattle.descriptors.specs.Room as Slots
 use Rattle.descriptors.specs.Theorems as Fds
-use Rattle.model.specs.Client.{Client, setReplies, setEvents, setClosing}
+use Rattle.model.specs.Client.{setReplies, setEvents, setClosing}
 use Rattle.model.specs.Client as Client
 use Rattle.model.specs.Model as Model
 use Rattle.model.specs.Model.{find, errorCode}

@@ -21,7 +21,6 @@ use Rattle.held.specs.Lies.{FirstReply, FirstEvent, FindsReply, FindsEvent}
 use Rattle.held.specs.Theorems.{find-reply-law, find-event-law, place-law, first-law}
 use Rattle.held.specs.declared.Window.{Window}
 use Rattle.held.specs.declared.Place.{Place}
-use Rattle.held.specs.declared.Found.{Found}
 use Rattle.held.specs.declared.Found.the-variants as Found
 use Rattle.descriptors.specs.Room as Slots
 use Rattle.descriptors.specs.Theorems.{length-holding}

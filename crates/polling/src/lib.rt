@@ -18,9 +18,7 @@ use model::Polled;
 use refusal::Refusal;
 use sequence::SequenceNumber;
 ghost use mathlib.Core.Path.{_≡_};
-ghost use mathlib.Core.List.{List};
-ghost use Prim.Native.Nat.{ℕ, _<_, _≤_};
-ghost use lib.ListN.{length};
+ghost use Prim.Native.Nat.{_<_};
 ghost use Rattle.held.specs.Reading as Store;
 ghost use Rattle.polling.specs.Exact.{Ready, leftState, EventStep, TakenStep, CheckedStep, RepliedStep};
 

@@ -1,9 +1,10 @@
 // The refusals of the engine, by name and by number.
 //
 // Whatever a caller hands in, a call answers what it gives or one refusal, and a refusal changes
-// neither the state nor one byte lent. Each call has an answer enum of its own; its last case is
-// `Refused(Refusal)`. In `specs/`, `Answer` is what every such enum says in the rules' own terms,
-// the values given or the number of the refusal, and `refuse` puts refusals in order.
+// neither the state nor one byte lent. Each call that can refuse has an answer enum of its own,
+// whose last case is `Refused(Refusal)`; a call that hands back a part gives an empty one, and a
+// call beside it the number. In `specs/`, `Answer` is what every such enum says in the rules' own
+// terms, the values given or the number of the refusal, and `refuse` puts refusals in order.
 ghost use mathlib.Core.Path.{_≡_};
 ghost use Rattle.refusal.specs.Numbers.{numberOf};
 
@@ -14,7 +15,7 @@ pub enum Refusal {
     LongPacket,
     // 3: a full number would pass 2^63 - 1, on send or intake.
     NumberEnd,
-    // 4: a reply claims more descriptors than wait.
+    // 4: a reply to a request with descriptors claims more than wait.
     FewDescriptors,
     // 5: no room for a request, a packet or a descriptor.
     NoRoom,
@@ -28,7 +29,7 @@ pub enum Refusal {
     BadRoom,
     // 10: an id mask of 0.
     ZeroMask,
-    // 11: no id left.
+    // 11: no id left, or a range without ids: (0, 1), or a count of 0.
     IdsExhausted,
     // 12: a range whose last id is over 2^32 - 1.
     BadRange,

@@ -6,7 +6,7 @@ use lib.Dec.{ltb}
 use lib.ListN.{length}
 use Rattle.refusal.specs.Answer.{Answer, gives, refuse}
 use Rattle.descriptors.specs.Room as Slots
-use Rattle.model.specs.Model.{mostDescriptors}
+use Rattle.descriptors.specs.Room.{mostDescriptors}
 use Rattle.model.specs.Reading.{Rooms, rooms, slotsOf}
 use Rattle.model.specs.Promise.{Done, Exact, outputOf}
 use Rattle.model.specs.Says.{saysNext, saysClosed}

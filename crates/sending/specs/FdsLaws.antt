@@ -8,7 +8,7 @@ use Rattle.refusal.specs.Answer.{gives, refuse}
 use Rattle.descriptors.specs.Room as Slots
 use Rattle.descriptors.specs.Theorems as Fds
 use Rattle.descriptors.specs.declared.Counts.{Counts}
-use Rattle.model.specs.Model.{mostDescriptors}
+use Rattle.descriptors.specs.Room.{mostDescriptors}
 use Rattle.model.specs.Reading.{rooms, slotsOf}
 use Rattle.model.specs.Promise.{answerOf, roomsOf, outputOf, exact-refused}
 use Rattle.model.specs.declared.Connection.{Connection}

@@ -7,7 +7,7 @@ use lib.Dec.{leb}
 use borrow.Author.Tests.{le-leb, lt-leb}
 use Rattle.refusal.specs.Answer.{Answer, gives, refuses, refuse, pass}
 use Rattle.sequence.specs.Sending.{Numbers, sending}
-use Rattle.requests.specs.Room.{putRequest, capacity}
+use Rattle.requests.specs.Room.{putRequest}
 use Rattle.model.specs.Model.{hasReply, joining}
 use Rattle.model.specs.Reading.{Rooms, rooms, count}
 use Rattle.model.specs.Promise.{Done, Exact, answerOf, roomsOf, exact-refused}

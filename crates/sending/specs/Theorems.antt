@@ -15,8 +15,9 @@ use Rattle.requests.specs.Room.{putRequest, outstanding, capacity, legals}
 use Rattle.requests.specs.Theorems.{outstanding-send, legals-send, sized-is, sized-put}
 use Rattle.descriptors.specs.Room as Slots
 use Rattle.descriptors.specs.Theorems as Fds
+use Rattle.descriptors.specs.Room.{mostDescriptors}
 use Rattle.model.specs.Client.{Client, setNumbers, setOutstanding, setWaiting, setClosing}
-use Rattle.model.specs.Model.{hasReply, joining, sendRequest, mostDescriptors, enqueueFds, takeClosed}
+use Rattle.model.specs.Model.{hasReply, joining, sendRequest, enqueueFds, takeClosed}
 use Rattle.held.specs.Reading as Store
 use Rattle.model.specs.Reading.{Rooms, rooms, count, slotsOf, withDescriptors, reads}
 use Rattle.model.specs.ReadingLaws.{length-out, inside-read, length-close}

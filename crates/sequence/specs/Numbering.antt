@@ -1,5 +1,5 @@
 -- 01, Numbering and filing: the full number of a packet. Assumes nothing.
-use mathlib.Core.Path.{_≡_, refl, ap, _∙_}
+use mathlib.Core.Path.{_≡_, refl, sym, ap, _∙_}
 use Prim.Native.Nat.{ℕ, _+_, _-_, _%_, _≤_, _<_}
 use native.Mathlib.Omega.{arith}
 use lib.Dec.{ltb}
@@ -55,7 +55,7 @@ least-one read wire m n p q =
     let b : n ≤ m = q .least m (p .from) (p .low) in
     omega arith
 
--- Any two answers are equal, and each is what the sum gives.
+-- Each answer is what the sum gives.
 pub number-is : (read wire : ℕ) (a : Answer ℕ) → wire < wireValues → FullNumber read wire a → a ≡ inRange (full read wire)
 number-is read wire a h f = f .answers ∙ ap inRange (least-one read wire (f .number) (full read wire) (f .is-least) (full-least read wire h))
 
@@ -83,3 +83,8 @@ back (refuses n) = Full.Refused (refusalOf n)
 pub full-one : (a b : Full) → saysFull a ≡ saysFull b → a ≡ b
 unfolding back
 full-one = decides saysFull back (elim [ Full.Number n ↦ refl | Full.Refused r ↦ ap Full.Refused (listed r) ])
+
+-- So any two answers of `full_number` are equal.
+pub full-number-one : {read wire : ℕ} (a b : Full) → FullNumber read wire (saysFull a) → FullNumber read wire (saysFull b) → a ≡ b
+full-number-one {read} {wire} a b p q =
+    full-one a b (p .answers ∙ ap inRange (least-one read wire (p .number) (q .number) (p .is-least) (q .is-least)) ∙ sym (q .answers))

@@ -22,7 +22,7 @@ pub const LAST_NUMBER: u64 = 9223372036854775807;
 // How far last written may be past next reply expected before a request with a reply must be sent.
 pub const SYNC_SPAN: u64 = 65534;
 
-// How many numbers share their 16 bits with others: the wire wraps there.
+// How many values 16 bits have: the wire wraps there.
 const WIRE_VALUES: u64 = 65536;
 
 // What the number of a packet is.

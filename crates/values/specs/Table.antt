@@ -16,15 +16,15 @@ abbrev one : IdAllocator
 one = record { next = 0; last = 0; step = 1 }
 
 -- what a range comes to: its ids, the answers of so many calls and one more, or its refusal
-abbrev calls : ℕ → IdAllocator → List (Answer ℕ)
-calls zero a = call 0 a ∷ []
-calls (suc n) a = call (suc n) a ∷ calls n a
+abbrev calls : ℕ → ℕ → IdAllocator → List (Answer ℕ)
+calls i zero a = call i a ∷ []
+calls i (suc n) a = call i a ∷ calls (suc i) n a
 
 abbrev answers : ℕ → Answer IdAllocator → List (Answer ℕ)
-answers count (gives a) = calls count a
+answers count (gives a) = calls 0 count a
 answers count (refuses n) = refuses n ∷ []
 
--- A row of the table: last read, wire and full number; a packet's code, length field and total; a range's start and count, and what comes of it, the last call first.
+-- A row of the table: last read, wire and full number; a packet's code, length field and total; a range's start and count, and what comes of it.
 pub data Row : Type 0 where
   numbers : ℕ → ℕ → Answer ℕ → Row
   lengths : ℕ → ℕ → ℕ → Row
@@ -56,8 +56,8 @@ table =
     ∷ lengths 129 5 32
     ∷ ranges 0 1 (refuses 11 ∷ [])
     ∷ ranges 5 0 (refuses 11 ∷ [])
-    ∷ ranges 0 2 (refuses 11 ∷ gives 1 ∷ gives 0 ∷ [])
-    ∷ ranges (2 ^ 32 - 1) 1 (refuses 11 ∷ gives (2 ^ 32 - 1) ∷ [])
+    ∷ ranges 0 2 (gives 0 ∷ gives 1 ∷ refuses 11 ∷ [])
+    ∷ ranges (2 ^ 32 - 1) 1 (gives (2 ^ 32 - 1) ∷ refuses 11 ∷ [])
     ∷ ranges (2 ^ 32 - 1) 2 (refuses 12 ∷ [])
     ∷ []
 

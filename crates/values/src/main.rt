@@ -2,7 +2,7 @@
 // gate holds it to the file `stdout`.
 //
 // The packets were sent by an X server (X.Org 21.1.7, Xvfb) to a client of each byte order; the
-// ids are those that the Rust answers.
+// ids are those that the Rust answers, but where its 32 bits overflow (docs/DIFFERENCES.md).
 mod ids;
 mod misc;
 

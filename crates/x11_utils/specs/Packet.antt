@@ -19,14 +19,11 @@ leastPacket = 32
 abbrev pub mostPacket : ℕ
 mostPacket = 65536
 
--- Core, Encoding: an error begins with 0, a reply with 1
+-- Core, Encoding: an error begins with 0
 abbrev pub errorCode : ℕ
 errorCode = 0
 
-abbrev pub replyCode : ℕ
-replyCode = 1
-
--- 1, 2, 13, 14 in this order, or the packet's fields can be read.
+-- 01, Refusal numbers, "elsewhere 9, then by number": 1, 2, 13, 14, or the packet's fields can be read.
 unfoldable pub checked : ℕ → List ℕ → ℕ → Answer Unit
 checked o p first =
     refuse (ltb (length p) leastPacket) 1

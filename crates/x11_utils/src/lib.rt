@@ -16,10 +16,8 @@ pub const LEAST_PACKET: usize = 32;
 
 pub const MOST_PACKET: usize = 65536;
 
-// The first byte of an error, and of a reply.
+// The first byte of an error.
 pub const ERROR: u8 = 0;
-
-pub const REPLY: u8 = 1;
 
 pub enum Checked {
     Ready,

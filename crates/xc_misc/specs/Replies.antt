@@ -21,7 +21,7 @@ use Rattle.octets.specs.Lent.{leaves}
 use Rattle.octets.specs.Put.{put}
 use Rattle.refusal.specs.Answer.{Answer, gives, refuses, refuse, after, gives-past, after-given, after-refused, after-check, after-rest, decides}
 use Rattle.refusal.specs.Numbers.{numberOf, refusalOf, listed}
-use Rattle.x11_utils.specs.Packet.{checked, replyCode, leastPacket, ready-long}
+use Rattle.x11_utils.specs.Packet.{checked, leastPacket, ready-long}
 use Rattle.xc_misc.specs.declared.reply.GetVersionReply.{GetVersionReply}
 use Rattle.xc_misc.specs.declared.reply.GetXIDRangeReply.{GetXIDRangeReply}
 use Rattle.xc_misc.specs.declared.reply.GetXIDListReply.{GetXIDListReply}
@@ -32,18 +32,29 @@ use Rattle.xc_misc.specs.declared.reply.RangeAnswer.the-variants as Rang
 use Rattle.xc_misc.specs.declared.reply.ListAnswer.{ListAnswer}
 use Rattle.xc_misc.specs.declared.reply.ListAnswer.the-variants as ListAnswer
 
+-- Core, Encoding: a reply begins with 1
+abbrev pub replyCode : ℕ
+replyCode = 1
+
+-- where every reply has its length, and a list its count of ids
+abbrev pub lengthAt : ℕ
+lengthAt = 4
+
+abbrev pub countAt : ℕ
+countAt = 8
+
 -- the fields of each reply
 unfoldable pub versionOf : ℕ → List ℕ → GetVersionReply
-versionOf o p = record { sequence = record { 0 = field o 2 2 p }; length = field o 4 4 p; major = field o 8 2 p; minor = field o 10 2 p }
+versionOf o p = record { sequence = record { 0 = field o 2 2 p }; length = field o lengthAt 4 p; major = field o 8 2 p; minor = field o 10 2 p }
 
 unfoldable pub rangeOf : ℕ → List ℕ → GetXIDRangeReply
-rangeOf o p = record { sequence = record { 0 = field o 2 2 p }; length = field o 4 4 p; start = field o 8 4 p; count = field o 12 4 p }
+rangeOf o p = record { sequence = record { 0 = field o 2 2 p }; length = field o lengthAt 4 p; start = field o 8 4 p; count = field o 12 4 p }
 
 unfoldable pub listOf : ℕ → List ℕ → GetXIDListReply
-listOf o p = record { sequence = record { 0 = field o 2 2 p }; length = field o 4 4 p; count = field o 8 4 p }
+listOf o p = record { sequence = record { 0 = field o 2 2 p }; length = field o lengthAt 4 p; count = field o countAt 4 p }
 
 unfoldable pub idsOf : ℕ → ℕ → List ℕ → List ℕ
-idsOf o count p = fields o 4 32 count p
+idsOf o count p = fields o 4 leastPacket count p
 
 -- 01, What is ported: 32 bytes and so many units of four are within n bytes
 unfoldable pub reaches : ℕ → ℕ → Bool
@@ -55,10 +66,10 @@ unitsChecked o p at = refuse (not (reaches (length p) (field o at 4 p))) 14 (giv
 
 -- 1, 2, 13, 14 for any packet, then 14 for the length; in a list also for the count of ids
 unfoldable pub replyChecked : ℕ → List ℕ → Answer Unit
-replyChecked o p = after (checked o p replyCode) (unitsChecked o p 4)
+replyChecked o p = after (checked o p replyCode) (unitsChecked o p lengthAt)
 
 unfoldable pub listChecked : ℕ → List ℕ → Answer Unit
-listChecked o p = after (replyChecked o p) (unitsChecked o p 8)
+listChecked o p = after (replyChecked o p) (unitsChecked o p countAt)
 
 -- The answers for a reply's bytes.
 unfoldable pub version : ℕ → List ℕ → Answer GetVersionReply
@@ -102,7 +113,7 @@ list-long o p e = reply-long o p (after-check _ _ e)
 
 pub list-whole : (o : ℕ) (p : List ℕ) → gives tt ≡ listChecked o p → leastPacket + 4 * listOf o p .count ≤ length p
 unfolding listChecked unitsChecked reaches listOf
-list-whole o p e = leb-true _ _ (not-false _ (gives-past _ 14 (gives tt) (after-rest (replyChecked o p) (unitsChecked o p 8) e)))
+list-whole o p e = leb-true _ _ (not-false _ (gives-past _ 14 (gives tt) (after-rest (replyChecked o p) (unitsChecked o p countAt) e)))
 
 -- how a list is answered: by its check, for want of room, or with its ids
 pub lists-refused : (o : ℕ) (p before : List ℕ) (n : ℕ) → refuses n ≡ listChecked o p → Lists o p before (refuses n) before

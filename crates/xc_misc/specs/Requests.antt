@@ -32,9 +32,9 @@ getXIDRange o opcode = header o opcode 1 1
 unfoldable pub getXIDList : ℕ → ℕ → ℕ → List ℕ
 getXIDList o opcode count = header o opcode 2 2 ++ bytesOf o 4 count
 
--- 13, then 8 where the output is too small; otherwise the bytes that are needed
+-- 01, Refusal numbers, "elsewhere 9, then by number": 8 where the output is too small, then 13; otherwise the bytes that are needed
 unfoldable pub room : ℕ → ℕ → ℕ → Answer ℕ
-room o have need = refuse (not (legal o)) 13 (refuse (ltb have need) 8 (gives need))
+room o have need = refuse (ltb have need) 8 (refuse (not (legal o)) 13 (gives need))
 
 -- A call that writes a request: its answer, and the output that it leaves.
 pub record Writes (o : ℕ) (request before : List ℕ) (a : Answer ℕ) (left : List ℕ) : Type 0 where
@@ -98,7 +98,7 @@ put-list o opcode count s s₁ s₂ h p q =
 pub room-there : (o have need : ℕ) {n : ℕ} → gives n ≡ room o have need → (need ≤ have) × (n ≡ need)
 unfolding room
 room-there o have need e =
-    let q = gives-rest _ _ _ e in let f = gives-rest _ _ _ q in (ltb-false _ _ (gives-past _ _ _ q), cc)
+    let q = gives-rest _ _ _ e in let f = gives-rest _ _ _ q in (ltb-false _ _ (gives-past _ _ _ e), cc)
 
 -- A request is written where the room was found, and nothing is where it was not.
 pub writes-given : (o : ℕ) (request before left : List ℕ) (need n : ℕ) → length request ≡ need → gives n ≡ room o (length before) need → left ≡ put before 0 request

@@ -10,6 +10,9 @@ use refusal::Refusal;
 use sequence::WireNumber;
 use x11_utils::Checked;
 
+// The first byte of a reply.
+const REPLY: u8 = 1;
+
 // Where every reply has its length, and a list its count of ids.
 const LENGTH_AT: usize = 4;
 
@@ -96,7 +99,7 @@ fn within(len: usize, units: u32) -> bool
 fn check_reply(order: u8, packet: &[u8]) -> Checked
     ensures { λ r. ⌜ saysChecked r ≡ replyChecked order (now (packet .entry)) ⌝ }
 {
-    match x11_utils::check_packet(order, packet, x11_utils::REPLY) {
+    match x11_utils::check_packet(order, packet, REPLY) {
         Checked::Ready => check_units(order, packet, LENGTH_AT),
         Checked::Refused(refusal) => Checked::Refused(refusal),
     }
@@ -182,12 +185,12 @@ fn take_list(order: u8, packet: &[u8], ids: &mut [u32]) -> ListAnswer
 }
 
 fn read_ids(order: u8, packet: &[u8], count: usize, ids: &mut [u32])
-    requires { ⌜ (32 + 4 * count ≤ length (now packet)) × (count ≤ length (now ids)) ⌝ }
+    requires { ⌜ (leastPacket + 4 * count ≤ length (now packet)) × (count ≤ length (now ids)) ⌝ }
     ensures { λ _. ⌜ now (ids .exit) ≡ put (now (ids .entry)) 0 (idsOf order count (now (packet .entry))) ⌝ }
 {
     let mut i = 0;
     while i < count {
-        ids[i] = octets::get_u32(order, packet, 32 + 4 * i);
+        ids[i] = octets::get_u32(order, packet, x11_utils::LEAST_PACKET + 4 * i);
         i += 1;
     }
 }

@@ -19,8 +19,8 @@ pub enum Written {
     Refused(Refusal),
 }
 
-// GetVersion with the version that the client wants. opcode is the extension's own. Refused by 13
-// for another byte order, then by 8 where out has under eight bytes; bytes past the eighth stay.
+// GetVersion with the version that the client wants. opcode is the extension's own. Refused by 8
+// where out has under eight bytes, then by 13 for another byte order; bytes past the eighth stay.
 pub fn get_version_request(order: u8, opcode: u8, major: u16, minor: u16, out: &mut [u8]) -> Written
     ensures { λ r. ⌜ Writes order (getVersion order opcode major minor) (now (out .entry)) (saysWritten r) (now (out .exit)) ⌝ }
 {
@@ -62,11 +62,11 @@ pub fn get_xid_list_request(order: u8, opcode: u8, count: u32, out: &mut [u8]) -
 fn room_for(order: u8, have: usize, need: usize) -> Written
     ensures { λ r. ⌜ saysWritten r ≡ room order have need ⌝ }
 {
-    if !octets::is_legal(order) {
-        return Written::Refused(Refusal::BadOrder);
-    }
     if have < need {
         return Written::Refused(Refusal::OutShort);
+    }
+    if !octets::is_legal(order) {
+        return Written::Refused(Refusal::BadOrder);
     }
     Written::Bytes(need)
 }

@@ -1,7 +1,7 @@
 -- `requests::slot` meets its contract. Assumes nothing.
 use native.Mathlib.Nat.{mod-lt}
 use native.Mathlib.Omega.{arith}
-use mathlib.Core.Path.{_≡_, refl, sym, ap}
+use mathlib.Core.Path.{refl, sym, ap}
 use Prim.Native.Nat.{ℕ, _<_, _%_}
 use borrow.Author.Needs.{needs}
 use Rattle.requests.proofs.slot.Statement.{statement}

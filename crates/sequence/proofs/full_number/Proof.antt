@@ -1,6 +1,6 @@
 -- `sequence::full_number` meets its contract. Assumes nothing.
 use mathlib.Core.Path.{refl}
-use Rattle.sequence.specs.Numbering.{full, full-past, full-within, full-least}
+use Rattle.sequence.specs.Numbering.{full-past, full-within, full-least}
 use native.Mathlib.Omega.{arith}
 use borrow.Author.Needs.{needs}
 use Rattle.sequence.proofs.full_number.Statement.{statement}

@@ -5,8 +5,6 @@ use lib.ListN.{length-set}
 use borrow.Author.Needs.{needs}
 use Rattle.batch.proofs.events.mark.Statement.{statement}
 use Rattle.batch.proofs.events.mark.Tie as tie
-use Rattle.batch.proofs.events.mark.Reads as reads
-use Rattle.batch.proofs.events.mark.Lts as lts
 
 enum-known-a : tie.Need-enum-known-a
 enum-known-a c = search needs

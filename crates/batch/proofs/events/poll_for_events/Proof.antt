@@ -2,7 +2,7 @@
 use Prim.Native.Nat.{_-_, _*_}
 use lib.ListN.{length}
 use native.Mathlib.Omega.{arith}
-use mathlib.Core.Path.{sym, _∙_, refl, subst}
+use mathlib.Core.Path.{_∙_, refl}
 use borrow.Author.Needs.{needs}
 use Rattle.batch.specs.EventsLoop.{Inv, inv-start, inv-asks, inv-end, inv-stop, inv-room, inv-next}
 use Rattle.batch.specs.First.{first-told, first-turns}

@@ -2,8 +2,6 @@
 use Rattle.batch.specs.EventsLaws.{room-few, room-many}
 use Rattle.batch.proofs.events.room_for.Statement.{statement}
 use Rattle.batch.proofs.events.room_for.Tie as tie
-use Rattle.batch.proofs.events.room_for.Reads as reads
-use Rattle.batch.proofs.events.room_for.Lts as lts
 
 returns : tie.Need-returns
 returns c = room-few _ _ (c .if1 .taken)

@@ -4,8 +4,6 @@ use Rattle.octets.specs.Logic.{choose}
 use Rattle.batch.specs.Events.{stoppedBy}
 use Rattle.batch.proofs.events.stopped.Statement.{statement}
 use Rattle.batch.proofs.events.stopped.Tie as tie
-use Rattle.batch.proofs.events.stopped.Reads as reads
-use Rattle.batch.proofs.events.stopped.Lts as lts
 
 returns : tie.Need-returns
 unfolding stoppedBy choose

@@ -9,11 +9,6 @@ use lib.Seq.{length-take-le}
 use borrow.Author.Needs.{needs}
 use Rattle.batch.proofs.events.turn.Statement.{statement}
 use Rattle.batch.proofs.events.turn.Tie as tie
-use Rattle.batch.proofs.events.turn.Reads as reads
-use Rattle.batch.proofs.events.turn.Lts as lts
-use Rattle.batch.proofs.events.mark.Reads as mark-reads
-use Rattle.batch.proofs.events.room_for.Reads as room-for-reads
-use Rattle.polling.proofs.poll_for_event.Reads as poll-for-event-reads
 
 sub-room-for : tie.Need-sub-room-for
 sub-room-for c = search needs

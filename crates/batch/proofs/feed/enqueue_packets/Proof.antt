@@ -2,7 +2,7 @@
 use Prim.Native.Nat.{_-_}
 use lib.ListN.{length}
 use native.Mathlib.Omega.{arith}
-use mathlib.Core.Path.{sym, _∙_, refl}
+use mathlib.Core.Path.{refl}
 use borrow.Author.Needs.{needs}
 use Rattle.intake.specs.Theorems.{ready}
 use Rattle.batch.specs.FeedLoop.{Inv, inv-start, inv-end, inv-stop, inv-least, inv-fits, inv-next}

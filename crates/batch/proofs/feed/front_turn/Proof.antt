@@ -1,7 +1,6 @@
 -- `batch::feed::front_turn` meets its contract. Assumes nothing.
 use mathlib.Core.Path.{sym}
 use lib.Seq.{length-take-le}
-use native.Mathlib.Omega.{arith}
 use Rattle.batch.specs.FeedLoop.{front-end, front-partial, front-over, front-fits, front-packet}
 use borrow.Author.Needs.{needs}
 use Rattle.batch.proofs.feed.front_turn.Statement.{statement}

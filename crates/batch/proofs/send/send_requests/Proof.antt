@@ -2,16 +2,11 @@
 use Prim.Native.Nat.{_-_}
 use lib.ListN.{length}
 use native.Mathlib.Omega.{arith}
-use mathlib.Core.Path.{sym, _∙_, refl, subst}
+use mathlib.Core.Path.{_∙_, refl}
 use borrow.Author.Needs.{needs}
 use Rattle.batch.specs.SendLaws.{Inv, inv-start, inv-asks, inv-end, inv-none, inv-stop, inv-next, told}
 use Rattle.batch.proofs.send.send_requests.Statement.{statement}
 use Rattle.batch.proofs.send.send_requests.Tie as tie
-use Rattle.batch.proofs.send.send_requests.Reads as reads
-use Rattle.batch.proofs.send.send_requests.Lts as lts
-use Rattle.batch.proofs.send.kind_of.Reads as kind-of-reads
-use Rattle.batch.proofs.send.sent.Reads as sent-reads
-use Rattle.sending.proofs.send_request.Reads as send-request-reads
 
 abbrev Inv-loop : tie.InvT-loop
 Inv-loop requests₀ kinds state₀ i₀ requests state i = Inv state₀ requests₀ kinds state requests i

@@ -1,5 +1,5 @@
 -- `held::counting::count_one` meets its contract. Assumes nothing.
-use mathlib.Core.Path.{sym, ap, _∙_}
+use mathlib.Core.Path.{sym, _∙_}
 use native.Mathlib.Omega.{arith}
 use Rattle.held.specs.Tally.{one-other, one-lower, one-above, one-own}
 use Rattle.held.proofs.counting.count_one.Statement.{statement}

@@ -1,15 +1,15 @@
 -- `held::find::find` meets its contract. Assumes nothing.
 use mathlib.Core.Path.{_≡_, refl, sym, ap, _∙_}
 use mathlib.Core.Bool.{Bool, true, false}
-use mathlib.Core.List.{List, [], _∷_}
+use mathlib.Core.List.{List}
 use Prim.Native.Nat.{ℕ, _+_, _-_, _*_, _≤_, _<_}
 use native.Mathlib.Omega.{arith}
-use lib.ListN.{length, drop, length-append}
-use Rattle.octets.specs.Put.{cut, length-cut}
+use lib.ListN.{drop}
+use Rattle.octets.specs.Put.{cut}
 use Rattle.held.specs.General.{choose-yes, choose-no}
-use Rattle.held.specs.Head.{Held, Fits, cost, encoded, length-encoded, headerSize, leastPacket, numOf, lenOf, fdsOf, kindOf}
-use Rattle.held.specs.Front.{Stands, stands}
-use Rattle.held.specs.Reading.{flat, readAll, records, All}
+use Rattle.held.specs.Head.{Held, headerSize, numOf, lenOf, fdsOf, kindOf}
+use Rattle.held.specs.Reading.{readAll, records}
+use Rattle.held.specs.Rest.{Rest, Turn, rest-all, rest-none, turn, turn-room, turn-behind}
 use Rattle.held.specs.Find.{sought, suits, wanted}
 use Rattle.held.specs.declared.Found.{Found}
 use Rattle.held.specs.declared.Found.the-variants as Found
@@ -19,44 +19,20 @@ use Rattle.held.proofs.find.find.Tie as tie
 -- the records hs that are left say what all say; each has at most 255 descriptors and 48 bytes or more
 record Inv (s : List ℕ) (kind : ℕ) (any : Bool) (number start end at before : ℕ) : Type 0 where
   hs : List Held
-  most : at ≤ end
-  rest : cut at (end - at) s ≡ flat hs
-  fit : All Fits hs
+  rest : Rest s at end hs
   few : before ≤ 6 * at
   same : sought (wanted kind any number) start 0 (readAll (cut start (end - start) s)) ≡ sought (wanted kind any number) at before hs
 
--- the record that a turn finds
-record Turn (s : List ℕ) (at end : ℕ) (hs : List Held) : Type 0 where
-  h : Held
-  t : List Held
-  is : hs ≡ h ∷ t
-  here : Stands s at (end - at) h (flat t)
-  fit : All Fits t
+module _ (s : List ℕ) (kind : ℕ) (any : Bool) (number start end at before : ℕ) (I : Inv s kind any number start end at before) where
+  ends : end ≤ at → Found.Nothing ≡ sought (wanted kind any number) start 0 (readAll (cut start (end - start) s))
+  unfolding sought
+  ends h = sym (I .same ∙ ap (sought (wanted kind any number) at before) (rest-none s at end (I .hs) (I .rest) h))
 
-turn : (s : List ℕ) (at end : ℕ) (hs : List Held) → cut at (end - at) s ≡ flat hs → All Fits hs → at < end → end ≤ length s → Turn s at end hs
-unfolding flat All
-turn s at end [] e f h w = absurd (omega (arith, ap length e, length-cut at (end - at) s (omega arith)))
-turn s at end (h ∷ t) e f b w = record { h = h; t = t; is = refl; here = stands s at (end - at) h (flat t) (omega arith) e (f .0); fit = f .1 }
+  module _ (below : at < end) (b : Bool) (e : b ≡ suits kind any number (kindOf (drop at s)) (numOf (drop at s))) where
+    abbrev T : Turn s at end (I .hs)
+    T = turn s at end (I .hs) (I .rest) below
 
-ends : (s : List ℕ) (kind : ℕ) (any : Bool) (number start end at before : ℕ) (I : Inv s kind any number start end at before) → end ≤ at → end ≤ length s
-    → Found.Nothing ≡ sought (wanted kind any number) start 0 (readAll (cut start (end - start) s))
-unfolding flat sought
-ends s kind any number start end at before I h w =
-    go (I .hs) (omega (arith, ap length (I .rest), length-cut at (end - at) s (omega (arith, I .most)))) ∙ sym (I .same)
-  where
-    go : (hs : List Held) → length (flat hs) ≡ 0 → Found.Nothing ≡ sought (wanted kind any number) at before hs
-    go [] e = refl
-    go (h ∷ t) e = absurd (omega (arith, length-append (encoded h) (flat t), length-encoded h))
-
-module _ (s : List ℕ) (kind : ℕ) (any : Bool) (number start end at before : ℕ) (I : Inv s kind any number start end at before) (below : at < end) (within : end ≤ length s) where
-  T : Turn s at end (I .hs)
-  T = turn s at end (I .hs) (I .rest) (I .fit) below within
-
-  room : (headerSize + leastPacket ≤ end - at) × (headerSize + lenOf (drop at s) ≤ end - at)
-  room = (omega (arith, T .here .least, T .here .most), omega (arith, T .here .len, T .here .most))
-
-  module _ (b : Bool) (e : b ≡ suits kind any number (kindOf (drop at s)) (numOf (drop at s))) where
-    is-wanted : b ≡ wanted kind any number (T .h)
+    is-wanted : b ≡ wanted kind any number (T .it)
     is-wanted = e ∙ (λ k. suits kind any number (T .here .kind k) (T .here .number k))
 
     hit : (len fds n : ℕ) → b ≡ true → len ≡ lenOf (drop at s) → fds ≡ fdsOf (drop at s) → n ≡ numOf (drop at s)
@@ -71,18 +47,14 @@ module _ (s : List ℕ) (kind : ℕ) (any : Bool) (number start end at before : 
     again : (len fds : ℕ) → b ≡ false → len ≡ lenOf (drop at s) → fds ≡ fdsOf (drop at s) → fds < 256 → Inv s kind any number start end (at + (headerSize + len)) (before + fds)
     unfolding sought
     again len fds t p q v =
-        let c : headerSize + len ≡ cost (T .h) = ap (λ (n : ℕ). headerSize + n) (p ∙ T .here .len) in
-        let d : end - at - cost (T .h) ≡ end - (at + (headerSize + len)) = omega arith in
         record {
-          hs = T .t;
-          most = omega (arith, T .here .most);
-          rest = (λ k. cut (at + c k) (sym d k) s) ∙ T .here .next;
-          fit = T .fit;
-          few = omega (arith, T .here .least, I .few);
+          hs = T .others;
+          rest = turn-behind s at end (I .hs) (I .rest) below len p;
+          few = omega (arith, p, turn-room s at end (I .hs) (I .rest) below, I .few);
           same = I .same
               ∙ ap (sought (wanted kind any number) at before) (T .is)
               ∙ choose-no _ _ _ (sym is-wanted ∙ t)
-              ∙ (λ k. sought (wanted kind any number) (at + sym c k) (before + (sym (T .here .fds) ∙ sym q) k) (T .t));
+              ∙ (λ k. sought (wanted kind any number) (at + (headerSize + sym (p ∙ T .here .len) k)) (before + sym (q ∙ T .here .fds) k) (T .others));
         }
 
 abbrev Inv-loop : tie.InvT-loop
@@ -93,23 +65,23 @@ abbrev μ-loop : tie.MeasureT-loop
 
 loop-holds : tie.Need-loop-holds Inv-loop μ-loop
 unfolding records
-loop-holds c = record { hs = records (c .before .args .window) (c .before .args .store .now); most = omega arith; rest = c .before .pre .bytes; fit = c .before .pre .fit; few = omega arith; same = refl }
+loop-holds c = record { hs = records (c .before .args .window) (c .before .args .store .now); rest = rest-all _ _ (c .before .pre); few = omega arith; same = refl }
 
 length-at-requires : tie.Need-length-at-requires Inv-loop μ-loop
-length-at-requires c κs = let z = room _ _ _ _ _ _ _ _ (c .before .loop .inv) (omega arith) (omega arith) in omega (arith, z)
+length-at-requires c κs = let z = turn-room _ _ _ _ (c .before .loop .inv .rest) (omega arith) in omega (arith, z)
 
 count-at-requires : tie.Need-count-at-requires Inv-loop μ-loop
-count-at-requires c κs = let z = room _ _ _ _ _ _ _ _ (c .before .before .loop .inv) (omega arith) (omega arith) in omega (arith, z)
+count-at-requires c κs = let z = turn-room _ _ _ _ (c .before .before .loop .inv .rest) (omega arith) in omega (arith, z)
 
 hits-requires : tie.Need-hits-requires Inv-loop μ-loop
-hits-requires c κs = let z = room _ _ _ _ _ _ _ _ (c .before .before .before .loop .inv) (omega arith) (omega arith) in omega (arith, z)
+hits-requires c κs = let z = turn-room _ _ _ _ (c .before .before .before .loop .inv .rest) (omega arith) in omega (arith, z)
 
 number-at-requires : tie.Need-number-at-requires Inv-loop μ-loop
-number-at-requires c κs = let z = room _ _ _ _ _ _ _ _ (c .before .before .before .before .before .loop .inv) (omega arith) (omega arith) in omega (arith, z)
+number-at-requires c κs = let z = turn-room _ _ _ _ (c .before .before .before .before .before .loop .inv .rest) (omega arith) in omega (arith, z)
 
 returns : tie.Need-returns Inv-loop μ-loop
 unfolding records
-returns c = hit _ _ _ _ _ _ _ _ (c .before .before .before .before .before .before .loop .inv) (omega arith) (omega arith) _ (c .before .before .hits .ensures) _ _ _ (c .before .if1 .taken) (c .before .before .before .before .length-at .ensures) (c .before .before .before .count-at .ensures) (c .number-at .ensures)
+returns c = hit _ _ _ _ _ _ _ _ (c .before .before .before .before .before .before .loop .inv) (omega arith) _ (c .before .before .hits .ensures) _ _ _ (c .before .if1 .taken) (c .before .before .before .before .length-at .ensures) (c .before .before .before .count-at .ensures) (c .number-at .ensures)
 
 cast-before : tie.Need-cast-before Inv-loop μ-loop
 cast-before c = omega arith
@@ -118,20 +90,20 @@ add-before : tie.Need-add-before Inv-loop μ-loop
 add-before c = omega (arith, c .before .before .before .before .before .loop .inv .few)
 
 add-at : tie.Need-add-at Inv-loop μ-loop
-add-at c = let z = room _ _ _ _ _ _ _ _ (c .before .before .before .before .before .loop .inv) (omega arith) (omega arith) in omega (arith, z)
+add-at c = let z = turn-room _ _ _ _ (c .before .before .before .before .before .loop .inv .rest) (omega arith) in omega (arith, z)
 
 add-at-2 : tie.Need-add-at-2 Inv-loop μ-loop
-add-at-2 c = let z = room _ _ _ _ _ _ _ _ (c .before .before .before .before .before .loop .inv) (omega arith) (omega arith) in omega (arith, z)
+add-at-2 c = let z = turn-room _ _ _ _ (c .before .before .before .before .before .loop .inv .rest) (omega arith) in omega (arith, z)
 
 loop-less : tie.Need-loop-less Inv-loop μ-loop
-loop-less c = let z = room _ _ _ _ _ _ _ _ (c .before .before .before .before .before .loop .inv) (omega arith) (omega arith) in omega (arith, z)
+loop-less c = let z = turn-room _ _ _ _ (c .before .before .before .before .before .loop .inv .rest) (omega arith) in omega (arith, z)
 
 loop-again : tie.Need-loop-again Inv-loop μ-loop
-loop-again c = again _ _ _ _ _ _ _ _ (c .before .before .before .before .before .loop .inv) (omega arith) (omega arith) _ (c .before .hits .ensures) _ _ (c .if1 .left) (c .before .before .before .length-at .ensures) (c .before .before .count-at .ensures) (omega arith)
+loop-again c = again _ _ _ _ _ _ _ _ (c .before .before .before .before .before .loop .inv) (omega arith) _ (c .before .hits .ensures) _ _ (c .if1 .left) (c .before .before .before .length-at .ensures) (c .before .before .count-at .ensures) (omega arith)
 
 returns-2 : tie.Need-returns-2 Inv-loop μ-loop
 unfolding records
-returns-2 c = ends _ _ _ _ _ _ _ _ (c .before .loop .inv) (c .loop-test .left) (omega arith)
+returns-2 c = ends _ _ _ _ _ _ _ _ (c .before .loop .inv) (c .loop-test .left)
 
 pub find-spec : {M : Type 1} → statement M
 find-spec =

@@ -2,7 +2,6 @@
 use Rattle.octets.specs.Logic.{both}
 use borrow.Author.Tests.{lt-leb, le-leb}
 use Rattle.model.specs.Sound.{limitsb, limits-last}
-use borrow.Author.Needs.{needs}
 use Rattle.model.proofs.soundness.limits.Statement.{statement}
 use Rattle.model.proofs.soundness.limits.Tie as tie
 

@@ -1,7 +1,7 @@
 -- `packet_reader::PacketReader::remaining_capacity` meets its contract. Assumes nothing.
 use native.Mathlib.Omega.{arith}
 use Rattle.refusal.specs.Answer.{refuse}
-use mathlib.Core.Path.{sym, ap, _∙_}
+use mathlib.Core.Path.{sym, _∙_}
 use borrow.Author.Tests.{not-true, not-false}
 use Rattle.packet_reader.specs.Sound.{sound-seen}
 use Rattle.packet_reader.specs.Reader.{capacity}

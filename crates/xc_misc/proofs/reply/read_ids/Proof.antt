@@ -7,6 +7,7 @@ use native.Mathlib.Omega.{arith}
 use lib.ListN.{length, set, length-set}
 use Rattle.octets.specs.Put.{put, put-none, set-behind}
 use Rattle.octets.specs.Field.{field, fields, length-fields, fields-behind}
+use Rattle.x11_utils.specs.Packet.{leastPacket}
 use Rattle.xc_misc.specs.Replies.{idsOf}
 use Rattle.xc_misc.proofs.reply.read_ids.Statement.{statement}
 use Rattle.xc_misc.proofs.reply.read_ids.Tie as tie
@@ -20,14 +21,14 @@ none : (order : ℕ) (packet ids : List ℕ) → ids ≡ put ids 0 (idsOf order 
 unfolding idsOf fields
 none order packet ids = sym (put-none ids 0)
 
-turn : (order i x : ℕ) (packet ids₀ ids : List ℕ) → i < length ids₀ → x ≡ field order (32 + 4 * i) 4 packet → ids ≡ put ids₀ 0 (idsOf order i packet)
+turn : (order i x : ℕ) (packet ids₀ ids : List ℕ) → i < length ids₀ → x ≡ field order (leastPacket + 4 * i) 4 packet → ids ≡ put ids₀ 0 (idsOf order i packet)
     → set ids i x ≡ put ids₀ 0 (idsOf order (i + 1) packet)
 unfolding idsOf
 turn order i x packet ids₀ ids h f e =
     let z : i ≡ 0 + i = sym (zero-add i) in
     (λ k. set (e k) (z k) (f k))
-    ∙ set-behind ids₀ 0 i (fields order 4 32 i packet) (field order (32 + 4 * i) 4 packet) (length-fields order 4 32 i packet) (omega arith)
-    ∙ ap (put ids₀ 0) (sym (fields-behind order 4 32 i packet))
+    ∙ set-behind ids₀ 0 i (fields order 4 leastPacket i packet) (field order (leastPacket + 4 * i) 4 packet) (length-fields order 4 leastPacket i packet) (omega arith)
+    ∙ ap (put ids₀ 0) (sym (fields-behind order 4 leastPacket i packet))
 
 done : (order count i : ℕ) (packet ids₀ ids : List ℕ) → i ≤ count → count ≤ i → ids ≡ put ids₀ 0 (idsOf order i packet) → ids ≡ put ids₀ 0 (idsOf order count packet)
 done order count i packet ids₀ ids h f e =

@@ -1,5 +1,4 @@
 -- `xc_misc::reply::take_list` meets its contract. Assumes nothing.
-use lib.ListN.{length}
 use Rattle.xc_misc.specs.Replies.{list-long, list-whole, lists-short, lists-given}
 use borrow.Author.Needs.{needs}
 use Rattle.xc_misc.proofs.reply.take_list.Statement.{statement}

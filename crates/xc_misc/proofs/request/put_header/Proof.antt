@@ -1,6 +1,6 @@
 -- `xc_misc::request::put_header` meets its contract. Assumes nothing.
 use Rattle.xc_misc.specs.Requests.{put-header, put-header-length}
-use lib.ListN.{length, length-set}
+use lib.ListN.{length-set}
 use native.Mathlib.Omega.{arith}
 use Rattle.xc_misc.specs.Requests.{put-header}
 use borrow.Author.Needs.{needs}
