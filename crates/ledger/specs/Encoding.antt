@@ -1,12 +1,13 @@
 -- When state and rooms are an encoding of a model's state, and when that state's parts are in range: document 01's sentence of soundness, from the model's side. Definitions only. Assumes nothing.
 use mathlib.Core.Bool.{true}
-use mathlib.Core.List.{List, [], _∷_, _++_, map}
+use mathlib.Core.List.{List, [], _∷_, _++_}
 use mathlib.Core.Path.{_≡_}
 use Prim.Native.Nat.{ℕ, _≤_}
 use lib.ListN.{length}
 use Rattle.octets.specs.Bytes.{legal}
 use Rattle.sequence.specs.Numbering.{lastNumber}
-use Rattle.requests.specs.Room.{byteOf, upto, byteAt, mostRequests}
+use Rattle.requests.specs.Room as Requests
+use Rattle.requests.specs.Room.{mostRequests}
 use Rattle.held.specs.Head as Record
 use Rattle.held.specs.Reading as Store
 use Rattle.descriptors.specs.Room.{counted, mostDescriptors}
@@ -69,7 +70,7 @@ pub data Mixed : List Record.Held → List Held → List Held → Type 0 where
   a-reply : {rows : List Record.Held} {replies events : List Held} (h : Held) → Mixed rows replies events → Mixed (replyRow h ∷ rows) (h ∷ replies) events
   an-event : {rows : List Record.Held} {replies events : List Held} (h : Held) → Mixed rows replies events → Mixed (eventRow h ∷ rows) replies (h ∷ events)
 
--- The connection keeps the state's numbers, the rooms have the lengths given at the start, each outstanding request has its byte, the window has the records side by side, and the slots begin with the three rows of descriptors.
+-- The connection keeps the state's numbers, the rooms have the lengths given at the start, the request room encodes the outstanding requests, the window has the records side by side, and the slots begin with the three rows of descriptors.
 pub record Encodes (m : Client) (c : Connection) (r : Rooms) : Type 0 where
   pub order : c .order ≡ m .order
   pub capacity : c .capacity ≡ m .most-requests
@@ -78,10 +79,10 @@ pub record Encodes (m : Client) (c : Connection) (r : Rooms) : Type 0 where
   pub expected : c .expected ≡ m .numbers .expected
   pub read : c .read ≡ m .numbers .read
   pub first-is : c .first ≡ first m
-  pub requests-long : length (r .requests) ≡ m .most-requests
+  pub requests-long : Requests.capacity (r .requests) ≡ m .most-requests
   pub store-long : length (r .store) ≡ m .most-bytes
   pub slots-long : length (r .slots) ≡ mostDescriptors
-  pub requests : upto (byteAt (r .requests)) (first m) (length (m .outstanding)) ≡ map byteOf (m .outstanding)
+  pub requests : Requests.Encodes (r .requests) (first m) (m .outstanding)
   pub rows : List Record.Held
   pub mixed : Mixed rows (m .replies) (m .events)
   pub window-order : c .window .start ≤ c .window .end

@@ -11,10 +11,9 @@ use lib.ListN.{length, take, drop, length-take, length-drop, length-append}
 use lib.Seq.{take-append-le, drop-append-le, take-length, drop-length, length-take-le}
 use Rattle.octets.specs.Logic.{choose}
 use Rattle.sequence.specs.Numbering.{lastNumber}
-use Rattle.requests.specs.Room.{byteOf, requestOf, upto, byteAt, requestAt, outstanding, legals}
-use Rattle.requests.specs.Upto.{upto-map}
-use Rattle.requests.specs.Theorems.{request-byte, sized-is, legals-encoded, legals-bytes}
-use Rattle.requests.specs.declared.Request.{Request}
+use Rattle.requests.specs.Room as Requests
+use Rattle.requests.specs.Room.{outstanding, legals}
+use Rattle.requests.specs.Theorems.{sized-is, legals-exactly, encoded-read as requests-read}
 use Rattle.held.specs.Head as Record
 use Rattle.held.specs.Head.{Fits, mostFds}
 use Rattle.held.specs.Reading as Store
@@ -85,10 +84,6 @@ read-events last (h ∷ es) q =
     (λ k. record { number = h .number; packet = h .packet; descriptors = sym (q .0 .descriptors) k } ∷ map eventOf (map eventRow es))
     ∙ ap (λ (l : List Held). h ∷ l) (read-events last es (q .1))
 
-read-requests : (rs : List Request) → map requestOf (map byteOf rs) ≡ rs
-read-requests [] = refl
-read-requests (r ∷ rs) = (λ k. request-byte r k ∷ map requestOf (map byteOf rs)) ∙ ap (λ (l : List Request). r ∷ l) (read-requests rs)
-
 -- ---- an encoding of what is in range is sound
 
 reply-row-fits : (last : ℕ) → last ≤ lastNumber → (h : Held) → ReplyFits last h → Fits (replyRow h)
@@ -120,8 +115,11 @@ module _ (m : Client) (c : Connection) (r : Rooms) (E : Encodes m c r) (I : InRa
       Parts.read (r .slots) (m .closing) (descriptorsOf (m .replies)) (m .waiting) (E .rest) (c .counts) (E .slots)
       (ap (λ k. k .closed) (sym (E .counts))) (ap (λ k. k .held) (sym (E .counts))) (ap (λ k. k .waiting) (sym (E .counts)))
 
+  -- the outstanding requests are the state's
+  read-again : outstanding (r .requests) (first m) (length (m .outstanding)) ≡ m .outstanding
+  read-again = requests-read (r .requests) (first m) (m .outstanding) (E .requests)
+
   pub encoded-sound : Sound c r
-  unfolding Rattle.requests.specs.Room.capacity
   encoded-sound =
       record {
         order = rw (E .order) (I .order);
@@ -137,17 +135,14 @@ module _ (m : Client) (c : Connection) (r : Rooms) (E : Encodes m c r) (I : InRa
           first-most = omega (arith, E .first-is, E .written);
           count-most = omega (arith, counted, E .capacity, I .run-most);
         };
-        legal-bytes = (λ i. legals (r .requests) (E .first-is i) (counted i)) ∙ legals-encoded (r .requests) (first m) (length (m .outstanding)) .1 (m .outstanding, E .requests);
+        legal-bytes = (λ i. legals (r .requests) (E .first-is i) (counted i)) ∙ legals-exactly (r .requests) (first m) (length (m .outstanding)) .1 (subst (Requests.Encodes (r .requests) (first m)) (sym read-again) (E .requests));
         slots = Fds.sound-is (slotsOf c r) .1 (record { long = E .slots-long; most = rw (E .counts) (omega (arith, I .descriptors-most)) });
         held = Stores.sound-exactly (c .read) (c .window) (r .store) .1 (stored .sound);
         descriptors = ap (λ (l : List Record.Held). Store.fdsIn (Store.only Record.reply l)) (stored .reads) ∙ ap Store.fdsIn (mixed-replies (E .mixed)) ∙ fds-rows (m .replies) ∙ ap (λ k. k .held) (sym (E .counts));
       }
 
   outstanding-read : outstanding (r .requests) (c .first) (count c) ≡ m .outstanding
-  unfolding outstanding requestAt
-  outstanding-read =
-      (λ i. upto (requestAt (r .requests)) (E .first-is i) (counted i))
-      ∙ sym (upto-map requestOf (byteAt (r .requests)) (first m) (length (m .outstanding))) ∙ ap (map requestOf) (E .requests) ∙ read-requests (m .outstanding)
+  outstanding-read = (λ i. outstanding (r .requests) (E .first-is i) (counted i)) ∙ read-again
 
   replies-read : withDescriptors (Store.replies (c .window) (r .store)) (Slots.holding (slotsOf c r)) ≡ m .replies
   replies-read =
@@ -280,7 +275,7 @@ module _ (c : Connection) (r : Rooms) (S : Sound c r) where
       }
 
   pub sound-encodes : Encodes (reads c r) c r
-  unfolding reads Rattle.requests.specs.Room.capacity
+  unfolding reads
   sound-encodes =
       let z = sized-is (c .capacity) (r .requests) .0 (S .requests) in
       let fit : Slots.total (c .counts) ≤ length (r .slots) = omega (arith, slots-sound .long, slots-sound .most) in
@@ -296,7 +291,7 @@ module _ (c : Connection) (r : Rooms) (S : Sound c r) where
         requests-long = z .holds;
         store-long = S .store;
         slots-long = slots-sound .long;
-        requests = (λ i. upto (byteAt (r .requests)) (first-read c r S i) (length-out c r S i)) ∙ legals-bytes (r .requests) (c .first) (count c) (S .legal-bytes);
+        requests = subst (λ (n : ℕ). Requests.Encodes (r .requests) n (outstanding (r .requests) (c .first) (count c))) (sym (first-read c r S)) (legals-exactly (r .requests) (c .first) (count c) .0 (S .legal-bytes));
         rows = kept;
         mixed = mixing kept (Slots.holding (slotsOf c r)) (stands .readable .fit) (omega (arith, S .descriptors, Fds.length-holding (slotsOf c r) slots-sound));
         window-order = stands .readable .order;

@@ -14,10 +14,13 @@ use Rattle.octets.specs.Field.{field}
 use Rattle.refusal.specs.Answer.{refuse, pass}
 use Rattle.sequence.specs.Numbering.{lastNumber, full, inRange}
 use Rattle.sequence.specs.Sending.{sending, mustSync}
+use Rattle.requests.specs.Room.{mostRequests}
 use Rattle.requests.specs.declared.Mode.the-variants as Mode
+use Rattle.held.specs.Head.{leastPacket, mostPacket, mostStore}
+use Rattle.descriptors.specs.Room.{mostDescriptors}
 use Rattle.model.specs.Client.{Held, Client, used, costs, descriptorsOf, inside}
 use Rattle.model.specs.Model as Model
-use Rattle.model.specs.Model.{mostRequests, leastBytes, mostBytes, mostDescriptors, joining}
+use Rattle.model.specs.Model.{leastStore, joining}
 use Rattle.model.specs.Calls.{Call, send, enqueue, poll, check, prepare, poll-event, take-closed, Said, number, filed, nothing, took, again, absent, answer, closed, refused, step, run}
 use Rattle.model.specs.declared.ReplyFdKind.the-variants.{NoReply}
 use Rattle.model.specs.declared.Place.the-variants.{Replies, Events, Dropped}
@@ -28,7 +31,7 @@ use Rattle.ledger.specs.State.{Needed, withOrder, withK, withS, withWrit
 -- ---- the ranges as a test
 
 unfoldable holds : ℕ → ℕ → Held → Bool
-holds last most h = both (leb 32 (length (h .packet))) (both (leb (length (h .packet)) 65536) (both (leb (h .number) last) (leb (length (h .descriptors)) most)))
+holds last most h = both (leb leastPacket (length (h .packet))) (both (leb (length (h .packet)) mostPacket) (both (leb (h .number) last) (leb (length (h .descriptors)) most)))
 
 unfoldable each : ℕ → ℕ → List Held → Bool
 each last most [] = true
@@ -40,7 +43,7 @@ falls from (h ∷ l) = both (leb from (h .number)) (falls (h .number) l)
 
 unfoldable ranged : Client → Bool
 ranged m =
-    both (legal (m .order)) (both (both (both (leb 1 (m .most-requests)) (leb (m .most-requests) mostRequests)) (both (leb leastBytes (m .most-bytes)) (leb (m .most-bytes) mostBytes)))
+    both (legal (m .order)) (both (both (both (leb 1 (m .most-requests)) (leb (m .most-requests) mostRequests)) (both (leb leastStore (m .most-bytes)) (leb (m .most-bytes) mostStore)))
     (both (both (leb (m .numbers .written) lastNumber) (both (leb (m .numbers .expected) lastNumber) (leb (m .numbers .read) lastNumber)))
     (both (both (leb (length (m .outstanding)) (m .numbers .written)) (leb (length (m .outstanding)) (m .most-requests)))
     (both (both (each (m .numbers .read) 255 (m .replies)) (both (each (m .numbers .read) 0 (m .events)) (falls 0 (m .replies)))) (both (leb (used m) (m .most-bytes)) (leb (inside m) mostDescriptors))))))
@@ -132,7 +135,7 @@ took-apart h k d e = let z : h ≡ k = cc in d (ap (λ (x : Held). x .descriptor
 -- In the order of the table. K and S by what has room; the numbers by what is said; requests by where a packet is filed; the rest by what is handed out.
 pub each-needed :
     Needed withOrder × Needed withK × Needed withS × Needed withWritten × Needed withExpected × Needed withRead × Needed withOutstanding × Needed withDescribed × Needed withMode × Needed withReplies × Needed withEvents × Needed withWaiting × Needed withClosing
-unfolding ranged each holds falls legal run step Model.sendRequest Model.enqueuePacket Model.takeClosed Model.pollForReplyOrError Model.pollCheck Model.prepareCheck Model.pollForEvent Model.find pass refuse sending mustSync both either choose Model.numberOf inRange full field numberIn cut turned bytesOf lowBytes lowNumber Model.numbered Model.askedOf Model.headOf Model.placeOf Model.claimed Model.takeIn costs descriptorsOf
+unfolding ranged each holds falls legal run step Model.sendRequest Model.enqueuePacket Model.takeClosed Model.pollForReplyOrError Model.pollCheck Model.prepareCheck Model.pollForEvent Model.find pass refuse sending mustSync both either choose Model.packetNumber inRange full field numberIn cut turned bytesOf lowBytes lowNumber Model.numbered Model.askedOf Model.headOf Model.placeOf Model.claimed Model.takeIn costs descriptorsOf
 each-needed = (
   needed withOrder 108 66 (enqueue event ∷ []) (filed Events 1 ∷ []) (filed Events 256 ∷ []) refl refl refl refl (λ e. let z : _≡_ {A = ℕ} 1 256 = cc in omega arith),
   needed withK 1 2 (send NoReply ∷ []) (refused 5 ∷ []) (number 2 ∷ []) refl refl refl refl (λ e. let z : _≡_ {A = ℕ} 0 1 = cc in omega arith),

@@ -6,9 +6,11 @@ use Prim.Native.Nat.{ℕ, _<_}
 use lib.Dec.{eqb}
 use lib.ListN.{length, getD}
 use Rattle.refusal.specs.Answer.{Answer, gives, refuses, refuse, pass}
+use Rattle.requests.specs.Room.{capacity}
+use Rattle.descriptors.specs.Room.{mostDescriptors}
 use Rattle.model.specs.Client.{Client}
-use Rattle.model.specs.Model.{mostDescriptors, fresh, new, Filing, Taken, sendRequest, enqueueFds, takeClosed, enqueuePacket, discardReply, pollForReplyOrError, pollCheck, pollForReply, prepareCheck, pollForEvent}
-use Rattle.model.specs.Promise.{Done, answerOf, roomsOf, outputOf, modelOf, guarded, guarded-on, Promise, gives-same}
+use Rattle.model.specs.Model.{fresh, new, Filing, Taken, sendRequest, enqueueFds, takeClosed, enqueuePacket, discardReply, pollForReplyOrError, pollCheck, pollForReply, prepareCheck, pollForEvent}
+use Rattle.model.specs.Promise.{Done, answerOf, roomsOf, outputOf, modelOf, guarded, guarded-on, Promise}
 use Rattle.model.specs.Reading.{Rooms, reads}
 use Rattle.model.specs.Says.{Shown, shownTaken, ShownEvent, shownEvent, ShownPoll, shownPoll, bytesOfTaken, descriptorsOfTaken, bytesOfPoll}
 use Rattle.model.specs.Sound.{Sound, is-sound}
@@ -108,7 +110,7 @@ module _ (c : Connection) (r : Rooms) (d : Connection) (q : Rooms) (k : Alike c 
   pub discard-reply-same : (n : ℕ) (mode : DiscardMode) (a b : Answer (Unit × Connection)) (r' q' : Rooms) → Discards c r n mode a r' → Discards d q n mode b q' → Same c a r' d b q'
   discard-reply-same n mode a b r' q' h i =
       promise-same same (λ m. discardReply m n mode) (λ c r. gives (discardExact c r n mode))
-      (λ c r S x e. subst (λ (y : Done Unit). Sound (y .state) (y .left)) (gives-same (sym e)) (discard-leaves c r S n mode)) c r d q k a b r' q' h i
+      (λ c r S x e. let z : discardExact c r n mode ≡ x = cc in subst (λ (y : Done Unit). Sound (y .state) (y .left)) z (discard-leaves c r S n mode)) c r d q k a b r' q' h i
 
   pub poll-for-reply-or-error-same : (n : ℕ) (out fds : List ℕ) (a b : Answer (Shown × Connection)) (r' q' : Rooms) (x y v w : List ℕ) → Polls c r n out fds a r' x v → Polls d q n out fds b q' y w → Same c a r' d b q' × (x ≡ y) × (v ≡ w)
   poll-for-reply-or-error-same n out fds a b r' q' x y v w h i =
@@ -196,9 +198,9 @@ unfolding answerOf modelOf told shownBy
 new-told (gives d) m = refl
 new-told (refuses n) m = refl
 
-module _ (o : ℕ) (r q : Rooms) (k : length (r .requests) ≡ length (q .requests)) (s : length (r .store) ≡ length (q .store)) where
+module _ (o : ℕ) (r q : Rooms) (k : capacity (r .requests) ≡ capacity (q .requests)) (s : length (r .store) ≡ length (q .store)) where
   opened-same : length (r .slots) ≡ length (q .slots) → opened o r ≡ opened o q
-  unfolding opened
+  unfolding opened capacity
   opened-same f = λ j. refuse (not (eqb (f j) mostDescriptors)) 9 (pass (new o (k j) (s j)) (λ c. gives (tt, c)))
 
   -- it tells the same, whatever stands in rooms of these lengths
@@ -209,6 +211,7 @@ module _ (o : ℕ) (r q : Rooms) (k : length (r .requests) ≡ length (q .reques
 
   -- and leaves states that are alike
   pub new-alike : (c d : Connection) → Opens o r (gives (tt, c)) → Opens o q (gives (tt, d)) → Alike c r d q
+  unfolding capacity
   new-alike c d h i =
       record {
         sound = opens-sound o r c h;

@@ -6,6 +6,7 @@ use mathlib.Core.Path.{_≡_, sym}
 use Prim.Native.Nat.{ℕ, _+_, _-_, _≤_, _<_}
 use lib.ListN.{length, getD, drop}
 use Rattle.refusal.specs.Answer.{Answer, gives, refuses}
+use Rattle.requests.specs.Room.{capacity}
 use Rattle.sequence.specs.Sending.{syncSpan}
 use Rattle.descriptors.specs.Room.{count, mostDescriptors}
 use Rattle.descriptors.specs.Room as Slots
@@ -360,11 +361,11 @@ module _ {A B : Type 0} (f : A → B) (e : Answer (Done A)) (m : Client → Answ
   output-alone g out a r' out' h = StateLaws.written-alone f e m c r S g out out' (h .promise .model) (h .output)
 
 -- Two fresh states of one byte order, in rooms of the same lengths: `new` tells the same, whatever stands in the rooms,
-pub new-same : (o : ℕ) (r q : Rooms) → length (r .requests) ≡ length (q .requests) → length (r .store) ≡ length (q .store) → length (r .slots) ≡ length (q .slots) → (a b : Answer (Unit × Connection)) → Opens o r a → Opens o q b → told a ≡ told b
+pub new-same : (o : ℕ) (r q : Rooms) → capacity (r .requests) ≡ capacity (q .requests) → length (r .store) ≡ length (q .store) → length (r .slots) ≡ length (q .slots) → (a b : Answer (Unit × Connection)) → Opens o r a → Opens o q b → told a ≡ told b
 new-same o r q k s f a b h i = StateLaws.new-same o r q k s f a b h i
 
 -- and the states that it hands back are alike.
-pub new-alike : (o : ℕ) (r q : Rooms) → length (r .requests) ≡ length (q .requests) → length (r .store) ≡ length (q .store) → (c d : Connection) → Opens o r (gives (tt, c)) → Opens o q (gives (tt, d)) → Alike c r d q
+pub new-alike : (o : ℕ) (r q : Rooms) → capacity (r .requests) ≡ capacity (q .requests) → length (r .store) ≡ length (q .store) → (c d : Connection) → Opens o r (gives (tt, c)) → Opens o q (gives (tt, d)) → Alike c r d q
 new-alike o r q k s c d h i = StateLaws.new-alike o r q k s c d h i
 
 -- THE SAME STATE: two states that are read as the same, however they lie in their rooms, answer alike.
@@ -426,7 +427,7 @@ pub rows-same : (xs : List Ask) (c : Connection) (r : Rooms) (d : Connection) (q
 rows-same xs c r d q k hs gs c' r' d' q' l m = StateLaws.rows-same k l m
 
 -- So with two whole sessions, each from its `new` on.
-pub sessions-same : (o : ℕ) (r q : Rooms) → length (r .requests) ≡ length (q .requests) → length (r .store) ≡ length (q .store) → (c d : Connection) → Opens o r (gives (tt, c)) → Opens o q (gives (tt, d))
+pub sessions-same : (o : ℕ) (r q : Rooms) → capacity (r .requests) ≡ capacity (q .requests) → length (r .store) ≡ length (q .store) → (c d : Connection) → Opens o r (gives (tt, c)) → Opens o q (gives (tt, d))
     → (xs : List Ask) (hs gs : AllHeard xs) (c' : Connection) (r' : Rooms) (d' : Connection) (q' : Rooms) → Row xs c r hs c' r' → Row xs d q gs d' q' → hs ≡ gs
 sessions-same o r q k s c d h i xs hs gs c' r' d' q' l m = StateLaws.rows-same (StateLaws.new-alike o r q k s c d h i) l m .0
 

@@ -10,9 +10,9 @@ use mathlib.Core.List.{List, [], _∷_, _++_, map}
 use lib.ListN.{length, getD}
 use Rattle.octets.specs.Logic.{both, both-left, both-right, both-yes}
 use Rattle.octets.specs.Put.{cut, length-cut, getD-cut}
-use Rattle.requests.specs.Room.{byteOf, legal, upto, byteAt, requestAt, legalRun, legals, outstanding, putRequest}
-use Rattle.requests.specs.Slots.{byte-request, legal-byte, mod-on, byte-same, byte-other}
-use Rattle.requests.specs.Upto.{upto-add, upto-behind, upto-same, upto-is, upto-map}
+use Rattle.requests.specs.Room.{byteOf, requestOf, legal, upto, byteAt, requestAt, legalRun, legals, outstanding, Encodes, putRequest}
+use Rattle.requests.specs.Slots.{request-byte, byte-request, legal-byte, mod-on, byte-same, byte-other}
+use Rattle.requests.specs.Upto.{length-upto, upto-add, upto-behind, upto-same, upto-is, upto-map}
 use Rattle.requests.specs.declared.Request.{Request}
 
 -- ---- runs
@@ -124,3 +124,21 @@ pub legals-encoded : (room : List ℕ) (first count : ℕ) → legals room first
 unfolding legals
 legals-encoded room first count =
     (λ h. (outstanding room first count, legals-bytes room first count h), λ e. ap legalRun (e .1) ∙ legal-map (e .0))
+
+-- requests that are encoded are read back
+read-back : (rs : List Request) → map requestOf (map byteOf rs) ≡ rs
+read-back [] = refl
+read-back (r ∷ rs) = (λ k. request-byte r k ∷ map requestOf (map byteOf rs)) ∙ ap (λ (l : List Request). r ∷ l) (read-back rs)
+
+pub encoded-read : (room : List ℕ) (first : ℕ) (rs : List Request) → Encodes room first rs → outstanding room first (length rs) ≡ rs
+unfolding Encodes outstanding requestAt
+encoded-read room first rs e = sym (upto-map requestOf (byteAt room) first (length rs)) ∙ ap (map requestOf) e ∙ read-back rs
+
+pub legals-exactly : (room : List ℕ) (first count : ℕ) → legals room first count ≡ true ↔ Encodes room first (outstanding room first count)
+unfolding Encodes outstanding
+legals-exactly room first count =
+    let n : length (upto (requestAt room) first count) ≡ count = length-upto (requestAt room) first count in
+    (
+      λ h. ap (upto (byteAt room) first) n ∙ legals-bytes room first count h,
+      λ e. legals-encoded room first count .1 (outstanding room first count, ap (upto (byteAt room) first) (sym n) ∙ e),
+    )

@@ -1,7 +1,7 @@
 -- 01, Rooms: the request room, byte by byte and as the outstanding requests. Assumes nothing.
 use mathlib.Core.Path.{_≡_}
 use mathlib.Core.Bool.{Bool, true}
-use mathlib.Core.List.{List, [], _∷_}
+use mathlib.Core.List.{List, [], _∷_, map}
 use Prim.Native.Nat.{ℕ, zero, suc, _+_, _*_, _/_, _%_, _≤_}
 use lib.Dec.{leb, eqb}
 use lib.ListN.{length, getD, set}
@@ -69,6 +69,10 @@ requestAt room n = requestOf (byteAt room n)
 -- THE READING: the count outstanding requests, the oldest of number first.
 unfoldable pub outstanding : List ℕ → ℕ → ℕ → List Request
 outstanding room first count = upto (requestAt room) first count
+
+-- ENCODED: the room has these requests under the numbers from first on, each as its byte.
+unfoldable pub Encodes : List ℕ → ℕ → List Request → Type 0
+Encodes room first rs = upto (byteAt room) first (length rs) ≡ map byteOf rs
 
 -- "each request byte is legal"
 unfoldable pub legalRun : List ℕ → Bool

@@ -10,7 +10,7 @@ use lib.ListN.{length, drop, getD, set, length-set}
 use lib.Dec.{leb, eqb}
 use borrow.Author.Tests.{leb-true, le-leb, eqb-true, eq-eqb}
 use Rattle.octets.specs.Logic.{both, both-left, both-right, both-yes}
-use Rattle.requests.specs.Room.{mostRequests, Sized, sized, capacity, byteOf, legal, requestOf, upto, byteAt, requestAt, outstanding, legalRun, legals, putRequest, underMode, putMode}
+use Rattle.requests.specs.Room.{mostRequests, Sized, sized, capacity, byteOf, legal, requestOf, upto, byteAt, requestAt, outstanding, Encodes, legalRun, legals, putRequest, underMode, putMode}
 use Rattle.requests.specs.Upto.{length-upto, getD-upto, upto-drop}
 use Rattle.requests.specs.Slots as Slots
 use Rattle.requests.specs.Legal as Legal
@@ -131,6 +131,14 @@ legals-encoded room first count = Legal.legals-encoded room first count
 -- and then they are those of the outstanding ones.
 pub legals-bytes : (room : List ℕ) (first count : ℕ) → legals room first count ≡ true → upto (byteAt room) first count ≡ map byteOf (outstanding room first count)
 legals-bytes room first count h = Legal.legals-bytes room first count h
+
+-- In no layout's terms: it holds exactly where the room encodes the outstanding requests,
+pub legals-exactly : (room : List ℕ) (first count : ℕ) → legals room first count ≡ true ↔ Encodes room first (outstanding room first count)
+legals-exactly room first count = Legal.legals-exactly room first count
+
+-- and requests that it encodes are the ones read from it.
+pub encoded-read : (room : List ℕ) (first : ℕ) (rs : List Request) → Encodes room first rs → outstanding room first (length rs) ≡ rs
+encoded-read room first rs e = Legal.encoded-read room first rs e
 
 module _ (room : List ℕ) (first count : ℕ) (h : legals room first count ≡ true) where
   -- Bytes stay legal as a request is sent,
