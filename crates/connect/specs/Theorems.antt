@@ -166,7 +166,7 @@ unfolding Request.room legal refuse either
 request-order = (refl, refl, refl, refl)
 
 -- "advance 9, 7, 2"; "setup reading 9, 15, 14"; "elsewhere 9, then by number"
-pub handshake-order : (made 0 7 ≡ refuses 9) × (made 0 8 ≡ refuses 13) × (advanced (handshake 0) (reply 7 1) 9 ≡ refuses 9) × (advanced (handshake 108) (reply 7 1) 9 ≡ refuses 7)
+pub handshake-order : (made 0 7 ≡ refuses 9) × (made 0 8 ≡ refuses 13) × (made 0 262148 ≡ refuses 13) × (made 0 262149 ≡ refuses 9) × (advanced (handshake 0) (reply 7 1) 9 ≡ refuses 9) × (advanced (handshake 108) (reply 7 1) 9 ≡ refuses 7)
     × (advanced (handshake 108) (reply 7 1) 8 ≡ refuses 2) × (setup (handshake 0) (reply 7 0) ≡ refuses 9) × (setup (handshake 108) (reply 7 0) ≡ refuses 15)
 unfolding made room soundb advanced reached aim replyLength setup legal field numberIn lowNumber turned cut choose refuse both either
-handshake-order = (refl, refl, refl, refl, refl, refl, refl)
+handshake-order = (refl, refl, refl, refl, refl, refl, refl, refl, refl)

@@ -55,15 +55,21 @@ pub long-packet : (order : ℕ) (p : List ℕ) (first : ℕ) → 65536 < length 
 unfolding checked refuse
 long-packet order p first h = let l : 32 ≤ length p = omega arith in simp (le-ltb (length p) 32 l, lt-ltb 65536 (length p) h)
 
+-- one of 65,536 bytes is not
+pub full-packet : (p : List ℕ) (first : ℕ) → length p ≡ 65536 → Gets (checked 0 p first) 13
+unfolding checked legal refuse either
+full-packet p first h =
+    let l : 32 ≤ length p = omega arith in let m : length p ≤ 65536 = omega arith in simp (le-ltb (length p) 32 l, le-ltb 65536 (length p) m)
+
 -- requests: 13, then 8
 pub requests : Gets (room 0 7 8) 13 × Gets (room 108 7 8) 8
 unfolding room legal refuse either
 requests = (refl, refl)
 
 -- "advance 9, 7, 2"; "elsewhere 9, then by number"
-pub readers : Gets (Reader.made 0 31) 9 × Gets (Reader.made 0 32) 13 × Gets (Reader.advanced (reader 0) (packet 1 1 0) 33) 9 × Gets (Reader.advanced (reader 108) (packet 1 1 0) 33) 7 × Gets (Reader.advanced (reader 108) (packet 1 1 0) 32) 2
+pub readers : Gets (Reader.made 0 31) 9 × Gets (Reader.made 0 32) 13 × Gets (Reader.made 0 65536) 13 × Gets (Reader.made 0 65537) 9 × Gets (Reader.advanced (reader 0) (packet 1 1 0) 33) 9 × Gets (Reader.advanced (reader 108) (packet 1 1 0) 33) 7 × Gets (Reader.advanced (reader 108) (packet 1 1 0) 32) 2
 unfolding Reader.made Reader.room Reader.soundb Reader.advanced Reader.reached aim totalOf total hasLength legal field numberIn lowNumber turned cut choose refuse both either
-readers = (refl, refl, refl, refl, refl)
+readers = (refl, refl, refl, refl, refl, refl, refl)
 
 -- Core, Connection Setup: `l` (108) is least significant byte first, `B` (66) most significant byte first
 pub byte-orders : (field 108 0 2 (1 ∷ 2 ∷ []) ≡ 513) × (field 66 0 2 (1 ∷ 2 ∷ []) ≡ 258) × (bytesOf 108 4 1 ≡ 1 ∷ 0 ∷ 0 ∷ 0 ∷ []) × (bytesOf 66 4 1 ≡ 0 ∷ 0 ∷ 0 ∷ 1 ∷ [])
