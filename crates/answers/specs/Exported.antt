@@ -61,14 +61,14 @@ kept-by a p c w t = record { exported = record { answer = a; promise = p; number
 pub exported-by : {A : Type 0} {P : Answer A → Type 0} {show : A → List ℕ} {v v' : List ℕ} {code : ℕ} (a : Answer A) → P a → code ≡ codeOf a → v' ≡ shownOf show a v → Exported P show v v' code
 exported-by a p c w = record { answer = a; promise = p; number = c; values = w }
 
--- Where the promise allows one answer, any two outcomes of an export are equal: the number returned, the numbers shown,
-pub exported-one : {A : Type 0} {P : Answer A → Type 0} {show : A → List ℕ} {v u w : List ℕ} {i j : ℕ} → ((a b : Answer A) → P a → P b → a ≡ b) → Exported P show v u i → Exported P show v w j → (i ≡ j) × (u ≡ w)
+-- Two outcomes of an export, whose promises P and Q name their rooms: where these allow one answer, equal are the number returned, the numbers shown,
+pub exported-one : {A : Type 0} {P Q : Answer A → Type 0} {show : A → List ℕ} {v u w : List ℕ} {i j : ℕ} → ((a b : Answer A) → P a → Q b → a ≡ b) → Exported P show v u i → Exported Q show v w j → (i ≡ j) × (u ≡ w)
 exported-one {A} {show = show} {v = v} one x y =
     let e : x .answer ≡ y .answer = one (x .answer) (y .answer) (x .promise) (y .promise) in
     (x .number ∙ ap (λ (a : Answer A). codeOf a) e ∙ sym (y .number), x .values ∙ ap (λ (a : Answer A). shownOf show a v) e ∙ sym (y .values))
 
 -- and the row.
-pub kept-one : {A : Type 0} {P : Answer A → Type 0} {show put : A → List ℕ} {v u w s t z : List ℕ} {i j : ℕ} → ((a b : Answer A) → P a → P b → a ≡ b) → Kept P show put v u s t i → Kept P show put v w s z j
+pub kept-one : {A : Type 0} {P Q : Answer A → Type 0} {show put : A → List ℕ} {v u w s t z : List ℕ} {i j : ℕ} → ((a b : Answer A) → P a → Q b → a ≡ b) → Kept P show put v u s t i → Kept Q show put v w s z j
     → (i ≡ j) × (u ≡ w) × (t ≡ z)
 kept-one {A} {put = put} {s = s} one x y =
     let e : x .exported .answer ≡ y .exported .answer = one (x .exported .answer) (y .exported .answer) (x .exported .promise) (y .exported .promise) in
@@ -76,8 +76,13 @@ kept-one {A} {put = put} {s = s} one x y =
     (k .0, k .1, x .state ∙ ap (λ (a : Answer A). shownOf put a s) e ∙ sym (y .state))
 
 -- A promise behind a test allows one answer where the promise itself does.
-pub when-one : {A : Type 0} {b : Bool} {same : Type 0} {P : Answer A → Type 0} → ((x y : Answer A) → P x → P y → x ≡ y) → (x y : Answer A) → When b same P x → When b same P y → x ≡ y
+pub when-one : {A : Type 0} {b : Bool} {same alike : Type 0} {P Q : Answer A → Type 0} → ((x y : Answer A) → P x → Q y → x ≡ y) → (x y : Answer A) → When b same P x → When b alike Q y → x ≡ y
 when-one one x y (on h p) (on k q) = one x y p q
 when-one one x y (on h p) (off k s) = apart h k
 when-one one x y (off h s) (on k q) = apart k h
 when-one one x y (off h s) (off k t) = refl
+
+-- Where the test fails, the refusal is by 9 and all is as found.
+pub when-off : {A : Type 0} {b : Bool} {same : Type 0} {P : Answer A → Type 0} {x : Answer A} → b ≡ false → When b same P x → (x ≡ refuses 9) × same
+when-off e (on h p) = apart h e
+when-off e (off h s) = (refl, s)

@@ -1,11 +1,12 @@
 -- What is shown of the values that a call gives: the numbers behind the pointers of its export, in their order. Assumes nothing.
-use mathlib.Core.Path.{_≡_, ap, _∙_}
-use mathlib.Core.Bool.{Bool, cond, not}
+use mathlib.Core.Path.{_≡_, refl, sym, ap, _∙_}
+use mathlib.Core.Bool.{Bool, true, false, cond, not}
 use mathlib.Core.List.{List, [], _∷_}
-use Prim.Native.Nat.{ℕ, _≤_, _<_}
+use Prim.Native.Nat.{ℕ, zero, suc, _≤_, _<_}
+use native.Mathlib.Omega.{arith}
 use lib.Dec.{eqb, ltb}
-use borrow.Author.Tests.{eq-eqb, ne-eqb, lt-ltb, le-ltb}
-use lib.ListN.{length, set}
+use borrow.Author.Tests.{eq-eqb, eqb-true, ne-eqb, lt-ltb, le-ltb}
+use lib.ListN.{length, getD, set}
 use Rattle.octets.specs.Logic.{choose, either}
 use Rattle.refusal.specs.Answer.{Answer, gives, refuses, refuse, pass}
 use Rattle.x11_utils.specs.declared.X11Error.{X11Error}
@@ -16,13 +17,17 @@ use Rattle.packet_reader.specs.Reader as Reader
 use Rattle.packet_reader.specs.declared.PacketReader.{PacketReader}
 use Rattle.connect.specs.Handshake as Handshake
 use Rattle.connect.specs.Setup as Setup
-use Rattle.connect.specs.Setup.{Reading, vendorPlace, reasonPlace}
+use Rattle.connect.specs.Setup.{Reading, readFailed, readSuccess, readReply, vendorPlace, reasonPlace}
 use Rattle.connect.specs.declared.handshake.Connect.{Connect}
 use Rattle.connect.specs.declared.reply.Setup.{Setup}
 use Rattle.connect.specs.declared.reply.SetupFailed.{SetupFailed}
+use Rattle.connect.specs.declared.reply.SetupAuthenticate.{SetupAuthenticate}
+use Rattle.requests.specs.Room.{modeNumber}
+use Rattle.model.specs.Model as Model
 use Rattle.model.specs.Model.{Filing}
 use Rattle.model.specs.Says.{Shown, none, packet, ShownPoll, again, noReply, reply, ShownEvent, noEvent, event as anEvent}
 use Rattle.model.specs.Batch.{Stop, ended, refused, meaningless}
+use Rattle.model.specs.SendRequests as SendRequests
 use Rattle.model.specs.SendRequests.{ShownSendings}
 use Rattle.model.specs.PollForEvents.{ShownHandings}
 use Rattle.model.specs.Feed.{ShownFed}
@@ -231,3 +236,120 @@ setup-roomy n a x e h = let q : gives x ≡ setupRoomed n (gives x) = simp (le-l
 pub setup-refused : (n : ℕ) (a : Answer Reading) (k : ℕ) → refuses k ≡ a → refuses k ≡ setupRoomed n a
 unfolding setupRoomed pass
 setup-refused n a k e = ap (setupRoomed n) e
+
+-- The status is the first byte of the reply.
+picked : (a b c f s : Bool) (n : ℕ) (x : SetupFailed) (y : Setup) (z : SetupAuthenticate) (r : Reading) → eqb n 0 ≡ a → eqb n 1 ≡ b → eqb n 2 ≡ c
+    → gives r ≡ choose a (refuse f 14 (gives (Setup.failed x))) (choose b (refuse s 14 (gives (Setup.success y))) (choose c (gives (Setup.authenticate z)) (refuses 14))) → statusOf r ≡ n ∷ []
+unfolding choose refuse
+picked true b c true s n x y z r p q u e = absurd (let w : _≡_ {A = ℕ} 0 1 = cc in omega arith)
+picked true b c false s n x y z r p q u e = let w : r ≡ Setup.failed x = cc in ap statusOf w ∙ ap number (sym (eqb-true n 0 p))
+picked false true c f true n x y z r p q u e = absurd (let w : _≡_ {A = ℕ} 0 1 = cc in omega arith)
+picked false true c f false n x y z r p q u e = let w : r ≡ Setup.success y = cc in ap statusOf w ∙ ap number (sym (eqb-true n 1 q))
+picked false false true f s n x y z r p q u e = let w : r ≡ Setup.authenticate z = cc in ap statusOf w ∙ ap number (sym (eqb-true n 2 u))
+picked false false false f s n x y z r p q u e = absurd (let w : _≡_ {A = ℕ} 0 1 = cc in omega arith)
+
+pub status-first : (o : ℕ) (p : List ℕ) (r : Reading) → gives r ≡ readReply o p → statusOf r ≡ getD p 0 0 ∷ []
+unfolding readReply readFailed readSuccess
+status-first o p r e = picked _ _ _ _ _ (getD p 0 0) _ _ _ r refl refl refl e
+
+-- The number of a mode is the one that is kept of a request under that mode.
+pub mode-kept : (n : ℕ) → isMode n ≡ true → modeNumber (Model.modeOf (modeOf n)) ≡ n
+unfolding isMode modeOf choose either
+mode-kept n h = go (eqb n 1) refl h
+  where
+    go : (b : Bool) → eqb n 1 ≡ b → either b (eqb n 2) ≡ true → modeNumber (Model.modeOf (choose b DiscardMode.DiscardReply DiscardMode.DiscardReplyAndError)) ≡ n
+    go true e k = sym (eqb-true n 1 e)
+    go false e k = sym (eqb-true n 2 k)
+
+-- A kind means the same to a call that makes many steps.
+pub kind-same : (n : ℕ) → kindOf n ≡ SendRequests.kindOf n
+unfolding kindOf choose
+kind-same zero = refl
+kind-same (suc zero) = refl
+kind-same (suc (suc n)) = simp (ne-eqb (suc (suc n)) 0 (λ e. omega (arith, e)), ne-eqb (suc (suc n)) 1 (λ e. omega (arith, e)))
+
+-- ---- What is shown tells what was given: two that show the same are the same.
+
+placeOf : ℕ → Place
+placeOf n = choose (eqb n 0) Place.Replies (choose (eqb n 1) Place.Events Place.Dropped)
+
+place-back : (x : Place) → placeOf (placeNumber x) ≡ x
+unfolding placeOf choose
+place-back Place.Replies = refl
+place-back Place.Events = refl
+place-back Place.Dropped = refl
+
+pub place-told : (x y : Place) → placeNumber x ≡ placeNumber y → x ≡ y
+place-told x y e = sym (place-back x) ∙ ap placeOf e ∙ place-back y
+
+backPolled : List ℕ → Shown
+backPolled l = choose (eqb (getD l 0 0) 0) none (packet (record { bytes = getD l 1 0; places = getD l 2 0 }))
+
+polled-back : (x : Shown) → backPolled (polledOf x) ≡ x
+unfolding backPolled choose
+polled-back none = refl
+polled-back (packet z) = refl
+
+pub polled-told : (x y : Shown) → polledOf x ≡ polledOf y → x ≡ y
+polled-told x y e = sym (polled-back x) ∙ ap backPolled e ∙ polled-back y
+
+backPoll : List ℕ → ShownPoll
+backPoll l = choose (eqb (getD l 0 0) 0) again (choose (eqb (getD l 0 0) 1) noReply (reply (getD l 1 0)))
+
+poll-back : (x : ShownPoll) → backPoll (pollOf x) ≡ x
+unfolding backPoll choose
+poll-back again = refl
+poll-back noReply = refl
+poll-back (reply n) = refl
+
+pub poll-told : (x y : ShownPoll) → pollOf x ≡ pollOf y → x ≡ y
+poll-told x y e = sym (poll-back x) ∙ ap backPoll e ∙ poll-back y
+
+backEvent : List ℕ → ShownEvent
+backEvent l = choose (eqb (getD l 0 0) 0) noEvent (anEvent (getD l 1 0) (getD l 2 0))
+
+event-back : (x : ShownEvent) → backEvent (eventOf x) ≡ x
+unfolding backEvent choose
+event-back noEvent = refl
+event-back (anEvent n k) = refl
+
+pub event-told : (x y : ShownEvent) → eventOf x ≡ eventOf y → x ≡ y
+event-told x y e = sym (event-back x) ∙ ap backEvent e ∙ event-back y
+
+-- What stopped a call too: a refusal's number is 1 to 16.
+abbrev pub Listed : ℕ → Type 0
+Listed n = (1 ≤ n) × (n ≤ 16)
+
+abbrev pub ListedStop : Stop → Type 0
+ListedStop ended = Unit {0}
+ListedStop (refused n) = Listed n
+ListedStop meaningless = Unit {0}
+
+backStop : ℕ → Stop
+backStop n = choose (eqb n 0) ended (choose (eqb n 255) meaningless (refused n))
+
+stop-back : (x : Stop) → ListedStop x → backStop (stopNumber x) ≡ x
+unfolding backStop choose
+stop-back ended h = refl
+stop-back (refused n) h = simp (ne-eqb n 0 (λ e. omega (arith, e, h .0)), ne-eqb n 255 (λ e. omega (arith, e, h .1)))
+stop-back meaningless h = refl
+
+pub stop-told : (x y : Stop) → ListedStop x → ListedStop y → stopNumber x ≡ stopNumber y → x ≡ y
+stop-told x y h k e = sym (stop-back x h) ∙ ap backStop e ∙ stop-back y k
+
+abbrev pub ListedHalt : Feed.Stopped → Type 0
+ListedHalt Feed.ended = Unit {0}
+ListedHalt (Feed.refused n) = Listed n
+ListedHalt Feed.partial = Unit {0}
+
+backHalt : ℕ → Feed.Stopped
+backHalt n = choose (eqb n 0) Feed.ended (choose (eqb n 254) Feed.partial (Feed.refused n))
+
+halt-back : (x : Feed.Stopped) → ListedHalt x → backHalt (haltNumber x) ≡ x
+unfolding backHalt choose
+halt-back Feed.ended h = refl
+halt-back (Feed.refused n) h = simp (ne-eqb n 0 (λ e. omega (arith, e, h .0)), ne-eqb n 254 (λ e. omega (arith, e, h .1)))
+halt-back Feed.partial h = refl
+
+pub halt-told : (x y : Feed.Stopped) → ListedHalt x → ListedHalt y → haltNumber x ≡ haltNumber y → x ≡ y
+halt-told x y h k e = sym (halt-back x h) ∙ ap backHalt e ∙ halt-back y k

@@ -51,6 +51,12 @@ pub long-packet : (order : ℕ) (p : List ℕ) (first : ℕ) → 65536 < length 
 unfolding checked refuse
 long-packet order p first h = let l : 32 ≤ length p = omega arith in simp (le-ltb (length p) 32 l, lt-ltb 65536 (length p) h)
 
+-- one of 65,536 bytes is not
+pub full-packet : (p : List ℕ) (first : ℕ) → length p ≡ 65536 → Gets (checked 0 p first) 13
+unfolding checked legal refuse either
+full-packet p first h =
+    let l : 32 ≤ length p = omega arith in let m : length p ≤ 65536 = omega arith in simp (le-ltb (length p) 32 l, le-ltb 65536 (length p) m)
+
 -- requests: "elsewhere 9, then by number"
 pub requests : Gets (room 0 7 8) 8 × Gets (room 0 8 8) 13
 unfolding room legal refuse either

@@ -39,6 +39,13 @@ pub kept-some : (room : List ℕ) (n : ℕ) → sized (length room) room ≡ tru
 unfolding requestKept refuse
 kept-some room n h = simp h
 
+-- Any two answers that looking may give are equal.
+pub looks-one : {s : List ℕ} {at end : ℕ} (a b : Answer Held) → Looks s at end a → Looks s at end b → a ≡ b
+looks-one a b (here p q r) (here p' q' r') = refl
+looks-one a b (here p q r) (nowhere n) = absurd (n p q r)
+looks-one a b (nowhere n) (here p q r) = absurd (n p q r)
+looks-one a b (nowhere n) (nowhere m) = refl
+
 -- what is read at an index where a record stands
 module _ (s : List ℕ) (at end : ℕ) (low : at ≤ end) (high : end ≤ length s) (b : Begins (cut at (end - at) s)) where
   found : Stands s at (end - at) (decoded (cut at (end - at) s)) (drop (cost (decoded (cut at (end - at) s))) (cut at (end - at) s))
