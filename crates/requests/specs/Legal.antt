@@ -137,8 +137,7 @@ encoded-read room first rs e = sym (upto-map requestOf (byteAt room) first (leng
 pub legals-exactly : (room : List ℕ) (first count : ℕ) → legals room first count ≡ true ↔ Encodes room first (outstanding room first count)
 unfolding Encodes outstanding
 legals-exactly room first count =
-    let n : length (upto (requestAt room) first count) ≡ count = length-upto (requestAt room) first count in
-    (
+    let n : length (upto (requestAt room) first count) ≡ count = length-upto (requestAt room) first count in (
       λ h. ap (upto (byteAt room) first) n ∙ legals-bytes room first count h,
       λ e. legals-encoded room first count .1 (outstanding room first count, ap (upto (byteAt room) first) (sym n) ∙ e),
     )
