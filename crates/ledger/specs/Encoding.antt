@@ -14,7 +14,7 @@ use Rattle.model.specs.Client.{Held, Client, first, used, descriptorsOf, inside
 use Rattle.model.specs.Model.{leastStore}
 use Rattle.model.specs.Reading.{Rooms}
 use Rattle.model.specs.declared.Connection.{Connection}
-use Rattle.honest.specs.Run.{All}
+use Rattle.model.specs.Batch.{Each}
 
 -- ---- In range
 
@@ -48,8 +48,8 @@ pub record InRange (m : Client) : Type 0 where
   pub read-most : m .numbers .read ≤ lastNumber
   pub run-from-one : length (m .outstanding) ≤ m .numbers .written
   pub run-most : length (m .outstanding) ≤ m .most-requests
-  pub replies : All (ReplyFits (m .numbers .read)) (m .replies)
-  pub events : All (EventFits (m .numbers .read)) (m .events)
+  pub replies : Each (ReplyFits (m .numbers .read)) (m .replies)
+  pub events : Each (EventFits (m .numbers .read)) (m .events)
   pub never-fall : NeverFall 0 (m .replies)
   pub used-most : used m ≤ m .most-bytes
   pub descriptors-most : inside m ≤ mostDescriptors
