@@ -292,13 +292,6 @@ module _ (c₀ : Connection) (s₀ out₀ marks₀ : List ℕ) (c : Connection) 
     packet-turn : TurnStep c s out marks used (2 * count) (Event.Packet n len next) s' out' marks'
     packet-turn = subst (λ z. TurnStep c s out marks used (2 * count) z s' out' marks') e x
 
-    -- an event has room, and the marks of one go,
-    pub inv-room : (used + len ≤ length out₀) × (2 * count + 2 ≤ length marks₀)
-    unfolding left-now
-    inv-room =
-        let t : 2 ≤ length marks₀ - 2 * count = two n len next s' out' marks' packet-turn sl in
-        (fits n len next s' out' marks' packet-turn sl, omega arith)
-
-    -- and it is carried on
+    -- the invariant goes on
     pub inv-next : Inv c₀ s₀ out₀ marks₀ next s' out' marks' (used + len) (count + 1)
     inv-next = next-inv n len next s' out' marks' packet-turn sl

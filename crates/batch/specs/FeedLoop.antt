@@ -24,7 +24,7 @@ use Rattle.model.specs.Says.{saysEnqueued}
 use Rattle.model.specs.Sound.{Sound}
 use Rattle.model.specs.Batch.{Turn, goes, stops, onward, Site, site, exactMany}
 use Rattle.model.specs.BatchLaws.{row-ends}
-use Rattle.model.specs.Feed.{Stopped, ended, refused, Took, bytesOf, exactTook, shownFed, saysHalt}
+use Rattle.model.specs.Feed.{Stopped, ended, refused, Took, bytesTaken, exactTook, shownFed, saysHalt}
 use Rattle.model.specs.declared.Connection.{Connection}
 use Rattle.model.specs.declared.Place.{Place}
 use Rattle.model.specs.declared.Enqueued.{Enqueued}
@@ -121,23 +121,23 @@ pub record Inv (o : ℕ) (c₀ : Connection) (q s₀ f₀ bytes : List ℕ) (c :
   pub few : packets ≤ at
   pub store-long : length s ≡ length s₀
   pub slots-long : length f ≡ length f₀
-  pub taken : bytesOf given ≡ at
+  pub taken : bytesTaken given ≡ at
   pub counted : length given ≡ packets
   pub same : row o (site c₀ (rooms q s₀ f₀)) (cutPackets o bytes) ≡ onward given (row o (site c (rooms q s f)) (cutPackets o (drop at bytes)))
 
 pub inv-start : (o : ℕ) (c : Connection) (q s f bytes : List ℕ) → Sound c (rooms q s f) → Inv o c q s f bytes c s f 0 0
-unfolding bytesOf
+unfolding bytesTaken
 inv-start o c q s f bytes S =
     record { given = []; sound = S; within = omega arith; few = omega arith; store-long = refl; slots-long = refl; taken = refl; counted = refl; same = refl }
 
-bytes-more : (vs : List Took) (v : Took) → bytesOf (vs ++ (v ∷ [])) ≡ bytesOf vs + v .bytes
-unfolding bytesOf
+bytes-more : (vs : List Took) (v : Took) → bytesTaken (vs ++ (v ∷ [])) ≡ bytesTaken vs + v .bytes
+unfolding bytesTaken
 bytes-more [] v = omega arith
-bytes-more (x ∷ vs) v = let h : bytesOf (vs ++ (v ∷ [])) ≡ bytesOf vs + v .bytes = bytes-more vs v in omega arith
+bytes-more (x ∷ vs) v = let h : bytesTaken (vs ++ (v ∷ [])) ≡ bytesTaken vs + v .bytes = bytes-more vs v in omega arith
 
 module _ (c₀ : Connection) (q s₀ f₀ bytes : List ℕ) where
   -- the row is known
-  done : (vs : List Took) (h : Halt) (w : Stopped) (c : Connection) (s f : List ℕ) (at packets : ℕ) → saysHalt h ≡ w → bytesOf vs ≡ at → length vs ≡ packets
+  done : (vs : List Took) (h : Halt) (w : Stopped) (c : Connection) (s f : List ℕ) (at packets : ℕ) → saysHalt h ≡ w → bytesTaken vs ≡ at → length vs ≡ packets
       → row (c₀ .order) (site c₀ (rooms q s₀ f₀)) (cutPackets (c₀ .order) bytes) ≡ onward vs (record { values = []; stopped = w; end = site c (rooms q s f) })
       → FeedStep c₀ q s₀ f₀ bytes (Fed.Taken at packets h c) s f
   unfolding feedExact answerOf roomsOf
@@ -190,9 +190,6 @@ module _ (c₀ : Connection) (q s₀ f₀ bytes : List ℕ) where
         pub inv-least : fixed ≤ n
         inv-least = omega (arith, went .1, went .2 .least)
 
-        pub inv-fits : at + n ≤ length bytes
-        inv-fits = omega (arith, went .1, went .2 .fits, ap length B, length-drop at bytes, I .within)
-
         pub inv-next : ((i : ℕ) → getD bytes i 0 < 256) → length s' ≡ length s → length f' ≡ length f → Inv (c₀ .order) c₀ q s₀ f₀ bytes next s' f' (at + n) (packets + 1)
         inv-next byte ls lf =
             let o : ℕ = c₀ .order in
@@ -205,7 +202,7 @@ module _ (c₀ : Connection) (q s₀ f₀ bytes : List ℕ) where
             record {
               given = I .given ++ (v ∷ []);
               sound = enqueue-sound c (rooms q s f) (I .sound) (take (v .bytes) b) y _ (G .exact);
-              within = inv-fits;
+              within = omega (arith, went .1, went .2 .fits, ap length B, length-drop at bytes, I .within);
               few = omega (arith, I .few, inv-least);
               store-long = ls ∙ I .store-long;
               slots-long = lf ∙ I .slots-long;

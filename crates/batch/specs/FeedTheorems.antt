@@ -21,7 +21,7 @@ use Rattle.packet_reader.specs.declared.PacketReader.{PacketReader}
 use Rattle.model.specs.Client.{Client}
 use Rattle.model.specs.Model.{Filing, enqueuePacket}
 use Rattle.model.specs.Batch.{Turn, goes, stops, onward, onTurn, many, modelMany}
-use Rattle.model.specs.Feed.{Stopped, ended, partial, refused, Took, Feeding, bytesOf, modelTook}
+use Rattle.model.specs.Feed.{Stopped, ended, partial, refused, Took, Feeding, bytesTaken, modelTook}
 use Rattle.batch.specs.Feed.{stopAt, feeding, enqueuePackets}
 
 -- single `enqueue_packet`s, one for each of the packets ps, and what stops the row behind them
@@ -62,24 +62,24 @@ took-counts n (gives x) v c e = let z : v ≡ record { bytes = n; filing = x .0 
 took-counts n (refuses k) v c e = absurd (let z : _≡_ {A = ℕ} 0 1 = cc in omega arith)
 
 row-counts : (over : Stopped) (m : Client) (ps : List (List ℕ)) → (values : List Took) → values ≡ many (λ c p. modelTook (length p) (enqueuePacket c p)) over m ps .values
-    → bytesOf values ≡ length (joined (take (length values) ps))
-unfolding many onTurn bytesOf
-row-counts over m [] values e = ap (λ (v : List Took). bytesOf v) e ∙ sym (ap (λ (v : List Took). length (joined (take (length v) []))) e)
+    → bytesTaken values ≡ length (joined (take (length values) ps))
+unfolding many onTurn bytesTaken
+row-counts over m [] values e = ap (λ (v : List Took). bytesTaken v) e ∙ sym (ap (λ (v : List Took). length (joined (take (length v) []))) e)
 row-counts over m (p ∷ ps) values e =
     go (modelTook (length p) (enqueuePacket m p)) refl (λ c. row-counts over c ps (many (λ d x. modelTook (length x) (enqueuePacket d x)) over c ps .values) refl) e
   where
     go : (y : Turn Took Stopped Client) → y ≡ modelTook (length p) (enqueuePacket m p)
-        → ((c : Client) → bytesOf (many (λ d x. modelTook (length x) (enqueuePacket d x)) over c ps .values) ≡ length (joined (take (length (many (λ d x. modelTook (length x) (enqueuePacket d x)) over c ps .values)) ps)))
+        → ((c : Client) → bytesTaken (many (λ d x. modelTook (length x) (enqueuePacket d x)) over c ps .values) ≡ length (joined (take (length (many (λ d x. modelTook (length x) (enqueuePacket d x)) over c ps .values)) ps)))
         → values ≡ onTurn (λ a s'. onward (a ∷ []) (many (λ d x. modelTook (length x) (enqueuePacket d x)) over s' ps)) (λ w. record { values = []; stopped = w; end = m }) y .values
-        → bytesOf values ≡ length (joined (take (length values) (p ∷ ps)))
+        → bytesTaken values ≡ length (joined (take (length values) (p ∷ ps)))
     go (goes v c) q r f =
         let vs : List Took = many (λ d x. modelTook (length x) (enqueuePacket d x)) over c ps .values in
         let b : v .bytes ≡ length p = took-counts (length p) (enqueuePacket m p) v c q in
-        ap (λ (x : List Took). bytesOf x) f
+        ap (λ (x : List Took). bytesTaken x) f
         ∙ (λ i. b i + r c i)
         ∙ sym (length-append p (joined (take (length vs) ps)))
         ∙ sym (ap (λ (x : List Took). length (joined (take (length x) (p ∷ ps)))) f)
-    go (stops w) q r f = ap (λ (v : List Took). bytesOf v) f ∙ sym (ap (λ (v : List Took). length (joined (take (length v) (p ∷ ps)))) f)
+    go (stops w) q r f = ap (λ (v : List Took). bytesTaken v) f ∙ sym (ap (λ (v : List Took). length (joined (take (length v) (p ∷ ps)))) f)
 
 joined-take : (n : ℕ) (ps : List (List ℕ)) → length (joined (take n ps)) ≤ length (joined ps)
 joined-take zero ps = omega arith
@@ -88,7 +88,7 @@ joined-take (suc n) (p ∷ ps) = omega (arith, joined-take n ps, length-append p
 
 -- THE BYTES that are counted are those of the packets that were taken, from the front of the run, and no more than there are.
 pub feed-bytes : (m : Client) (bytes : List ℕ) (x : Feeding × Client) → gives x ≡ enqueuePackets m bytes
-    → (bytesOf (x .0 .packets) ≡ length (joined (take (length (x .0 .packets)) (cutPackets (m .order) bytes .packets)))) × (bytesOf (x .0 .packets) ≤ length bytes)
+    → (bytesTaken (x .0 .packets) ≡ length (joined (take (length (x .0 .packets)) (cutPackets (m .order) bytes .packets)))) × (bytesTaken (x .0 .packets) ≤ length bytes)
 unfolding enqueuePackets
 feed-bytes m bytes x e =
     let cut : Cut = cutPackets (m .order) bytes in

@@ -38,6 +38,11 @@ abbrev pub IsFirst : Connection → List ℕ → ℕ → ℕ → Bool → Type 0
 IsFirst c s room marks true = EventFirst c s room marks
 IsFirst c s room marks false = Unit {0}
 
+-- its header, with the least of packets and with its own, lies in the store
+pub record FirstWithin (c : Connection) (s : List ℕ) : Type 0 where
+  pub least : c .window .start + (headerSize + leastPacket) ≤ length s
+  pub whole : c .window .start + (headerSize + lenOf (drop (c .window .start) s)) ≤ length s
+
 -- the state without it
 abbrev pub passedState : Connection → ℕ → Connection
 passedState c len = movedState c (window (c .window .start + (headerSize + len)) (c .window .end)) (c .counts)
@@ -61,9 +66,8 @@ module _ (c : Connection) (s : List ℕ) (R : Stored c s) where
   readable : Readable (c .window) s
   readable = ready c (rooms (R .requests) s (R .slots)) (R .sound) .held .readable
 
-  -- the header of the oldest record, and its packet, lie in the store
-  pub first-within : c .window .start < c .window .end → (c .window .start + (headerSize + leastPacket) ≤ length s) × (c .window .start + (headerSize + lenOf (drop (c .window .start) s)) ≤ length s)
-  first-within h = let z = first-room (c .window) s readable h in (omega (arith, z .0, readable .within), omega (arith, z .1, readable .within))
+  pub first-within : c .window .start < c .window .end → FirstWithin c s
+  first-within h = let z = first-room (c .window) s readable h in record { least = omega (arith, z .0, readable .within); whole = omega (arith, z .1, readable .within) }
 
   module _ (room marks : ℕ) (E : EventFirst c s room marks) where
     abbrev p : Place
@@ -75,7 +79,7 @@ module _ (c : Connection) (s : List ℕ) (R : Stored c s) where
         ∙ from-place c s room p (first-found (c .window) s readable (E .some) (E .kind)) (le-ltb room (p .len) (E .fits)) q f
 
     first-long : length (eventAt (rooms [] s []) p .packet) ≡ p .len
-    first-long = length-cut (p .at + headerSize) (p .len) s (omega (arith, first-within (E .some) .1))
+    first-long = length-cut (p .at + headerSize) (p .len) s (omega (arith, first-within (E .some) .whole))
 
   pub first-turn : (out marks : List ℕ) (used at : ℕ) → at ≤ length marks → EventFirst c s (length out - used) (length marks - at)
       → (len n : ℕ) → len ≡ lenOf (drop (c .window .start) s) → n ≡ numOf (drop (c .window .start) s)

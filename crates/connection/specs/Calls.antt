@@ -66,7 +66,7 @@ abbrev pub Sends : Connection → Rooms → ReplyFdKind → Answer (ℕ × Conne
 Sends c r kind = Promise same (sendExact c r kind) (λ m. sendRequest m kind) c r
 
 abbrev pub EnqueuesFds : Connection → Rooms → List ℕ → Answer (Unit × Connection) → Rooms → Type 0
-EnqueuesFds c r list = Promise same (Fds.enqueueExact c r list) (λ m. enqueueFds m list) c r
+EnqueuesFds c r list = Promise same (Fds.enqueueFdsExact c r list) (λ m. enqueueFds m list) c r
 
 abbrev pub Enqueues : Connection → Rooms → List ℕ → Answer (Filing × Connection) → Rooms → Type 0
 Enqueues c r p = Promise shown (enqueueExact c r p) (λ m. enqueuePacket m p) c r

@@ -15,7 +15,8 @@ use Rattle.model.specs.declared.DiscardMode.{DiscardMode}
 use Rattle.model.specs.declared.DiscardMode.the-variants as DiscardMode
 use Rattle.model.specs.declared.Place.{Place}
 use Rattle.model.specs.declared.Place.the-variants as Place
-use Rattle.honest.specs.Run.{Event, sent, took, unnumbered, noteSent, noteTook, noted, Runs, start, call, Right, Lands, heldAs, Took, Bears, All, Holds, Hands}
+use Rattle.model.specs.Batch.{Each}
+use Rattle.honest.specs.Run.{Event, sent, took, unnumbered, noteSent, noteTook, noted, Runs, start, call, Right, Lands, heldAs, Took, Bears, Holds, Hands}
 use Rattle.honest.specs.Calls.{Taking, taking, lands}
 
 -- of the client that a call hands back
@@ -23,26 +24,26 @@ abbrev pub Leaves : {A : Type 0} → (Held → Type 0) → Answer (A × Client) 
 Leaves P (gives x) = Holds P (x .1)
 Leaves P (refuses n) = Unit {0}
 
-pub all-map : {P Q : Held → Type 0} → ((h : Held) → P h → Q h) → (l : List Held) → All P l → All Q l
+pub all-map : {P Q : Held → Type 0} → ((h : Held) → P h → Q h) → (l : List Held) → Each P l → Each Q l
 all-map f [] a = tt
 all-map f (h ∷ l) a = (f h (a .0), all-map f l (a .1))
 
 module _ (P : Held → Type 0) where
-  all-append : (a b : List Held) → All P a → All P b → All P (a ++ b)
+  all-append : (a b : List Held) → Each P a → Each P b → Each P (a ++ b)
   all-append [] b p q = q
   all-append (h ∷ a) b p q = (p .0, all-append a b (p .1) q)
 
-  all-choose : (b : Bool) (x y : List Held) → All P x → All P y → All P (choose b x y)
+  all-choose : (b : Bool) (x y : List Held) → Each P x → Each P y → Each P (choose b x y)
   unfolding choose
   all-choose true x y p q = p
   all-choose false x y p q = q
 
-  all-notOf : (n : ℕ) (l : List Held) → All P l → All P (notOf n l)
+  all-notOf : (n : ℕ) (l : List Held) → Each P l → Each P (notOf n l)
   unfolding notOf
   all-notOf n [] a = tt
   all-notOf n (h ∷ l) a = all-choose _ _ _ (all-notOf n l (a .1)) (a .0, all-notOf n l (a .1))
 
-  all-ofNumber : (n : ℕ) (l : List Held) → All P l → All P (ofNumber n l)
+  all-ofNumber : (n : ℕ) (l : List Held) → Each P l → Each P (ofNumber n l)
   unfolding ofNumber
   all-ofNumber n [] a = tt
   all-ofNumber n (h ∷ l) a = all-choose _ _ _ (a .0, all-ofNumber n l (a .1)) (all-ofNumber n l (a .1))
@@ -50,7 +51,7 @@ module _ (P : Held → Type 0) where
   -- the record that is found, and those that stay
   All-found : Found → Type 0
   All-found nothing = Unit {0}
-  All-found (at h l) = P h × All P l
+  All-found (at h l) = P h × Each P l
 
   all-behind : (h : Held) (f : Found) → P h → All-found f → All-found (behind h f)
   unfolding All-found
@@ -62,14 +63,14 @@ module _ (P : Held → Type 0) where
   found-choose true x y p q = p
   found-choose false x y p q = q
 
-  all-find : (n : ℕ) (l : List Held) → All P l → All-found (find n l)
+  all-find : (n : ℕ) (l : List Held) → Each P l → All-found (find n l)
   unfolding find All-found
   all-find n [] a = tt
   all-find n (h ∷ l) a = found-choose _ (at h l) (behind h (find n l)) (a .0, a .1) (all-behind h (find n l) (a .0) (all-find n l (a .1)))
 
 -- a record as an event has the same number and packet
 module _ (P : Held → Type 0) (as-event : (h : Held) → P h → P (asEvent h)) where
-  all-errors : (l : List Held) → All P l → All P (errorsOf l)
+  all-errors : (l : List Held) → Each P l → Each P (errorsOf l)
   unfolding errorsOf
   all-errors [] a = tt
   all-errors (h ∷ l) a = all-choose P _ _ _ (as-event h (a .0), all-errors l (a .1)) (all-errors l (a .1))
@@ -133,7 +134,7 @@ module _ (P : Held → Type 0) (as-event : (h : Held) → P h → P (asEvent h))
   leaves-replied c bytes nothing a q = a
   leaves-replied c bytes (at h l) a q = leaves-choose _ _ _ (q .1, all-append P (c .events) (asEvent h ∷ []) (a .1) (as-event h (q .0), tt)) (leaves-refuse _ 8 _ (q .1, a .1))
 
-  leaves-event : (c : Client) (bytes : ℕ) (l : List Held) → Holds P c → All P l → Leaves P (eventBy c bytes l)
+  leaves-event : (c : Client) (bytes : ℕ) (l : List Held) → Holds P c → Each P l → Leaves P (eventBy c bytes l)
   leaves-event c bytes [] a q = a
   leaves-event c bytes (h ∷ l) a q = leaves-refuse _ 8 _ (a .0, q .1)
 
@@ -181,7 +182,7 @@ module _ (P : Held → Type 0) (c : Client) where
     hands-taken bytes places nothing q = none-so
     hands-taken bytes places (at h l) q = hands-refuse g _ 8 _ (packet-so h (q .0))
 
-    hands-event : (bytes : ℕ) (l : List Held) → All P l → Hands P (outcome g c (eventBy c bytes l) .said)
+    hands-event : (bytes : ℕ) (l : List Held) → Each P l → Hands P (outcome g c (eventBy c bytes l) .said)
     hands-event bytes [] q = none-so
     hands-event bytes (h ∷ l) q = hands-refuse g _ 8 _ (packet-so h (q .0))
 

@@ -14,7 +14,7 @@ use Rattle.model.specs.Model.{fresh, joining, sendRequest, Filing}
 use Rattle.model.specs.Calls.{send, enqueue, step}
 use Rattle.model.specs.declared.ReplyFdKind.the-variants.{NoReply, ReplyWithoutFds}
 use Rattle.model.specs.declared.Place.the-variants.{Events}
-use Rattle.honest.specs.Run.{Event, sent, took, Runs, start, call, sends, Heard, Wire, Rises, Known, Answered, Each, Right}
+use Rattle.honest.specs.Run.{Event, sent, took, Runs, start, call, sends, Heard, Wire, Rises, Known, Answered, Along, Right}
 use Rattle.honest.specs.Computing.{computing, packetOf, send-to}
 
 -- There is a run in which each packet is as P says, and not each was given its true number.
@@ -22,7 +22,7 @@ pub record Wrong (P : ℕ → List Event → ℕ → List ℕ → Type 0) : Type
   pub state : Client
   pub log : List Event
   pub run : Runs state log
-  pub so : Each (P (state .order)) log
+  pub so : Along (P (state .order)) log
   pub wrong : Right log → ⊥
 
 -- an event with its wire number
@@ -87,7 +87,7 @@ unfolding asks
 asks-heard zero u h = h
 asks-heard (suc n) u h = asks-heard n u h
 
-asks-each : (P : List Event → ℕ → List ℕ → Type 0) (n : ℕ) → Each P (asks n)
+asks-each : (P : List Event → ℕ → List ℕ → Type 0) (n : ℕ) → Along P (asks n)
 unfolding asks
 asks-each P zero = tt
 asks-each P (suc n) = asks-each P n

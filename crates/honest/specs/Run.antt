@@ -16,6 +16,7 @@ use Rattle.model.specs.Calls.{Call, send, enqueue-fds, enqueue, discard, poll, 
 use Rattle.model.specs.Calls as Calls
 use Rattle.model.specs.declared.Place.{Place}
 use Rattle.model.specs.declared.Place.the-variants as Place
+use Rattle.model.specs.Batch.{Each}
 
 -- ---- A run
 
@@ -99,14 +100,14 @@ pub record Fair (o : ℕ) (l : List Event) (t : ℕ) (p : List ℕ) : Type 0 whe
   pub answered : Answered l t
 
 -- each packet of a log was as P says when it came
-abbrev pub Each : (List Event → ℕ → List ℕ → Type 0) → List Event → Type 0
-Each P [] = Unit {0}
-Each P (sent has-reply ∷ l) = Each P l
-Each P (took t p f ∷ l) = P l t p × Each P l
+abbrev pub Along : (List Event → ℕ → List ℕ → Type 0) → List Event → Type 0
+Along P [] = Unit {0}
+Along P (sent has-reply ∷ l) = Along P l
+Along P (took t p f ∷ l) = P l t p × Along P l
 
 -- the server is honest
 abbrev pub Honest : ℕ → List Event → Type 0
-Honest o = Each (Fair o)
+Honest o = Along (Fair o)
 
 -- ---- What is to be shown
 
@@ -142,13 +143,9 @@ Took (took u q f ∷ l) t p = ((t ≡ u) × (p ≡ q)) ⊎ Took l t p
 abbrev pub Bears : List Event → Held → Type 0
 Bears l h = unnumbered (h .packet) ≡ false → Took l (h .number) (h .packet)
 
--- P is true of each record of a list, of each that is held
-abbrev pub All : (Held → Type 0) → List Held → Type 0
-All P [] = Unit {0}
-All P (h ∷ l) = P h × All P l
-
+-- P is true of each record that is held
 abbrev pub Holds : (Held → Type 0) → Client → Type 0
-Holds P c = All P (c .replies) × All P (c .events)
+Holds P c = Each P (c .replies) × Each P (c .events)
 
 -- P is true of what a call hands out, if that is a record
 abbrev pub Hands : (Held → Type 0) → Said → Type 0

@@ -10,7 +10,8 @@ use Rattle.refusal.specs.Answer.{Answer, gives, refuses}
 use Rattle.model.specs.Client.{Client}
 use Rattle.model.specs.Model.{fresh, hasReply, sendRequest, Filing, enqueuePacket}
 use Rattle.model.specs.Calls.{Call, send, enqueue-fds, enqueue, discard, poll, check, poll-reply, prepare, poll-event, take-closed, step}
-use Rattle.honest.specs.Run.{Event, sent, took, unnumbered, noteSent, noteTook, noted, Runs, start, call, Asked, Heard, Wire, Known, Each, Honest}
+use Rattle.model.specs.Batch.{Each}
+use Rattle.honest.specs.Run.{Event, sent, took, unnumbered, noteSent, noteTook, noted, Runs, start, call, Asked, Heard, Wire, Known, Along, Honest}
 
 -- a packet of the server, with its true number
 pub record Packet : Type 0 where
@@ -53,22 +54,17 @@ unfoldable pub carrying : List Packet → List Packet
 carrying [] = []
 carrying (p ∷ l) = choose (unnumbered (p .bytes)) (carrying l) (p ∷ carrying l)
 
-unfoldable pub packetsOf : List Event → List Packet
-packetsOf [] = []
-packetsOf (sent has-reply ∷ l) = packetsOf l
-packetsOf (took t p f ∷ l) = packetsOf l ++ (record { true-number = t; bytes = p } ∷ [])
+unfoldable pub packetsIn : List Event → List Packet
+packetsIn [] = []
+packetsIn (sent has-reply ∷ l) = packetsIn l
+packetsIn (took t p f ∷ l) = packetsIn l ++ (record { true-number = t; bytes = p } ∷ [])
 
 -- ---- What is asked of the server, of its packets as it has them to bring
-
--- P is true of each packet
-abbrev pub Every : (Packet → Type 0) → List Packet → Type 0
-Every P [] = Unit {0}
-Every P (p ∷ l) = P p × Every P l
 
 -- numbers never fall
 abbrev pub Rising : List Packet → Type 0
 Rising [] = Unit {0}
-Rising (p ∷ l) = Every (λ x. p .true-number ≤ x .true-number) l × Rising l
+Rising (p ∷ l) = Each (λ (x : Packet). p .true-number ≤ x .true-number) l × Rising l
 
 -- a packet of the number q comes before any of a greater
 abbrev pub First : ℕ → List Packet → Type 0
@@ -77,28 +73,28 @@ First q (p ∷ l) = (p .true-number ≡ q) ⊎ ((p .true-number ≤ q) × First 
 
 -- "Let each packet but code 11 carry the low 16 bits of its true number; let true numbers never fall nor pass the requests sent by then; and let each request with a reply have a numbered packet of its own number before any of a greater."
 pub record HonestServer (o : ℕ) (all : List Packet) (l : List Event) : Type 0 where
-  pub wire : Every (λ p. Wire o (p .true-number) (p .bytes)) (carrying all)
+  pub wire : Each (λ (p : Packet). Wire o (p .true-number) (p .bytes)) (carrying all)
   pub rising : Rising (carrying all)
-  pub known : Each (λ before t p. Known before t) l
+  pub known : Along (λ before t p. Known before t) l
   pub answered : (q : ℕ) → Asked l q → First q (carrying all)
 
 -- ---- IN ORDER: the log's packets and those left are the server's.
 
-offered : (p : Packet) (rest : List Packet) (l : List Event) (a : Answer (Filing × Client)) → packetsOf (noteTook (p .true-number) (p .bytes) a l) ++ carrying (left a p rest) ≡ packetsOf l ++ carrying (p ∷ rest)
-unfolding noteTook left carrying packetsOf choose
+offered : (p : Packet) (rest : List Packet) (l : List Event) (a : Answer (Filing × Client)) → packetsIn (noteTook (p .true-number) (p .bytes) a l) ++ carrying (left a p rest) ≡ packetsIn l ++ carrying (p ∷ rest)
+unfolding noteTook left carrying packetsIn choose
 offered p rest l (refuses n) = refl
 offered p rest l (gives x) = go (unnumbered (p .bytes))
   where
-    go : (b : Bool) → packetsOf (choose b l (took (p .true-number) (p .bytes) (x .0) ∷ l)) ++ carrying rest ≡ packetsOf l ++ choose b (carrying rest) (p ∷ carrying rest)
+    go : (b : Bool) → packetsIn (choose b l (took (p .true-number) (p .bytes) (x .0) ∷ l)) ++ carrying rest ≡ packetsIn l ++ choose b (carrying rest) (p ∷ carrying rest)
     go true = refl
-    go false = append-assoc (packetsOf l) (p ∷ []) (carrying rest)
+    go false = append-assoc (packetsIn l) (p ∷ []) (carrying rest)
 
-sent-none : {A : Type 0} (b : Bool) (a : Answer A) (l : List Event) → packetsOf (noteSent b a l) ≡ packetsOf l
-unfolding noteSent packetsOf
+sent-none : {A : Type 0} (b : Bool) (a : Answer A) (l : List Event) → packetsIn (noteSent b a l) ≡ packetsIn l
+unfolding noteSent packetsIn
 sent-none b (gives x) l = refl
 sent-none b (refuses n) l = refl
 
-own-none : (c : Client) (x : Call) (l : List Event) → Own x → packetsOf (noted c x 0 l) ≡ packetsOf l
+own-none : (c : Client) (x : Call) (l : List Event) → Own x → packetsIn (noted c x 0 l) ≡ packetsIn l
 unfolding noted
 own-none c (send kind) l o = sent-none (hasReply kind) (sendRequest c kind) l
 own-none c (enqueue-fds list) l o = refl
@@ -111,19 +107,19 @@ own-none c (prepare n) l o = refl
 own-none c (poll-event bytes) l o = refl
 own-none c (take-closed places) l o = refl
 
-pub in-order : {all rest : List Packet} {c : Client} {l : List Event} → Serves all rest c l → packetsOf l ++ carrying rest ≡ carrying all
-unfolding packetsOf noted
+pub in-order : {all rest : List Packet} {c : Client} {l : List Event} → Serves all rest c l → packetsIn l ++ carrying rest ≡ carrying all
+unfolding packetsIn noted
 in-order (begins o k s) = refl
 in-order (offers {p = p} {rest = rest} {c = c} {l = l} h) = offered p rest l (enqueuePacket c (p .bytes)) ∙ in-order h
 in-order (calls {rest = rest} {c = c} {l = l} x o h) = ap (λ y. y ++ carrying rest) (own-none c x l o) ∙ in-order h
 
 -- ---- So the log is honest.
 
-every-split : (P : Packet → Type 0) (xs ys : List Packet) → Every P (xs ++ ys) → Every P xs × Every P ys
+every-split : (P : Packet → Type 0) (xs ys : List Packet) → Each P (xs ++ ys) → Each P xs × Each P ys
 every-split P [] ys e = (tt, e)
 every-split P (x ∷ xs) ys e = let r = every-split P xs ys (e .1) in ((e .0, r .0), r .1)
 
-rising-at : (xs : List Packet) (p : Packet) (ys : List Packet) → Rising (xs ++ (p ∷ ys)) → Every (λ x. x .true-number ≤ p .true-number) xs
+rising-at : (xs : List Packet) (p : Packet) (ys : List Packet) → Rising (xs ++ (p ∷ ys)) → Each (λ (x : Packet). x .true-number ≤ p .true-number) xs
 rising-at [] p ys e = tt
 rising-at (x ∷ xs) p ys e = (every-split (λ y. x .true-number ≤ y .true-number) xs (p ∷ ys) (e .0) .1 .0, rising-at xs p ys (e .1))
 
@@ -144,36 +140,36 @@ has-last q [] p (inr e) = absurd e
 has-last q (x ∷ xs) p (inl e) = inr (inl e)
 has-last q (x ∷ xs) p (inr e) = ⊎-elim inl (λ r. inr (inr r)) (has-last q xs p e)
 
-has-heard : (q : ℕ) (l : List Event) → Has q (packetsOf l) → Heard l q
-unfolding packetsOf
+has-heard : (q : ℕ) (l : List Event) → Has q (packetsIn l) → Heard l q
+unfolding packetsIn
 has-heard q [] e = e
 has-heard q (sent has-reply ∷ l) e = has-heard q l e
-has-heard q (took t p f ∷ l) e = ⊎-elim inl (λ r. inr (has-heard q l r)) (has-last q (packetsOf l) (record { true-number = t; bytes = p }) e)
+has-heard q (took t p f ∷ l) e = ⊎-elim inl (λ r. inr (has-heard q l r)) (has-last q (packetsIn l) (record { true-number = t; bytes = p }) e)
 
-heard-most : (n : ℕ) (l : List Event) → Every (λ x. x .true-number ≤ n) (packetsOf l) → (u : ℕ) → Heard l u → u ≤ n
-unfolding packetsOf
+heard-most : (n : ℕ) (l : List Event) → Each (λ (x : Packet). x .true-number ≤ n) (packetsIn l) → (u : ℕ) → Heard l u → u ≤ n
+unfolding packetsIn
 heard-most n [] e u h = absurd h
 heard-most n (sent has-reply ∷ l) e u h = heard-most n l e u h
-heard-most n (took t p f ∷ l) e u (inl h) = omega (arith, every-split (λ x. x .true-number ≤ n) (packetsOf l) (record { true-number = t; bytes = p } ∷ []) e .1 .0)
-heard-most n (took t p f ∷ l) e u (inr h) = heard-most n l (every-split (λ x. x .true-number ≤ n) (packetsOf l) (record { true-number = t; bytes = p } ∷ []) e .0) u h
+heard-most n (took t p f ∷ l) e u (inl h) = omega (arith, every-split (λ x. x .true-number ≤ n) (packetsIn l) (record { true-number = t; bytes = p } ∷ []) e .1 .0)
+heard-most n (took t p f ∷ l) e u (inr h) = heard-most n l (every-split (λ x. x .true-number ≤ n) (packetsIn l) (record { true-number = t; bytes = p } ∷ []) e .0) u h
 
 -- of packets that are all or only some of the server's
-module _ (o : ℕ) (packets : List Packet) (wire : Every (λ p. Wire o (p .true-number) (p .bytes)) packets) (rising : Rising packets) where
-  honest-log : (l : List Event) (ys : List Packet) → packetsOf l ++ ys ≡ packets → Each (λ before t p. Known before t) l → ((q : ℕ) → Asked l q → First q packets) → Honest o l
-  unfolding packetsOf
+module _ (o : ℕ) (packets : List Packet) (wire : Each (λ (p : Packet). Wire o (p .true-number) (p .bytes)) packets) (rising : Rising packets) where
+  honest-log : (l : List Event) (ys : List Packet) → packetsIn l ++ ys ≡ packets → Along (λ before t p. Known before t) l → ((q : ℕ) → Asked l q → First q packets) → Honest o l
+  unfolding packetsIn
   honest-log [] ys e k a = tt
   honest-log (sent true ∷ l) ys e k a = honest-log l ys e k (λ q r. a q (inr r))
   honest-log (sent false ∷ l) ys e k a = honest-log l ys e k a
   honest-log (took t p f ∷ l) ys e k a =
       let x : Packet = record { true-number = t; bytes = p } in
-      let g : packetsOf l ++ (x ∷ ys) ≡ packets = sym (append-assoc (packetsOf l) (x ∷ []) ys) ∙ e in
-      let w : Every (λ y. Wire o (y .true-number) (y .bytes)) (packetsOf l ++ (x ∷ ys)) = rw g wire in
-      let u : Rising (packetsOf l ++ (x ∷ ys)) = rw g rising in (
+      let g : packetsIn l ++ (x ∷ ys) ≡ packets = sym (append-assoc (packetsIn l) (x ∷ []) ys) ∙ e in
+      let w : Each (λ (y : Packet). Wire o (y .true-number) (y .bytes)) (packetsIn l ++ (x ∷ ys)) = rw g wire in
+      let u : Rising (packetsIn l ++ (x ∷ ys)) = rw g rising in (
         record {
-          wire = every-split (λ y. Wire o (y .true-number) (y .bytes)) (packetsOf l) (x ∷ ys) w .1 .0;
-          rises = heard-most t l (rising-at (packetsOf l) x ys u);
+          wire = every-split (λ y. Wire o (y .true-number) (y .bytes)) (packetsIn l) (x ∷ ys) w .1 .0;
+          rises = heard-most t l (rising-at (packetsIn l) x ys u);
           known = k .0;
-          answered = λ q r less. has-heard q l (first-at q (packetsOf l) x ys (rw g (a q r)) less);
+          answered = λ q r less. has-heard q l (first-at q (packetsIn l) x ys (rw g (a q r)) less);
         },
         honest-log l (x ∷ ys) g (k .1) a,
       )

@@ -13,16 +13,16 @@ use Rattle.sequence.specs.Numbering.{wireValues}
 use Rattle.honest.specs.Run.{Event, sent, took, sends, Asked, Heard, Fair, Honest}
 
 -- the numbers of the requests with a reply, and of the packets that came
-unfoldable pub askedOf : List Event → List ℕ
-askedOf [] = []
-askedOf (sent true ∷ l) = (sends l + 1) ∷ askedOf l
-askedOf (sent false ∷ l) = askedOf l
-askedOf (took t p f ∷ l) = askedOf l
+unfoldable pub numbersAsked : List Event → List ℕ
+numbersAsked [] = []
+numbersAsked (sent true ∷ l) = (sends l + 1) ∷ numbersAsked l
+numbersAsked (sent false ∷ l) = numbersAsked l
+numbersAsked (took t p f ∷ l) = numbersAsked l
 
-unfoldable pub heardOf : List Event → List ℕ
-heardOf [] = []
-heardOf (sent has-reply ∷ l) = heardOf l
-heardOf (took t p f ∷ l) = t ∷ heardOf l
+unfoldable pub numbersHeard : List Event → List ℕ
+numbersHeard [] = []
+numbersHeard (sent has-reply ∷ l) = numbersHeard l
+numbersHeard (took t p f ∷ l) = t ∷ numbersHeard l
 
 unfoldable pub every : (ℕ → Bool) → List ℕ → Bool
 every f [] = true
@@ -34,8 +34,8 @@ among q (x ∷ l) = either (eqb q x) (among q l)
 
 unfoldable pub fairb : ℕ → List Event → ℕ → List ℕ → Bool
 fairb o l t p =
-    both (both (eqb (field o 2 2 p) (t % wireValues)) (every (λ u. leb u t) (heardOf l)))
-    (both (leb t (sends l)) (every (λ q. either (leb t q) (among q (heardOf l))) (askedOf l)))
+    both (both (eqb (field o 2 2 p) (t % wireValues)) (every (λ u. leb u t) (numbersHeard l)))
+    (both (leb t (sends l)) (every (λ q. either (leb t q) (among q (numbersHeard l))) (numbersAsked l)))
 
 unfoldable pub honestb : ℕ → List Event → Bool
 honestb o [] = true
@@ -44,15 +44,15 @@ honestb o (took t p f ∷ l) = both (fairb o l t p) (honestb o l)
 
 -- ---- A log that passes is honest.
 
-every-heard : (f : ℕ → Bool) (l : List Event) → every f (heardOf l) ≡ true → (u : ℕ) → Heard l u → f u ≡ true
-unfolding every heardOf
+every-heard : (f : ℕ → Bool) (l : List Event) → every f (numbersHeard l) ≡ true → (u : ℕ) → Heard l u → f u ≡ true
+unfolding every numbersHeard
 every-heard f [] e u h = absurd h
 every-heard f (sent has-reply ∷ l) e u h = every-heard f l e u h
 every-heard f (took t p g ∷ l) e u (inl h) = ap f h ∙ both-left _ _ e
 every-heard f (took t p g ∷ l) e u (inr h) = every-heard f l (both-right _ _ e) u h
 
-every-asked : (f : ℕ → Bool) (l : List Event) → every f (askedOf l) ≡ true → (u : ℕ) → Asked l u → f u ≡ true
-unfolding every askedOf
+every-asked : (f : ℕ → Bool) (l : List Event) → every f (numbersAsked l) ≡ true → (u : ℕ) → Asked l u → f u ≡ true
+unfolding every numbersAsked
 every-asked f [] e u h = absurd h
 every-asked f (sent true ∷ l) e u (inl h) = ap f h ∙ both-left _ _ e
 every-asked f (sent true ∷ l) e u (inr h) = every-asked f l (both-right _ _ e) u h
@@ -64,13 +64,13 @@ unfolding either
 either-cases true b e = inl refl
 either-cases false b e = inr e
 
-among-heard : (q : ℕ) (l : List Event) → among q (heardOf l) ≡ true → Heard l q
-unfolding among heardOf
+among-heard : (q : ℕ) (l : List Event) → among q (numbersHeard l) ≡ true → Heard l q
+unfolding among numbersHeard
 among-heard q [] e = apart e refl
 among-heard q (sent has-reply ∷ l) e = among-heard q l e
 among-heard q (took t p f ∷ l) e = go (either-cases _ _ e) (among-heard q l)
   where
-    go : (eqb q t ≡ true) ⊎ (among q (heardOf l) ≡ true) → (among q (heardOf l) ≡ true → Heard l q) → (q ≡ t) ⊎ Heard l q
+    go : (eqb q t ≡ true) ⊎ (among q (numbersHeard l) ≡ true) → (among q (numbersHeard l) ≡ true → Heard l q) → (q ≡ t) ⊎ Heard l q
     go (inl a) f = inl (eqb-true _ _ a)
     go (inr a) f = inr (f a)
 
@@ -83,10 +83,10 @@ fair-by o l t p e =
       wire = eqb-true _ _ (both-left _ _ a);
       rises = λ u h. leb-true _ _ (every-heard (λ u. leb u t) l (both-right _ _ a) u h);
       known = leb-true _ _ (both-left _ _ b);
-      answered = λ q k less. go q less (either-cases _ _ (every-asked (λ q. either (leb t q) (among q (heardOf l))) l (both-right _ _ b) q k));
+      answered = λ q k less. go q less (either-cases _ _ (every-asked (λ q. either (leb t q) (among q (numbersHeard l))) l (both-right _ _ b) q k));
     }
   where
-    go : (q : ℕ) → q < t → (leb t q ≡ true) ⊎ (among q (heardOf l) ≡ true) → Heard l q
+    go : (q : ℕ) → q < t → (leb t q ≡ true) ⊎ (among q (numbersHeard l) ≡ true) → Heard l q
     go q less (inl a) = let z : t ≤ q = leb-true _ _ a in absurd (omega arith)
     go q less (inr a) = among-heard q l a
 

@@ -29,7 +29,7 @@ use Rattle.honest.specs.Run.{Event, sent, took, noted, Runs, start, call
 use Rattle.honest.specs.Computing.{computing, packetOf, send-to, packet-to, poll-to}
 use Rattle.honest.specs.Server.{Packet, Serves, begins, offers, calls, left, carrying, HonestServer}
 use Rattle.honest.specs.Theorems.{next-number}
-use Rattle.honest.specs.Test.{askedOf, heardOf, every, among, fairb, honestb, honest-by}
+use Rattle.honest.specs.Test.{numbersAsked, numbersHeard, every, among, fairb, honestb, honest-by}
 
 -- ---- A run with every kind of call and packet
 
@@ -75,7 +75,7 @@ pub witness-run : Runs (run (fresh 108 4 100) (made moves) .end) (logged (fresh 
 witness-run = moves-run moves (fresh 108 4 100) [] (start 108 4 100)
 
 pub witness-honest : Honest 108 (logged (fresh 108 4 100) [] moves)
-unfolding computing askedOf heardOf every among fairb honestb
+unfolding computing numbersAsked numbersHeard every among fairb honestb
 witness-honest = honest-by 108 (logged (fresh 108 4 100) [] moves) refl
 
 -- ---- A server with two packets: the second is refused once, for want of room, and offered again

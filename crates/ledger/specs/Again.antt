@@ -16,7 +16,7 @@ use Rattle.packet_reader.specs.Stream.{joined}
 use Rattle.model.specs.Client.{Client}
 use Rattle.model.specs.Model.{Filing, enqueuePacket}
 use Rattle.model.specs.Batch.{Many, onward, onTurn, many}
-use Rattle.model.specs.Feed.{Stopped, ended, partial, refused, Took, Feeding, bytesOf, modelTook}
+use Rattle.model.specs.Feed.{Stopped, ended, partial, refused, Took, Feeding, bytesTaken, modelTook}
 use Rattle.batch.specs.Feed.{stopAt, enqueuePackets}
 use Rattle.batch.specs.FeedTheorems.{feed-bytes}
 use Rattle.session.specs.FeedFiled.{order-kept}
@@ -28,9 +28,9 @@ Waits partial = Unit {0}
 Waits (refused n) = ⊥
 
 -- what a call gives, with packets that were taken before
-abbrev pub after : List Took → Answer (Feeding × Client) → Answer (Feeding × Client)
-after ts (gives x) = gives (record { packets = ts ++ x .0 .packets; stopped = x .0 .stopped }, x .1)
-after ts (refuses n) = refuses n
+abbrev pub withTaken : List Took → Answer (Feeding × Client) → Answer (Feeding × Client)
+withTaken ts (gives x) = gives (record { packets = ts ++ x .0 .packets; stopped = x .0 .stopped }, x .1)
+withTaken ts (refuses n) = refuses n
 
 -- ---- cutting
 
@@ -87,7 +87,7 @@ row-again m over w (p ∷ ps) qs h = go (enqueuePacket m p) refl (λ c k. row-ag
 
 -- A RUN IN TWO PIECES: where the first stopped for want of bytes, what it left and the second piece behind it bring to the same packets and the same state as both at once.
 pub again : (m : Client) (a b : List ℕ) (f : Feeding) (m' : Client) → gives (f, m') ≡ enqueuePackets m a → Waits (f .stopped)
-    → enqueuePackets m (a ++ b) ≡ after (f .packets) (enqueuePackets m' (drop (bytesOf (f .packets)) a ++ b))
+    → enqueuePackets m (a ++ b) ≡ withTaken (f .packets) (enqueuePackets m' (drop (bytesTaken (f .packets)) a ++ b))
 unfolding enqueuePackets
 again m a b f m' e h =
     let o : ℕ = m .order in
@@ -98,14 +98,14 @@ again m a b f m' e h =
     let y = row-again m (stopAt o (cut .left)) (stopAt o (rest .left)) (cut .packets) (rest .packets) (subst-waits (ap (λ (v : Feeding × Client). v .0 .stopped) z) h) in
     let v : f .packets ≡ row .values = ap (λ (u : Feeding × Client). u .0 .packets) z in
     let n : length (f .packets) ≡ length (cut .packets) = ap length v ∙ y .1 in
-    let c : bytesOf (f .packets) ≡ length (joined (cut .packets)) =
+    let c : bytesTaken (f .packets) ≡ length (joined (cut .packets)) =
     feed-bytes m a (f, m') e .0 ∙ ap (λ (k : ℕ). length (joined (take k (cut .packets)))) n ∙ ap (λ (l : List (List ℕ)). length (joined l)) (take-all (length (cut .packets)) (cut .packets) (omega arith)) in
-    let d : drop (bytesOf (f .packets)) a ≡ cut .left =
+    let d : drop (bytesTaken (f .packets)) a ≡ cut .left =
     (λ i. drop (c i) (sym (packets-whole o a) i)) ∙ drop-at (joined (cut .packets)) (cut .left) (length (joined (cut .packets))) refl in
     ap (λ (x : Cut). one m (stopAt o (x .left)) (x .packets)) (cut-again o (length a) a b (omega arith))
     ∙ ap made (y .0)
-    ∙ ap (λ (k : ℕ). after (row .values) (one (row .end) (stopAt k (cutPackets k (cut .left ++ b) .left)) (cutPackets k (cut .left ++ b) .packets))) (sym (y .2))
-    ∙ sym ((λ i. after (v i) (enqueuePackets (ap (λ (u : Feeding × Client). u .1) z i) (d i ++ b))))
+    ∙ ap (λ (k : ℕ). withTaken (row .values) (one (row .end) (stopAt k (cutPackets k (cut .left ++ b) .left)) (cutPackets k (cut .left ++ b) .packets))) (sym (y .2))
+    ∙ sym ((λ i. withTaken (v i) (enqueuePackets (ap (λ (u : Feeding × Client). u .1) z i) (d i ++ b))))
   where
     made : Many Took Stopped Client → Answer (Feeding × Client)
     made x = gives (record { packets = x .values; stopped = x .stopped }, x .end)

@@ -28,7 +28,7 @@ use Rattle.model.specs.Reading.{Rooms, count, withDescriptors, eventOf, slotsOf
 use Rattle.model.specs.ReadingLaws.{length-out, first-read, used-read, descriptors-read, length-wait, length-close, inside-read}
 use Rattle.model.specs.Sound.{Sound, soundb, sound-is, is-sound}
 use Rattle.model.specs.declared.Connection.{Connection}
-use Rattle.honest.specs.Run.{All}
+use Rattle.model.specs.Batch.{Each}
 use Rattle.ledger.specs.Encoding.{ReplyFits, EventFits, NeverFall, InRange, replyRow, eventRow, Mixed, none, a-reply, an-event, Encodes}
 
 -- ---- records of two lists
@@ -48,7 +48,7 @@ mixed-events (an-event h k) = ap (λ (l : List Record.Held). eventRow h ∷ l) (
 
 -- what each of either list has, each record has
 module _ (P : Held → Type 0) (Q : Held → Type 0) (R : Record.Held → Type 0) (of-reply : (h : Held) → P h → R (replyRow h)) (of-event : (h : Held) → Q h → R (eventRow h)) where
-  mixed-all : {rows : List Record.Held} {rs es : List Held} → Mixed rows rs es → All P rs → All Q es → Store.All R rows
+  mixed-all : {rows : List Record.Held} {rs es : List Held} → Mixed rows rs es → Each P rs → Each Q es → Store.All R rows
   unfolding Store.All
   mixed-all none p q = tt
   mixed-all (a-reply h k) p q = (of-reply h (p .0), mixed-all k (p .1) q)
@@ -78,7 +78,7 @@ read-replies (h ∷ rs) =
     (λ k. record { number = h .number; packet = h .packet; descriptors = take-front (h .descriptors) (descriptorsOf rs) k } ∷ withDescriptors (map replyRow rs) (drop-front (h .descriptors) (descriptorsOf rs) k))
     ∙ ap (λ (l : List Held). h ∷ l) (read-replies rs)
 
-read-events : (last : ℕ) (es : List Held) → All (EventFits last) es → map eventOf (map eventRow es) ≡ es
+read-events : (last : ℕ) (es : List Held) → Each (EventFits last) es → map eventOf (map eventRow es) ≡ es
 read-events last [] q = refl
 read-events last (h ∷ es) q =
     (λ k. record { number = h .number; packet = h .packet; descriptors = sym (q .0 .descriptors) k } ∷ map eventOf (map eventRow es))
@@ -223,7 +223,7 @@ fds-most kind = go (eqb kind Record.reply)
     go false = omega arith
 
 module _ (last : ℕ) where
-  replies-fit : (l : List Record.Held) (fds : List ℕ) → Store.All Fits l → Store.All (Store.Known last) l → All (ReplyFits last) (withDescriptors l fds)
+  replies-fit : (l : List Record.Held) (fds : List ℕ) → Store.All Fits l → Store.All (Store.Known last) l → Each (ReplyFits last) (withDescriptors l fds)
   unfolding Store.All withDescriptors
   replies-fit [] fds f k = tt
   replies-fit (h ∷ l) fds f k = (
@@ -231,7 +231,7 @@ module _ (last : ℕ) where
     replies-fit l (drop (h .fds) fds) (f .1) (k .1),
   )
 
-  events-fit : (l : List Record.Held) → Store.All Fits l → Store.All (Store.Known last) l → All (EventFits last) (map eventOf l)
+  events-fit : (l : List Record.Held) → Store.All Fits l → Store.All (Store.Known last) l → Each (EventFits last) (map eventOf l)
   unfolding Store.All
   events-fit [] f k = tt
   events-fit (h ∷ l) f k = (record { least = f .0 .least; most = f .0 .most; known = k .0; descriptors = refl }, events-fit l (f .1) (k .1))

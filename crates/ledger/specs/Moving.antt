@@ -101,19 +101,19 @@ discard-used c n m = omega (arith, discarding-used m n (withMode c n m), mode-us
 -- ---- a move: the oldest reply of a number is an error
 
 -- from the replies to the end of the events, at the same cost
-abbrev pub moved : Client → Held → List Held → Client
-moved c h l = Model.close (h .descriptors) (setEvents (setReplies c l) (c .events ++ (asEvent h ∷ [])))
+abbrev pub movedOver : Client → Held → List Held → Client
+movedOver c h l = Model.close (h .descriptors) (setEvents (setReplies c l) (c .events ++ (asEvent h ∷ [])))
 
 module _ (c : Client) (n bytes : ℕ) (h : Held) (l : List Held) (found : find n (c .replies) ≡ at h l) (error : isError h ≡ true) where
-  pub move-gives : pollForReply c n bytes ≡ gives (noReply, moved c h l)
+  pub move-gives : pollForReply c n bytes ≡ gives (noReply, movedOver c h l)
   unfolding pollForReply choose
-  move-gives = ap (repliedBy c bytes) found ∙ (λ i. choose (error i) (gives (noReply, moved c h l)) (refuse (ltb bytes (length (h .packet))) 8 (gives (Model.reply h, Model.close (h .descriptors) (setReplies c l)))))
+  move-gives = ap (repliedBy c bytes) found ∙ (λ i. choose (error i) (gives (noReply, movedOver c h l)) (refuse (ltb bytes (length (h .packet))) 8 (gives (Model.reply h, Model.close (h .descriptors) (setReplies c l)))))
 
   pub move-said : step c (poll-reply n bytes) .said ≡ absent
   unfolding step
   move-said = rw move-gives refl
 
-  pub move-used : used (moved c h l) ≡ used c
+  pub move-used : used (movedOver c h l) ≡ used c
   move-used =
       let k : headerSize + length (h .packet) + costs l ≡ costs (c .replies) = subst (CostsFound (costs (c .replies))) found (costs-find n (c .replies)) in
       omega (arith, costs-append (c .events) (asEvent h ∷ []), costs-one (asEvent h))
@@ -152,5 +152,5 @@ module _ (c : Connection) (r : Rooms) (n : ℕ) where
       → (v : ShownPoll) (c' : Connection) (r' : Rooms) (out' : List ℕ) → PollsReply c r n out (gives (v, c')) r' out' → c' .window .end - c' .window .start ≡ c .window .end - c .window .start
   moves-used out x l found error v c' r' out' h =
       let g = promise-gave _ _ _ c r v c' r' (h .promise) in
-      let e : reads c' r' ≡ moved (reads c r) x l = ap (λ y. y .1) (gives-same (sym (g .model) ∙ move-gives (reads c r) n (length out) x l found error)) in
+      let e : reads c' r' ≡ movedOver (reads c r) x l = ap (λ y. y .1) (gives-same (sym (g .model) ∙ move-gives (reads c r) n (length out) x l found error)) in
       omega (arith, used-read c r (g .was-sound), used-read c' r' (reply-leaves c r c' r' n out v out' h), ap used e, move-used (reads c r) n (length out) x l found error)

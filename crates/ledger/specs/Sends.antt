@@ -25,9 +25,9 @@ numbersFrom k zero = []
 numbersFrom k (suc n) = number k ∷ numbersFrom (k + 1) n
 
 -- sends of any kinds, and as many refusals by 5
-unfoldable pub sends : List ReplyFdKind → List Call
-sends [] = []
-sends (kind ∷ kinds) = send kind ∷ sends kinds
+unfoldable pub sendsOf : List ReplyFdKind → List Call
+sendsOf [] = []
+sendsOf (kind ∷ kinds) = send kind ∷ sendsOf kinds
 
 unfoldable pub allNoRoom : List ReplyFdKind → List Said
 allNoRoom [] = []

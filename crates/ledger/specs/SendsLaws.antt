@@ -28,7 +28,7 @@ use Rattle.honest.specs.Public.{stateOf}
 use Rattle.ledger.specs.Leaving.{send-leaves}
 use Rattle.ledger.specs.Promised.{promise-refuses, promise-gave}
 use Rattle.ledger.specs.RoomLaws.{send-row, false-no-sync}
-use Rattle.ledger.specs.Sends.{mostSends, withoutReply, numbersFrom, sends, allNoRoom, saidOf, SendsRow, none, one}
+use Rattle.ledger.specs.Sends.{mostSends, withoutReply, numbersFrom, sendsOf, allNoRoom, saidOf, SendsRow, none, one}
 
 -- a row after a row
 pub run-append : (c : Client) (xs ys : List Call) → run c (xs ++ ys) .said ≡ run c xs .said ++ run (run c xs .end) ys .said
@@ -37,8 +37,8 @@ run-append c [] ys = refl
 run-append c (x ∷ xs) ys = ap (λ (l : List Said). step c x .said ∷ l) (run-append (step c x .next) xs ys)
 
 -- the client with these numbers and requests, nothing read and nothing held
-abbrev pub after : ℕ → ℕ → ℕ → ℕ → List Request → Client
-after o s w e out = record {
+abbrev pub clientAfter : ℕ → ℕ → ℕ → ℕ → List Request → Client
+clientAfter o s w e out = record {
   order = o;
   most-requests = mostSends;
   most-bytes = s;
@@ -53,21 +53,21 @@ after o s w e out = record {
 module _ (o s w e : ℕ) (out : List Request) (kind : ReplyFdKind) (ends : w < lastNumber) where
   -- a send passes,
   pub send-passes : (hasReply kind ≡ false → w < e + syncSpan) → length out < mostSends
-      → step (after o s w e out) (send kind) ≡ record { said = number (w + 1); next = after o s (w + 1) (choose (hasReply kind) (w + 1) e) (out ++ (joining kind ∷ [])) }
+      → step (clientAfter o s w e out) (send kind) ≡ record { said = number (w + 1); next = clientAfter o s (w + 1) (choose (hasReply kind) (w + 1) e) (out ++ (joining kind ∷ [])) }
   unfolding step refuse
   send-passes sync room =
-      rw (send-row (after o s w e out) kind, lt-leb lastNumber w ends, false-no-sync (hasReply kind) w e sync, lt-leb mostSends (length out) room) refl
+      rw (send-row (clientAfter o s w e out) kind, lt-leb lastNumber w ends, false-no-sync (hasReply kind) w e sync, lt-leb mostSends (length out) room) refl
 
   -- is refused by 6,
-  pub send-synced : hasReply kind ≡ false → e + syncSpan ≤ w → step (after o s w e out) (send kind) ≡ record { said = refused 6; next = after o s w e out }
+  pub send-synced : hasReply kind ≡ false → e + syncSpan ≤ w → step (clientAfter o s w e out) (send kind) ≡ record { said = refused 6; next = clientAfter o s w e out }
   unfolding step refuse both mustSync
-  send-synced without sync = rw (send-row (after o s w e out) kind, lt-leb lastNumber w ends, without, le-leb (e + syncSpan) w sync) refl
+  send-synced without sync = rw (send-row (clientAfter o s w e out) kind, lt-leb lastNumber w ends, without, le-leb (e + syncSpan) w sync) refl
 
   -- or by 5
-  pub send-full : (hasReply kind ≡ false → w < e + syncSpan) → mostSends ≤ length out → step (after o s w e out) (send kind) ≡ record { said = refused 5; next = after o s w e out }
+  pub send-full : (hasReply kind ≡ false → w < e + syncSpan) → mostSends ≤ length out → step (clientAfter o s w e out) (send kind) ≡ record { said = refused 5; next = clientAfter o s w e out }
   unfolding step refuse
   send-full sync room =
-      rw (send-row (after o s w e out) kind, lt-leb lastNumber w ends, false-no-sync (hasReply kind) w e sync, le-leb mostSends (length out) room) refl
+      rw (send-row (clientAfter o s w e out) kind, lt-leb lastNumber w ends, false-no-sync (hasReply kind) w e sync, le-leb mostSends (length out) room) refl
 
 -- ---- rows
 
@@ -75,7 +75,7 @@ module _ (o s w e : ℕ) (out : List Request) (kind : ReplyFdKind) (ends : w < l
 pub record Passes (o s w e : ℕ) (out : List Request) (n : ℕ) : Type 0 where
   pub outstanding : List Request
   pub many : length outstanding ≡ length out + n
-  pub runs : run (after o s w e out) (withoutReply n) ≡ record { said = numbersFrom (w + 1) n; end = after o s (w + n) e outstanding }
+  pub runs : run (clientAfter o s w e out) (withoutReply n) ≡ record { said = numbersFrom (w + 1) n; end = clientAfter o s (w + n) e outstanding }
 
 one-more : (out : List Request) (r : Request) → length (out ++ (r ∷ [])) ≡ length out + 1
 one-more out r = length-append out (r ∷ [])
@@ -84,7 +84,7 @@ pub passes : (o s w e : ℕ) (out : List Request) (n : ℕ) → w + n ≤ e + sy
 unfolding run withoutReply numbersFrom choose
 passes o s w e out zero a b d =
     let i : w + 0 ≡ w = omega arith in
-    record { outstanding = out; many = omega arith; runs = λ k. record { said = []; end = after o s (sym i k) e out } }
+    record { outstanding = out; many = omega arith; runs = λ k. record { said = []; end = clientAfter o s (sym i k) e out } }
 passes o s w e out (suc n) a b d =
     let out' : List Request = out ++ (joining ReplyFdKind.NoReply ∷ []) in
     let l : length out' ≡ length out + 1 = one-more out (joining ReplyFdKind.NoReply) in
@@ -97,16 +97,16 @@ passes o s w e out (suc n) a b d =
       runs =
           (λ k. record { said = here k .said ∷ run (here k .next) (withoutReply n) .said; end = run (here k .next) (withoutReply n) .end })
           ∙ (λ k. record { said = number (w + 1) ∷ rest .runs k .said; end = rest .runs k .end })
-          ∙ (λ k. record { said = number (w + 1) ∷ numbersFrom (w + 1 + 1) n; end = after o s (i k) e (rest .outstanding) });
+          ∙ (λ k. record { said = number (w + 1) ∷ numbersFrom (w + 1 + 1) n; end = clientAfter o s (i k) e (rest .outstanding) });
     }
 
 -- where the room is full every send is refused by 5
-full-sends : (o s w e : ℕ) (out : List Request) (kinds : List ReplyFdKind) → w < lastNumber → w < e + syncSpan → mostSends ≤ length out → run (after o s w e out) (sends kinds) .said ≡ allNoRoom kinds
-unfolding run sends allNoRoom
+full-sends : (o s w e : ℕ) (out : List Request) (kinds : List ReplyFdKind) → w < lastNumber → w < e + syncSpan → mostSends ≤ length out → run (clientAfter o s w e out) (sendsOf kinds) .said ≡ allNoRoom kinds
+unfolding run sendsOf allNoRoom
 full-sends o s w e out [] a b d = refl
 full-sends o s w e out (kind ∷ kinds) a b d =
     let here = send-full o s w e out kind a (λ q. b) d in
-    (λ k. here k .said ∷ run (here k .next) (sends kinds) .said) ∙ ap (λ (l : List Said). refused 5 ∷ l) (full-sends o s w e out kinds a b d)
+    (λ k. here k .said ∷ run (here k .next) (sendsOf kinds) .said) ∙ ap (λ (l : List Said). refused 5 ∷ l) (full-sends o s w e out kinds a b d)
 
 -- ---- a fresh client
 
@@ -121,13 +121,13 @@ run-on c x t xs l e q = (λ k. e k .said ∷ run (e k .next) xs .said) ∙ ap (�
 
 -- those after the 65,534 that passed
 module _ (o s : ℕ) (kind : ReplyFdKind) (reply : hasReply kind ≡ true) (kinds : List ReplyFdKind) (out : List Request) (many : length out ≡ syncSpan) where
-  with-reply : step (after o s syncSpan 0 out) (send kind) ≡ record { said = number 65535; next = after o s 65535 65535 (out ++ (joining kind ∷ [])) }
+  with-reply : step (clientAfter o s syncSpan 0 out) (send kind) ≡ record { said = number 65535; next = clientAfter o s 65535 65535 (out ++ (joining kind ∷ [])) }
   unfolding choose
   with-reply =
       send-passes o s syncSpan 0 out kind (omega arith) (λ q. apart reply q) (omega arith)
-      ∙ (λ k. record { said = number 65535; next = after o s 65535 (choose (reply k) 65535 0) (out ++ (joining kind ∷ [])) })
+      ∙ (λ k. record { said = number 65535; next = clientAfter o s 65535 (choose (reply k) 65535 0) (out ++ (joining kind ∷ [])) })
 
-  pub four : run (after o s syncSpan 0 out) (send ReplyFdKind.NoReply ∷ send kind ∷ send ReplyFdKind.NoReply ∷ sends kinds) .said ≡ refused 6 ∷ number 65535 ∷ number 65536 ∷ allNoRoom kinds
+  pub four : run (clientAfter o s syncSpan 0 out) (send ReplyFdKind.NoReply ∷ send kind ∷ send ReplyFdKind.NoReply ∷ sendsOf kinds) .said ≡ refused 6 ∷ number 65535 ∷ number 65536 ∷ allNoRoom kinds
   unfolding choose
   four =
       let next : List Request = out ++ (joining kind ∷ []) in
@@ -140,12 +140,12 @@ module _ (o s : ℕ) (kind : ReplyFdKind) (reply : hasReply kind ≡ true) (kind
       (full-sends o s 65536 65535 last kinds (omega arith) (omega arith) (omega arith))))
 
 pub fresh-values : (o s : ℕ) (kind : ReplyFdKind) → hasReply kind ≡ true → (kinds : List ReplyFdKind)
-    → run (fresh o mostSends s) (withoutReply 65534 ++ (send ReplyFdKind.NoReply ∷ send kind ∷ send ReplyFdKind.NoReply ∷ sends kinds)) .said
+    → run (fresh o mostSends s) (withoutReply 65534 ++ (send ReplyFdKind.NoReply ∷ send kind ∷ send ReplyFdKind.NoReply ∷ sendsOf kinds)) .said
     ≡ numbersFrom 1 65534 ++ (refused 6 ∷ number 65535 ∷ number 65536 ∷ allNoRoom kinds)
 fresh-values o s kind reply kinds =
     let p : Passes o s 0 0 [] 65534 = passes o s 0 0 [] 65534 (omega arith) (omega arith) (omega arith) in
     run-append (fresh o mostSends s) (withoutReply 65534) _
-    ∙ (λ k. p .runs k .said ++ run (p .runs k .end) (send ReplyFdKind.NoReply ∷ send kind ∷ send ReplyFdKind.NoReply ∷ sends kinds) .said)
+    ∙ (λ k. p .runs k .said ++ run (p .runs k .end) (send ReplyFdKind.NoReply ∷ send kind ∷ send ReplyFdKind.NoReply ∷ sendsOf kinds) .said)
     ∙ ap (λ (l : List Said). numbersFrom 1 65534 ++ l) (four o s kind reply kinds (p .outstanding) (p .many))
 
 -- ---- the public call
@@ -176,5 +176,5 @@ pub opened-said : (o : ℕ) (r : Rooms) (c : Connection) → Opens o r (gives (t
 opened-said o r c h k {xs} row = row-said (opens-sound o r c h) row ∙ ap (λ (y : Client). run y xs .said) (opens-fresh o r c h ∙ ap (λ (n : ℕ). fresh o n (length (r .store))) k)
 
 pub new-values : (o : ℕ) (r : Rooms) (c : Connection) → Opens o r (gives (tt, c)) → length (r .requests) ≡ mostSends → (kind : ReplyFdKind) → hasReply kind ≡ true → (kinds : List ReplyFdKind)
-    → (said : List Said) → SendsRow c r (withoutReply 65534 ++ (send ReplyFdKind.NoReply ∷ send kind ∷ send ReplyFdKind.NoReply ∷ sends kinds)) said → said ≡ numbersFrom 1 65534 ++ (refused 6 ∷ number 65535 ∷ number 65536 ∷ allNoRoom kinds)
+    → (said : List Said) → SendsRow c r (withoutReply 65534 ++ (send ReplyFdKind.NoReply ∷ send kind ∷ send ReplyFdKind.NoReply ∷ sendsOf kinds)) said → said ≡ numbersFrom 1 65534 ++ (refused 6 ∷ number 65535 ∷ number 65536 ∷ allNoRoom kinds)
 new-values o r c h k kind reply kinds said row = opened-said o r c h k row ∙ fresh-values o (length (r .store)) kind reply kinds

@@ -21,7 +21,7 @@ use Rattle.model.specs.Sound.{Sound, soundb}
 use Rattle.model.specs.SendRequests.{Sendings, sendRequests, ShownSendings}
 use Rattle.model.specs.PollForEvents.{Handings, pollForEvents, ShownHandings}
 use Rattle.model.specs.SaysBatch.{saysSentMany, saysEvents}
-use Rattle.model.specs.Feed.{ShownFed, saysFed, Feeding, bytesOf}
+use Rattle.model.specs.Feed.{ShownFed, saysFed, Feeding, bytesTaken}
 use Rattle.model.specs.declared.Connection.{Connection}
 use Rattle.model.specs.declared.DiscardMode.{DiscardMode}
 use Rattle.model.specs.declared.ReplyFdKind.{ReplyFdKind}
@@ -49,7 +49,7 @@ use Rattle.session.specs.Session.{Session}
 use Rattle.session.specs.Theorems as Session
 use Rattle.ledger.specs.Descriptors.{within, accepted, handedOut, acceptedIn, handedIn, Neither, brought, foundWith, foundClosed, sessionAccepted, sessionHanded}
 use Rattle.ledger.specs.Room.{filled, kept, SendShort, PacketShort, NoRoom, added, givenBack, NoDiscard}
-use Rattle.ledger.specs.Sends.{mostSends, withoutReply, numbersFrom, sends, allNoRoom, SendsRow}
+use Rattle.ledger.specs.Sends.{mostSends, withoutReply, numbersFrom, sendsOf, allNoRoom, SendsRow}
 use Rattle.ledger.specs.Encoding.{InRange, Encodes}
 use Rattle.ledger.specs.State.{told, asRead, shownBy, writtenBy, Alike, Same, Ask, AllHeard, Row, Needed, withOrder, withK, withS, withWritten, withExpected, withRead, withOutstanding, withDescribed, withMode, withReplies, withEvents, withWaiting, withClosing}
 use Rattle.ledger.specs.EncodingLaws as EncodingLaws
@@ -329,7 +329,7 @@ poll-for-events-in-order c r out marks v c' r' out' marks' h = Many.events-in-or
 
 -- A run of bytes in two pieces is the run: where `enqueue_packets` stopped for want of bytes, what it left with more behind it brings to the same packets and the same state as all at once.
 pub feed-again : (m : Client) (a b : List ℕ) (f : Feeding) (m' : Client) → gives (f, m') ≡ enqueuePackets m a → Again.Waits (f .stopped)
-    → enqueuePackets m (a ++ b) ≡ Again.after (f .packets) (enqueuePackets m' (drop (bytesOf (f .packets)) a ++ b))
+    → enqueuePackets m (a ++ b) ≡ Again.withTaken (f .packets) (enqueuePackets m' (drop (bytesTaken (f .packets)) a ++ b))
 feed-again m a b f m' e h = Again.again m a b f m' e h
 
 -- ---- 8. A FRESH ENGINE BEHAVES AS THE VALUE TABLE SAYS
@@ -340,13 +340,13 @@ fresh-sends o s n h = SendsLaws.fresh-sends o s n h
 
 -- "65,534 sends without reply pass, the next is 6; one with a reply gets 65,535; one more without passes; any further is 5": whatever kinds follow.
 pub fresh-values : (o s : ℕ) (kind : ReplyFdKind) → hasReply kind ≡ true → (kinds : List ReplyFdKind)
-    → run (fresh o mostSends s) (withoutReply 65534 ++ (send ReplyFdKind.NoReply ∷ send kind ∷ send ReplyFdKind.NoReply ∷ sends kinds)) .said
+    → run (fresh o mostSends s) (withoutReply 65534 ++ (send ReplyFdKind.NoReply ∷ send kind ∷ send ReplyFdKind.NoReply ∷ sendsOf kinds)) .said
     ≡ numbersFrom 1 65534 ++ (refused 6 ∷ number 65535 ∷ number 65536 ∷ allNoRoom kinds)
 fresh-values o s kind reply kinds = SendsLaws.fresh-values o s kind reply kinds
 
 -- The public calls: whatever `send_request` answers after a `new` with such a room is what the model says of the same row, and so that table.
 pub new-values : (o : ℕ) (r : Rooms) (c : Connection) → Opens o r (gives (tt, c)) → length (r .requests) ≡ mostSends → (kind : ReplyFdKind) → hasReply kind ≡ true → (kinds : List ReplyFdKind)
-    → (said : List Said) → SendsRow c r (withoutReply 65534 ++ (send ReplyFdKind.NoReply ∷ send kind ∷ send ReplyFdKind.NoReply ∷ sends kinds)) said → said ≡ numbersFrom 1 65534 ++ (refused 6 ∷ number 65535 ∷ number 65536 ∷ allNoRoom kinds)
+    → (said : List Said) → SendsRow c r (withoutReply 65534 ++ (send ReplyFdKind.NoReply ∷ send kind ∷ send ReplyFdKind.NoReply ∷ sendsOf kinds)) said → said ≡ numbersFrom 1 65534 ++ (refused 6 ∷ number 65535 ∷ number 65536 ∷ allNoRoom kinds)
 new-values o r c h k kind reply kinds said row = SendsLaws.new-values o r c h k kind reply kinds said row
 
 -- ---- 9. WHAT COUNTS AS STATE: what a client's state is read as, all of it and nothing else

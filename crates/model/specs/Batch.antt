@@ -80,7 +80,7 @@ readTurn f (stops w) = stops w
 abbrev pub readMany : {A W S T : Type 0} → (S → T) → Many A W S → Many A W T
 readMany f x = record { values = x .values; stopped = x .stopped; end = f (x .end) }
 
--- P is true of each input
+-- P is true of each of a list
 abbrev pub Each : {X : Type 0} → (X → Type 0) → List X → Type 0
 Each P [] = Unit {0}
 Each P (x ∷ xs) = P x × Each P xs

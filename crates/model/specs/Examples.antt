@@ -252,5 +252,5 @@ abbrev took-two : Feeding
 took-two = record { packets = record { bytes = 32; filing = record { place = Events; number = 1 } } ∷ record { bytes = 36; filing = record { place = Replies; number = 2 } } ∷ []; stopped = partial }
 
 pub feeds : shownFed took-two ≡ record { bytes = 68; packets = 2; stopped = partial }
-unfolding Feed.bytesOf
+unfolding Feed.bytesTaken
 feeds = refl

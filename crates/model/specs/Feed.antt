@@ -32,9 +32,9 @@ pub record Feeding : Type 0 where
   pub stopped : Stopped
 
 -- the bytes of all
-unfoldable pub bytesOf : List Took → ℕ
-bytesOf [] = 0
-bytesOf (t ∷ l) = t .bytes + bytesOf l
+unfoldable pub bytesTaken : List Took → ℕ
+bytesTaken [] = 0
+bytesTaken (t ∷ l) = t .bytes + bytesTaken l
 
 -- ---- a packet as a turn
 
@@ -56,7 +56,7 @@ pub record ShownFed : Type 0 where
   pub stopped : Stopped
 
 abbrev pub shownFed : Feeding → ShownFed
-shownFed m = record { bytes = bytesOf (m .packets); packets = length (m .packets); stopped = m .stopped }
+shownFed m = record { bytes = bytesTaken (m .packets); packets = length (m .packets); stopped = m .stopped }
 
 abbrev pub saysHalt : Halt → Stopped
 saysHalt Halt.End = ended

@@ -1,5 +1,5 @@
 -- What the answers of calls that make many steps say. Assumes nothing.
-use mathlib.Core.Path.{_≡_, refl, sym, ap, _∙_}
+use mathlib.Core.Path.{_≡_, refl, ap}
 use Rattle.refusal.specs.Answer.{Answer, gives, refuses, decides}
 use Rattle.refusal.specs.Numbers.{numberOf, refusalOf, listed}
 use Rattle.model.specs.Batch as Batch
@@ -30,10 +30,6 @@ unfolding backStop
 back-stop Stop.End = refl
 back-stop (Stop.Refused r) = ap Stop.Refused (listed r)
 back-stop Stop.NoKind = refl
-
--- Two stops that say the same are equal.
-pub stop-one : (a b : Stop) → saysStop a ≡ saysStop b → a ≡ b
-stop-one a b e = sym (back-stop a) ∙ ap backStop e ∙ back-stop b
 
 -- ---- `send_requests`
 

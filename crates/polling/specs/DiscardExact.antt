@@ -60,7 +60,45 @@ close-none at d S h =
     ∙ put-same (d .slots) (c .closed) at (omega (arith, S .long, S .most)) in
     λ k. record { slots = e k; counts = record { closed = a k; held = b k; waiting = c .waiting } }
 
-module _ (c : Connection) (n : ℕ) (m : DiscardMode) (q s f : List ℕ) (R : Ready c s f) (q' : List ℕ) (Q : q' ≡ modeSet c q n m) where
+-- ---- where a call stands on its way: the mode is set;
+pub record ModeSet : Type 0 where
+  pub c : Connection
+  pub n : ℕ
+  pub m : DiscardMode
+  pub q : List ℕ
+  pub s : List ℕ
+  pub f : List ℕ
+  pub ready : Ready c s f
+  pub q' : List ℕ
+  pub set : q' ≡ modeSet c q n m
+
+-- a reply of the number is found, and how many there are is known;
+pub record Met (x : ModeSet) : Type 0 where
+  pub p : Place
+  pub found : Found.At p ≡ foundReply (x .n) (x .c .window) (x .s)
+  pub r : ℕ
+  pub k : ℕ
+  pub counted : Counted (x .c) (x .s) (x .n) r k
+
+-- the first of them are gone;
+pub record Half (x : ModeSet) (y : Met x) : Type 0 where
+  pub t : ℕ
+  pub turn : (t ≡ turnOf (x .m) (y .r) (y .k)) × (t ≤ y .r)
+  pub w₁ : Window
+  pub u : ℕ
+  pub s₁ : List ℕ
+  pub first : Sweeps (x .n) (x .m) t (x .c .window) (x .s) w₁ u s₁
+
+-- all are gone.
+pub record Whole (x : ModeSet) (y : Met x) (z : Half x y) : Type 0 where
+  pub w₂ : Window
+  pub v : ℕ
+  pub s₂ : List ℕ
+  pub rest : Sweeps (x .n) (x .m) (y .r - z .t) (z .w₁) (z .s₁) w₂ v s₂
+
+module _ (x : ModeSet) where
+  open ModeSet x using (c, n, m, q, s, f, ready as R, q', set as Q)
+
   abbrev rs : List Record.Held
   rs = Store.replies (c .window) s
 
@@ -102,7 +140,9 @@ module _ (c : Connection) (n : ℕ) (m : DiscardMode) (q s f : List ℕ) (R : Re
   sweepable = record { last = c .read; sound = R .held; few = omega (arith, all-fds, R .slots .most) }
 
   -- Where there is one:
-  module _ (p : Place) (e : Found.At p ≡ foundReply n (c .window) s) (r k t : ℕ) (C : Counted c s n r k) where
+  module _ (y : Met x) where
+    open Met y using (p, found as e, r, k, counted as C)
+
     F : FirstReply n (c .window) s p
     F = subst (FindsReply n (c .window) s) (sym e) (Held.find-reply-law n (c .read) (c .window) s (R .held))
 
@@ -117,7 +157,9 @@ module _ (c : Connection) (n : ℕ) (m : DiscardMode) (q s f : List ℕ) (R : Re
         F .count
         ∙ ap fdsIn (sym (ap (lower n) (F .split) ∙ lower-before n 0 (F .before) (F .it) (F .after) (F .is) (F .none) (subst (Rising 0) (F .split) (R .held .rising))))
 
-    module _ (T : (t ≡ turnOf m r k) × (t ≤ r)) (w₁ : Window) (u : ℕ) (s₁ : List ℕ) (A : Sweeps n m t (c .window) s w₁ u s₁) where
+    module _ (z : Half x y) where
+      open Half z using (t, turn as T, w₁, u, s₁, first as A)
+
       kept : Keeps (c .read) n t (left (c .window) s) (left w₁ s₁)
       kept = subst (Keeps (c .read) n t (left (c .window) s)) (sym (A .leaves)) (cleared-keeps (c .read) n m t (left (c .window) s) (R .held))
 
@@ -130,10 +172,9 @@ module _ (c : Connection) (n : ℕ) (m : DiscardMode) (q s f : List ℕ) (R : Re
       pub sweepable-on : Sweepable n w₁ s₁
       sweepable-on = record { last = c .read; sound = kept .sound; few = omega (arith, ap fdsIn (kept .rest), parts, all-fds, R .slots .most) }
 
-      pub first-long : length s₁ ≡ length s
-      first-long = kept .long
+      module _ (o : Whole x y z) where
+        open Whole o using (w₂, v, s₂, rest as B)
 
-      module _ (w₂ : Window) (v : ℕ) (s₂ : List ℕ) (B : Sweeps n m (r - t) w₁ s₁ w₂ v s₂) where
         rest-is : v ≡ fdsIn (drop t (own n rs))
         rest-is =
             B .counts ∙ ap (λ a. fdsIn (take (r - t) a)) (kept .rest)
@@ -147,8 +188,8 @@ module _ (c : Connection) (n : ℕ) (m : DiscardMode) (q s f : List ℕ) (R : Re
 
         left-is : left w₂ s₂ ≡ discardLeft c (rooms q s f) n m
         left-is =
-            let z : t + (r - t) ≡ r = omega (arith, T .1) in
-            B .leaves ∙ ap (cleared (r - t) m n) (A .leaves) ∙ cleared-add n m t (r - t) (left (c .window) s) ∙ ap (λ (j : ℕ). cleared j m n (left (c .window) s)) (z ∙ C .count-own)
+            let g : t + (r - t) ≡ r = omega (arith, T .1) in
+            B .leaves ∙ ap (cleared (r - t) m n) (A .leaves) ∙ cleared-add n m t (r - t) (left (c .window) s) ∙ ap (λ (j : ℕ). cleared j m n (left (c .window) s)) (g ∙ C .count-own)
 
         pub second-long : length s₂ ≡ length s
         second-long = ap (λ (l : Left). length (l .store)) left-is ∙ cleared-keeps (c .read) n m (length (own n rs)) (left (c .window) s) (R .held) .long
@@ -167,8 +208,8 @@ module _ (c : Connection) (n : ℕ) (m : DiscardMode) (q s f : List ℕ) (R : Re
           pub discard-some : (f₂ : List ℕ) (n₂ : Counts) (a : Connection) → Slots.room f₂ n₂ ≡ Slots.closeHeld (p .before) u (Slots.room f₁ n₁) → a ≡ movedState c w₂ n₂ → DiscardStep c n m q s f a q' s₂ f₂
           unfolding discardExact closedRound
           discard-some f₂ n₂ a D₂ g =
-              let x : u ≡ fdsBefore m n rs = A .counts ∙ ap (λ (j : ℕ). fdsIn (take j (own n rs))) turn-is in
-              let y : v ≡ fdsFrom m n rs = rest-is ∙ ap (λ (j : ℕ). fdsIn (drop j (own n rs))) turn-is in
+              let i : u ≡ fdsBefore m n rs = A .counts ∙ ap (λ (j : ℕ). fdsIn (take j (own n rs))) turn-is in
+              let h : v ≡ fdsFrom m n rs = rest-is ∙ ap (λ (j : ℕ). fdsIn (drop j (own n rs))) turn-is in
               let D : Slots.room f₂ n₂ ≡ discardSlots m n rs d =
-              D₂ ∙ ap (Slots.closeHeld (p .before) u) D₁ ∙ (λ j. Slots.closeHeld (below-is j) (x j) (Slots.closeHeld (below-is j + x j) (y j) d)) in
+              D₂ ∙ ap (Slots.closeHeld (p .before) u) D₁ ∙ (λ j. Slots.closeHeld (below-is j) (i j) (Slots.closeHeld (below-is j + i j) (h j) d)) in
               record { state = g ∙ (λ j. movedState c (left-is j .window) (D j .counts)); leaves = λ j. rooms (Q j) (left-is j .store) (D j .slots) }

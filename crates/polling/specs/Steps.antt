@@ -60,7 +60,17 @@ output-refused f e out n h = ap (λ k. outputOf f k out) h
 
 -- ---- the oldest event
 
-module _ (c : Connection) (s : List ℕ) (H : Store.Sound (c .read) (c .window) s) (p : Place) (e : Found.At p ≡ foundEvent (c .window) s) where
+-- where a call stands that has found it
+pub record MetEvent : Type 0 where
+  pub c : Connection
+  pub s : List ℕ
+  pub sound : Store.Sound (c .read) (c .window) s
+  pub p : Place
+  pub found : Found.At p ≡ foundEvent (c .window) s
+
+module _ (met : MetEvent) where
+  open MetEvent met using (c, s, sound as H, p, found as e)
+
   pub event-found : FirstEvent (c .window) s p
   event-found = subst (FindsEvent (c .window) s) (sym e) (find-event-law (c .window) s)
 
@@ -102,7 +112,19 @@ event-none c s out e =
 
 -- ---- the oldest reply of a number
 
-module _ (c : Connection) (n : ℕ) (s f : List ℕ) (R : Ready c s f) (p : Place) (e : Found.At p ≡ foundReply n (c .window) s) where
+-- where a call stands that has found it
+pub record MetReply : Type 0 where
+  pub c : Connection
+  pub n : ℕ
+  pub s : List ℕ
+  pub f : List ℕ
+  pub ready : Ready c s f
+  pub p : Place
+  pub found : Found.At p ≡ foundReply n (c .window) s
+
+module _ (met : MetReply) where
+  open MetReply met using (c, n, s, f, ready as R, p, found as e)
+
   pub reply-found : FirstReply n (c .window) s p
   reply-found = subst (FindsReply n (c .window) s) (sym e) (find-reply-law n (c .read) (c .window) s (R .held))
 

@@ -21,16 +21,16 @@ abbrev pub movedTo : {A : Type 0} → A → Connection → Rooms → Slots.Room 
 movedTo x c r d = record { value = x; state = movedState c (c .window) (d .counts); left = rooms (r .requests) (r .store) (d .slots) }
 
 -- 5 for over 256 inside; otherwise they wait behind the others.
-unfoldable pub enqueueExact : Connection → Rooms → List ℕ → Answer (Done Unit)
-enqueueExact c r list = refuse (ltb mostDescriptors (Slots.total (c .counts) + length list)) 5 (gives (movedTo tt c r (Slots.enqueue list (slotsOf c r))))
+unfoldable pub enqueueFdsExact : Connection → Rooms → List ℕ → Answer (Done Unit)
+enqueueFdsExact c r list = refuse (ltb mostDescriptors (Slots.total (c .counts) + length list)) 5 (gives (movedTo tt c r (Slots.enqueue list (slotsOf c r))))
 
 -- 8 where the output is too small; otherwise the close list leaves whole.
 unfoldable pub closeExact : Connection → Rooms → ℕ → Answer (Done (List ℕ))
 closeExact c r places = refuse (ltb places (c .counts .closed)) 8 (gives (movedTo (Slots.closing (slotsOf c r)) c r (Slots.takeClosed (slotsOf c r))))
 
 -- The steps are exact, whatever the rooms that they are not lent.
-pub record EnqueueStep (c : Connection) (list f : List ℕ) (a : Next) (f' : List ℕ) : Type 0 where
-  pub exact : (q s : List ℕ) → Exact same (enqueueExact c (rooms q s f) list) (rooms q s f) (saysNext a) (rooms q s f')
+pub record EnqueueFdsStep (c : Connection) (list f : List ℕ) (a : Next) (f' : List ℕ) : Type 0 where
+  pub exact : (q s : List ℕ) → Exact same (enqueueFdsExact c (rooms q s f) list) (rooms q s f) (saysNext a) (rooms q s f')
 
 pub record CloseStep (c : Connection) (f out : List ℕ) (a : Closed) (f' out' : List ℕ) : Type 0 where
   pub exact : (q s : List ℕ) → Exact length (closeExact c (rooms q s f) (length out)) (rooms q s f) (saysClosed a) (rooms q s f')

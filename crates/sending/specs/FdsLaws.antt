@@ -17,22 +17,22 @@ use Rattle.model.specs.declared.Closed.the-variants as Closed
 use Rattle.refusal.specs.declared.Refusal.the-variants as Refusal
 use Rattle.sending.specs.Send.{same}
 use Rattle.model.specs.Moved.{movedState}
-use Rattle.sending.specs.Fds.{movedTo, enqueueExact, closeExact, EnqueueStep, CloseStep}
+use Rattle.sending.specs.Fds.{movedTo, enqueueFdsExact, closeExact, EnqueueFdsStep, CloseStep}
 
 module _ (c : Connection) (list f : List ℕ) where
   -- Over 256 are refused,
-  pub enqueue-full : mostDescriptors < Slots.total (c .counts) + length list → EnqueueStep c list f (Next.Refused Refusal.NoRoom) f
-  unfolding enqueueExact refuse
+  pub enqueue-full : mostDescriptors < Slots.total (c .counts) + length list → EnqueueFdsStep c list f (Next.Refused Refusal.NoRoom) f
+  unfolding enqueueFdsExact refuse
   enqueue-full h = record { exact = λ q s. exact-refused same _ _ 5 (simp (lt-ltb _ _ h)) }
 
   -- otherwise they wait.
   pub enqueue-done : (next : Connection) (n : Counts) (f' : List ℕ) → Slots.total (c .counts) + length list ≤ mostDescriptors → next ≡ movedState c (c .window) n
-      → Slots.room f' n ≡ Slots.enqueue list (Slots.room f (c .counts)) → EnqueueStep c list f (Next.State next) f'
-  unfolding enqueueExact refuse answerOf roomsOf
+      → Slots.room f' n ≡ Slots.enqueue list (Slots.room f (c .counts)) → EnqueueFdsStep c list f (Next.State next) f'
+  unfolding enqueueFdsExact refuse answerOf roomsOf
   enqueue-done next n f' h i e =
       record {
         exact = λ q s.
-            let E : gives (movedTo tt c (rooms q s f) (Slots.enqueue list (slotsOf c (rooms q s f)))) ≡ enqueueExact c (rooms q s f) list = simp (le-ltb _ _ h) in
+            let E : gives (movedTo tt c (rooms q s f) (Slots.enqueue list (slotsOf c (rooms q s f)))) ≡ enqueueFdsExact c (rooms q s f) list = simp (le-ltb _ _ h) in
             record {
               answers = (λ k. gives (tt, i k)) ∙ (λ k. gives (tt, movedState c (c .window) (e k .counts))) ∙ ap (answerOf same) E;
               leaves = (λ k. rooms q s (e k .slots)) ∙ ap (λ y. roomsOf y (rooms q s f)) E;

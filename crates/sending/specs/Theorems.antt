@@ -29,7 +29,7 @@ use Rattle.model.specs.Sound.{Sound, room-there, slots-there}
 use Rattle.model.specs.declared.Connection.{Connection}
 use Rattle.model.specs.declared.ReplyFdKind.{ReplyFdKind}
 use Rattle.sending.specs.Send.{sentState, sendExact}
-use Rattle.sending.specs.Fds.{enqueueExact, closeExact}
+use Rattle.sending.specs.Fds.{enqueueFdsExact, closeExact}
 
 -- ---- sending
 
@@ -143,8 +143,8 @@ module _ (c : Connection) (r : Rooms) (S : Sound c r) where
     enqueue-held = refl
 
     -- DESCRIPTORS that come in are the model's,
-    pub enqueue-model : modelOf (enqueueExact c r list) ≡ enqueueFds (reads c r) list
-    unfolding enqueueExact enqueueFds modelOf reads
+    pub enqueue-model : modelOf (enqueueFdsExact c r list) ≡ enqueueFds (reads c r) list
+    unfolding enqueueFdsExact enqueueFds modelOf reads
     enqueue-model =
         model-refuse (ltb mostDescriptors (Slots.total (c .counts) + length list)) 5 _
         ∙ ap (λ (x : Client). refuse (ltb mostDescriptors (Slots.total (c .counts) + length list)) 5 (gives (tt, x)))
@@ -152,8 +152,8 @@ module _ (c : Connection) (r : Rooms) (S : Sound c r) where
         ∙ ap (λ (n : ℕ). refuse (ltb mostDescriptors (n + length list)) 5 (gives (tt, setWaiting (reads c r) (reads c r .waiting ++ list)))) (sym (inside-read c r S))
 
     -- and leave a sound state.
-    pub enqueue-sound : (d : Done Unit) → gives d ≡ enqueueExact c r list → Sound (d .state) (d .left)
-    unfolding enqueueExact
+    pub enqueue-sound : (d : Done Unit) → gives d ≡ enqueueFdsExact c r list → Sound (d .state) (d .left)
+    unfolding enqueueFdsExact
     enqueue-sound d e =
         let h : Slots.total (c .counts) + length list ≤ mostDescriptors = ltb-false _ _ (gives-past _ _ _ e) in
         subst (λ (x : Done Unit). Sound (x .state) (x .left)) (gives-same (sym (gives-rest _ _ _ e)))

@@ -21,7 +21,7 @@ ghost use Rattle.model.specs.Model.{hasReply, joining};
 ghost use Rattle.model.specs.Sound.{Numbers};
 ghost use Rattle.descriptors.specs.Room as Slots;
 ghost use Rattle.sending.specs.Send.{SendStep, sentState};
-ghost use Rattle.sending.specs.Fds.{EnqueueStep, CloseStep};
+ghost use Rattle.sending.specs.Fds.{EnqueueFdsStep, CloseStep};
 
 // A request is sent. Refused by 3 and 6 as the rule of sending says, then by 5 where the room is
 // full.
@@ -80,7 +80,7 @@ fn numbered(c: Connection, number: SequenceNumber, expected: SequenceNumber) -> 
 // Descriptors come to wait. Refused by 5 for over 256 inside.
 pub fn enqueue_fds(c: Connection, slots: &mut [u32], list: &[u32]) -> Next
     requires { ⌜ Slots.Sound (Slots.room (now slots) (c .counts)) ⌝ }
-    ensures { λ r. ⌜ EnqueueStep c (now (list .entry)) (now (slots .entry)) r (now (slots .exit)) ⌝ }
+    ensures { λ r. ⌜ EnqueueFdsStep c (now (list .entry)) (now (slots .entry)) r (now (slots .exit)) ⌝ }
 {
     let counts = c.counts;
     let inside = counts.closed + counts.held + counts.waiting;

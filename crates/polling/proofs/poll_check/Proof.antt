@@ -1,9 +1,13 @@
 -- `polling::poll_check` meets its contract. Assumes nothing.
 use mathlib.Core.Path.{_∙_, sym}
-use Rattle.polling.specs.Steps.{reply-within, reply-slots, checked-short, checked-given, checked-past, checked-again}
+use Rattle.polling.specs.Steps.{MetReply, reply-within, reply-slots, checked-short, checked-given, checked-past, checked-again}
 use borrow.Author.Needs.{needs}
 use Rattle.polling.proofs.poll_check.Statement.{statement}
 use Rattle.polling.proofs.poll_check.Tie as tie
+
+-- where the reply was found
+abbrev met : tie.After-place → MetReply
+met c = let i = c .before .before .before .before .before .before .before .before .before in record { c = i .args .c; n = _; s = _; f = _; ready = i .pre; p = c .place .given .0 .0; found = sym (c .place .given .1) ∙ c .before .before .find-reply .ensures }
 
 find-reply-requires : tie.Need-find-reply-requires
 find-reply-requires c κs = search needs
@@ -15,16 +19,16 @@ same-length : tie.Need-same-length
 same-length c = search needs
 
 returns : tie.Need-returns
-returns c = checked-short _ _ _ _ (c .before .before .before .before .before .before .before .before .before .before .before .pre) (c .before .before .place .given .0 .0) (sym (c .before .before .place .given .1) ∙ c .before .before .before .before .find-reply .ensures) _ (c .if1 .taken)
+returns c = checked-short (met (c .before .before)) _ (c .if1 .taken)
 
 cast-n : tie.Need-cast-n
 cast-n c = search needs
 
 close-held-requires : tie.Need-close-held-requires
-close-held-requires c κs = reply-slots (c .before .before .before .before .before .before .before .before .before .before .before .before .before .args .c) _ _ _ (c .before .before .before .before .before .before .before .before .before .before .before .before .before .pre) (c .before .before .before .before .place .given .0 .0) (sym (c .before .before .before .before .place .given .1) ∙ c .before .before .before .before .before .before .find-reply .ensures)
+close-held-requires c κs = reply-slots (met (c .before .before .before .before))
 
 take-requires : tie.Need-take-requires
-take-requires c κs = (reply-within (c .before .before .before .before .before .before .before .before .before .before .before .before .before .before .before .before .before .before .args .c) _ _ _ (c .before .before .before .before .before .before .before .before .before .before .before .before .before .before .before .before .before .before .pre) (c .before .before .before .before .before .before .before .before .before .place .given .0 .0) (sym (c .before .before .before .before .before .before .before .before .before .place .given .1) ∙ c .before .before .before .before .before .before .before .before .before .before .before .find-reply .ensures), search needs)
+take-requires c κs = (reply-within (met (c .before .before .before .before .before .before .before .before .before)), search needs)
 
 moved-requires : tie.Need-moved-requires
 moved-requires c κs = search needs
@@ -48,7 +52,7 @@ same-length-5 : tie.Need-same-length-5
 same-length-5 c = search needs
 
 returns-3 : tie.Need-returns-3
-returns-3 c = checked-given _ _ _ _ (c .before .before .before .before .before .before .before .before .before .before .before .before .before .before .before .before .before .before .before .before .before .before .before .before .pre) (c .before .before .before .before .before .before .before .before .before .before .before .before .before .before .before .place .given .0 .0) (sym (c .before .before .before .before .before .before .before .before .before .before .before .before .before .before .before .place .given .1) ∙ c .before .before .before .before .before .before .before .before .before .before .before .before .before .before .before .before .before .find-reply .ensures) _ (c .before .before .before .before .before .before .before .before .before .before .before .before .before .if1 .left) _ _ _ _ _ _ (c .before .before .before .before .before .take .ensures) (c .before .before .before .before .before .before .before .before .before .before .close-held .ensures) (c .moved .ensures)
+returns-3 c = checked-given (met (c .before .before .before .before .before .before .before .before .before .before .before .before .before .before .before)) _ (c .before .before .before .before .before .before .before .before .before .before .before .before .before .if1 .left) _ _ _ _ _ _ (c .before .before .before .before .before .take .ensures) (c .before .before .before .before .before .before .before .before .before .before .close-held .ensures) (c .moved .ensures)
 
 same-length-6 : tie.Need-same-length-6
 same-length-6 c = search needs

@@ -1,9 +1,13 @@
 -- `polling::poll_for_event` meets its contract. Assumes nothing.
 use mathlib.Core.Path.{_∙_, sym}
-use Rattle.polling.specs.Steps.{event-short, event-taken, event-none, event-within}
+use Rattle.polling.specs.Steps.{MetEvent, event-short, event-taken, event-none, event-within}
 use borrow.Author.Needs.{needs}
 use Rattle.polling.proofs.poll_for_event.Statement.{statement}
 use Rattle.polling.proofs.poll_for_event.Tie as tie
+
+-- where the event was found
+abbrev met : tie.After-place → MetEvent
+met c = let i = c .before .before .before .before .before .before .before in record { c = i .args .c; s = _; sound = i .pre; p = c .place .given .0 .0; found = sym (c .place .given .1) ∙ c .before .before .find-event .ensures }
 
 find-event-requires : tie.Need-find-event-requires
 find-event-requires c κs = search needs
@@ -15,10 +19,10 @@ same-length : tie.Need-same-length
 same-length c = search needs
 
 returns : tie.Need-returns
-returns c = event-short _ _ (c .before .before .before .before .before .before .before .before .before .pre) (c .before .before .place .given .0 .0) (sym (c .before .before .place .given .1) ∙ c .before .before .before .before .find-event .ensures) _ (c .if1 .taken)
+returns c = event-short (met (c .before .before)) _ (c .if1 .taken)
 
 take-requires : tie.Need-take-requires
-take-requires c κs = (event-within (c .before .before .before .before .before .before .before .before .before .before .before .args .c) _ (c .before .before .before .before .before .before .before .before .before .before .before .pre) (c .before .before .before .before .place .given .0 .0) (sym (c .before .before .before .before .place .given .1) ∙ c .before .before .before .before .before .before .find-event .ensures), search needs)
+take-requires c κs = (event-within (met (c .before .before .before .before)), search needs)
 
 moved-requires : tie.Need-moved-requires
 moved-requires c κs = search needs
@@ -33,7 +37,7 @@ same-length-3 : tie.Need-same-length-3
 same-length-3 c = search needs
 
 returns-2 : tie.Need-returns-2
-returns-2 c = event-taken _ _ (c .before .before .before .before .before .before .before .before .before .before .before .before .before .before .before .before .before .pre) (c .before .before .before .before .before .before .before .before .before .before .place .given .0 .0) (sym (c .before .before .before .before .before .before .before .before .before .before .place .given .1) ∙ c .before .before .before .before .before .before .before .before .before .before .before .before .find-event .ensures) _ (c .before .before .before .before .before .before .before .before .if1 .left) _ _ _ _ (c .before .before .before .before .before .take .ensures) (c .moved .ensures)
+returns-2 c = event-taken (met (c .before .before .before .before .before .before .before .before .before .before)) _ (c .before .before .before .before .before .before .before .before .if1 .left) _ _ _ _ (c .before .before .before .before .before .take .ensures) (c .moved .ensures)
 
 same-length-4 : tie.Need-same-length-4
 same-length-4 c = search needs

@@ -1,9 +1,13 @@
 -- `polling::poll_for_reply` meets its contract. Assumes nothing.
 use mathlib.Core.Path.{_∙_, sym}
-use Rattle.polling.specs.Steps.{reply-within, reply-slots, reply-byte, replied-error, replied-short, replied-given, replied-none}
+use Rattle.polling.specs.Steps.{MetReply, reply-within, reply-slots, reply-byte, replied-error, replied-short, replied-given, replied-none}
 use borrow.Author.Needs.{needs}
 use Rattle.polling.proofs.poll_for_reply.Statement.{statement}
 use Rattle.polling.proofs.poll_for_reply.Tie as tie
+
+-- where the reply was found
+abbrev met : tie.After-place → MetReply
+met c = let i = c .before .before .before .before .before .before .before .before .before in record { c = i .args .c; n = _; s = _; f = _; ready = i .pre; p = c .place .given .0 .0; found = sym (c .place .given .1) ∙ c .before .before .find-reply .ensures }
 
 find-reply-requires : tie.Need-find-reply-requires
 find-reply-requires c κs = search needs
@@ -15,13 +19,13 @@ cast-n : tie.Need-cast-n
 cast-n c = search needs
 
 first-byte-requires : tie.Need-first-byte-requires
-first-byte-requires c κs = reply-byte (c .before .before .before .before .before .before .before .before .before .before .before .before .args .c) _ _ _ (c .before .before .before .before .before .before .before .before .before .before .before .before .pre) (c .before .before .before .place .given .0 .0) (sym (c .before .before .before .place .given .1) ∙ c .before .before .before .before .before .find-reply .ensures)
+first-byte-requires c κs = reply-byte (met (c .before .before .before))
 
 close-held-requires : tie.Need-close-held-requires
-close-held-requires c κs = reply-slots (c .before .before .before .before .before .before .before .before .before .before .before .before .before .before .before .args .c) _ _ _ (c .before .before .before .before .before .before .before .before .before .before .before .before .before .before .before .pre) (c .before .before .before .before .before .before .place .given .0 .0) (sym (c .before .before .before .before .before .before .place .given .1) ∙ c .before .before .before .before .before .before .before .before .find-reply .ensures)
+close-held-requires c κs = reply-slots (met (c .before .before .before .before .before .before))
 
 demote-requires : tie.Need-demote-requires
-demote-requires c κs = reply-within (c .before .before .before .before .before .before .before .before .before .before .before .before .before .before .before .before .before .before .before .args .c) _ _ _ (c .before .before .before .before .before .before .before .before .before .before .before .before .before .before .before .before .before .before .before .pre) (c .before .before .before .before .before .before .before .before .before .before .place .given .0 .0) (sym (c .before .before .before .before .before .before .before .before .before .before .place .given .1) ∙ c .before .before .before .before .before .before .before .before .before .before .before .before .find-reply .ensures)
+demote-requires c κs = reply-within (met (c .before .before .before .before .before .before .before .before .before .before))
 
 moved-requires : tie.Need-moved-requires
 moved-requires c κs = search needs
@@ -33,19 +37,19 @@ same-length-2 : tie.Need-same-length-2
 same-length-2 c = search needs
 
 returns : tie.Need-returns
-returns c = replied-error _ _ _ _ (c .before .before .before .before .before .before .before .before .before .before .before .before .before .before .before .before .before .before .before .before .before .before .before .pre) (c .before .before .before .before .before .before .before .before .before .before .before .before .before .before .place .given .0 .0) (sym (c .before .before .before .before .before .before .before .before .before .before .before .before .before .before .place .given .1) ∙ c .before .before .before .before .before .before .before .before .before .before .before .before .before .before .before .before .find-reply .ensures) _ _ (c .before .before .before .before .before .before .before .before .before .before .first-byte .ensures) (c .before .before .before .before .before .before .before .before .before .if1 .taken) _ _ _ _ (c .before .before .before .demote .ensures) (c .before .before .before .before .before .before .before .close-held .ensures) (c .moved .ensures)
+returns c = replied-error (met (c .before .before .before .before .before .before .before .before .before .before .before .before .before .before)) _ _ (c .before .before .before .before .before .before .before .before .before .before .first-byte .ensures) (c .before .before .before .before .before .before .before .before .before .if1 .taken) _ _ _ _ (c .before .before .before .demote .ensures) (c .before .before .before .before .before .before .before .close-held .ensures) (c .moved .ensures)
 
 same-length-3 : tie.Need-same-length-3
 same-length-3 c = search needs
 
 returns-2 : tie.Need-returns-2
-returns-2 c = replied-short _ _ _ _ (c .before .before .before .before .before .before .before .before .before .before .before .before .before .before .before .pre) (c .before .before .before .before .before .before .place .given .0 .0) (sym (c .before .before .before .before .before .before .place .given .1) ∙ c .before .before .before .before .before .before .before .before .find-reply .ensures) _ _ (c .before .before .first-byte .ensures) (c .before .if1 .left) (c .if2 .taken)
+returns-2 c = replied-short (met (c .before .before .before .before .before .before)) _ _ (c .before .before .first-byte .ensures) (c .before .if1 .left) (c .if2 .taken)
 
 close-held-requires-2 : tie.Need-close-held-requires-2
-close-held-requires-2 c κs = reply-slots (c .before .before .before .before .before .before .before .before .before .before .before .before .before .before .before .before .args .c) _ _ _ (c .before .before .before .before .before .before .before .before .before .before .before .before .before .before .before .before .pre) (c .before .before .before .before .before .before .before .place .given .0 .0) (sym (c .before .before .before .before .before .before .before .place .given .1) ∙ c .before .before .before .before .before .before .before .before .before .find-reply .ensures)
+close-held-requires-2 c κs = reply-slots (met (c .before .before .before .before .before .before .before))
 
 take-requires : tie.Need-take-requires
-take-requires c κs = (reply-within (c .before .before .before .before .before .before .before .before .before .before .before .before .before .before .before .before .before .before .before .before .before .args .c) _ _ _ (c .before .before .before .before .before .before .before .before .before .before .before .before .before .before .before .before .before .before .before .before .before .pre) (c .before .before .before .before .before .before .before .before .before .before .before .before .place .given .0 .0) (sym (c .before .before .before .before .before .before .before .before .before .before .before .before .place .given .1) ∙ c .before .before .before .before .before .before .before .before .before .before .before .before .before .before .find-reply .ensures), search needs)
+take-requires c κs = (reply-within (met (c .before .before .before .before .before .before .before .before .before .before .before .before)), search needs)
 
 moved-requires-2 : tie.Need-moved-requires-2
 moved-requires-2 c κs = search needs
@@ -63,7 +67,7 @@ same-length-6 : tie.Need-same-length-6
 same-length-6 c = search needs
 
 returns-3 : tie.Need-returns-3
-returns-3 c = replied-given _ _ _ _ (c .before .before .before .before .before .before .before .before .before .before .before .before .before .before .before .before .before .before .before .before .before .before .before .before .before .before .before .pre) (c .before .before .before .before .before .before .before .before .before .before .before .before .before .before .before .before .before .before .place .given .0 .0) (sym (c .before .before .before .before .before .before .before .before .before .before .before .before .before .before .before .before .before .before .place .given .1) ∙ c .before .before .before .before .before .before .before .before .before .before .before .before .before .before .before .before .before .before .before .before .find-reply .ensures) _ _ (c .before .before .before .before .before .before .before .before .before .before .before .before .before .before .first-byte .ensures) (c .before .before .before .before .before .before .before .before .before .before .before .before .before .if1 .left) (c .before .before .before .before .before .before .before .before .before .before .before .before .if2 .left) _ _ _ _ _ _ (c .before .before .before .before .before .take .ensures) (c .before .before .before .before .before .before .before .before .before .before .close-held2 .ensures) (c .moved2 .ensures)
+returns-3 c = replied-given (met (c .before .before .before .before .before .before .before .before .before .before .before .before .before .before .before .before .before .before)) _ _ (c .before .before .before .before .before .before .before .before .before .before .before .before .before .before .first-byte .ensures) (c .before .before .before .before .before .before .before .before .before .before .before .before .before .if1 .left) (c .before .before .before .before .before .before .before .before .before .before .before .before .if2 .left) _ _ _ _ _ _ (c .before .before .before .before .before .take .ensures) (c .before .before .before .before .before .before .before .before .before .before .close-held2 .ensures) (c .moved2 .ensures)
 
 same-length-7 : tie.Need-same-length-7
 same-length-7 c = search needs

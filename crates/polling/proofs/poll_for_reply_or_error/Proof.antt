@@ -1,9 +1,13 @@
 -- `polling::poll_for_reply_or_error` meets its contract. Assumes nothing.
 use mathlib.Core.Path.{_∙_, sym}
-use Rattle.polling.specs.Steps.{reply-within, reply-slots, taken-short, taken-narrow, taken-given, taken-none}
+use Rattle.polling.specs.Steps.{MetReply, reply-within, reply-slots, taken-short, taken-narrow, taken-given, taken-none}
 use borrow.Author.Needs.{needs}
 use Rattle.polling.proofs.poll_for_reply_or_error.Statement.{statement}
 use Rattle.polling.proofs.poll_for_reply_or_error.Tie as tie
+
+-- where the reply was found
+abbrev met : tie.After-place → MetReply
+met c = let i = c .before .before .before .before .before .before .before .before .before .before in record { c = i .args .c; n = _; s = _; f = _; ready = i .pre; p = c .place .given .0 .0; found = sym (c .place .given .1) ∙ c .before .before .find-reply .ensures }
 
 find-reply-requires : tie.Need-find-reply-requires
 find-reply-requires c κs = search needs
@@ -18,19 +22,19 @@ same-length : tie.Need-same-length
 same-length c = search needs
 
 returns : tie.Need-returns
-returns c = taken-short _ _ _ _ (c .before .before .before .before .before .before .before .before .before .before .before .before .before .pre) (c .before .before .before .place .given .0 .0) (sym (c .before .before .before .place .given .1) ∙ c .before .before .before .before .before .find-reply .ensures) _ _ (c .if1 .taken)
+returns c = taken-short (met (c .before .before .before)) _ _ (c .if1 .taken)
 
 same-length-2 : tie.Need-same-length-2
 same-length-2 c = search needs
 
 returns-2 : tie.Need-returns-2
-returns-2 c = taken-narrow _ _ _ _ (c .before .before .before .before .before .before .before .before .before .before .before .before .before .before .pre) (c .before .before .before .before .place .given .0 .0) (sym (c .before .before .before .before .place .given .1) ∙ c .before .before .before .before .before .before .find-reply .ensures) _ _ (c .before .if1 .left) (c .if2 .taken)
+returns-2 c = taken-narrow (met (c .before .before .before .before)) _ _ (c .before .if1 .left) (c .if2 .taken)
 
 hand-out-requires : tie.Need-hand-out-requires
-hand-out-requires c κs = let h = reply-slots (c .before .before .before .before .before .before .before .before .before .before .before .before .before .before .before .before .args .c) _ _ _ (c .before .before .before .before .before .before .before .before .before .before .before .before .before .before .before .before .pre) (c .before .before .before .before .before .before .place .given .0 .0) (sym (c .before .before .before .before .before .before .place .given .1) ∙ c .before .before .before .before .before .before .before .before .find-reply .ensures) in (h .0, h .1, search needs)
+hand-out-requires c κs = let h = reply-slots (met (c .before .before .before .before .before .before)) in (h .0, h .1, search needs)
 
 take-requires : tie.Need-take-requires
-take-requires c κs = (reply-within (c .before .before .before .before .before .before .before .before .before .before .before .before .before .before .before .before .before .before .before .before .before .before .before .args .c) _ _ _ (c .before .before .before .before .before .before .before .before .before .before .before .before .before .before .before .before .before .before .before .before .before .before .before .pre) (c .before .before .before .before .before .before .before .before .before .before .before .before .before .place .given .0 .0) (sym (c .before .before .before .before .before .before .before .before .before .before .before .before .before .place .given .1) ∙ c .before .before .before .before .before .before .before .before .before .before .before .before .before .before .before .find-reply .ensures), search needs)
+take-requires c κs = (reply-within (met (c .before .before .before .before .before .before .before .before .before .before .before .before .before)), search needs)
 
 moved-requires : tie.Need-moved-requires
 moved-requires c κs = search needs
@@ -51,7 +55,7 @@ same-length-6 : tie.Need-same-length-6
 same-length-6 c = search needs
 
 returns-3 : tie.Need-returns-3
-returns-3 c = taken-given _ _ _ _ (c .before .before .before .before .before .before .before .before .before .before .before .before .before .before .before .before .before .before .before .before .before .before .before .before .before .before .before .before .before .pre) (c .before .before .before .before .before .before .before .before .before .before .before .before .before .before .before .before .before .before .before .place .given .0 .0) (sym (c .before .before .before .before .before .before .before .before .before .before .before .before .before .before .before .before .before .before .before .place .given .1) ∙ c .before .before .before .before .before .before .before .before .before .before .before .before .before .before .before .before .before .before .before .before .before .find-reply .ensures) _ _ (c .before .before .before .before .before .before .before .before .before .before .before .before .before .before .before .before .if1 .left) (c .before .before .before .before .before .before .before .before .before .before .before .before .before .before .before .if2 .left) _ _ _ _ _ _ _ (c .before .before .before .before .before .take .ensures) (c .before .before .before .before .before .before .before .before .before .before .before .before .hand-out .ensures) (c .moved .ensures)
+returns-3 c = taken-given (met (c .before .before .before .before .before .before .before .before .before .before .before .before .before .before .before .before .before .before .before)) _ _ (c .before .before .before .before .before .before .before .before .before .before .before .before .before .before .before .before .if1 .left) (c .before .before .before .before .before .before .before .before .before .before .before .before .before .before .before .if2 .left) _ _ _ _ _ _ _ (c .before .before .before .before .before .take .ensures) (c .before .before .before .before .before .before .before .before .before .before .before .before .hand-out .ensures) (c .moved .ensures)
 
 same-length-7 : tie.Need-same-length-7
 same-length-7 c = search needs

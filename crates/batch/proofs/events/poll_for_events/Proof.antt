@@ -4,7 +4,7 @@ use lib.ListN.{length}
 use native.Mathlib.Omega.{arith}
 use mathlib.Core.Path.{_∙_, refl}
 use borrow.Author.Needs.{needs}
-use Rattle.batch.specs.EventsLoop.{Inv, inv-start, inv-asks, inv-end, inv-stop, inv-room, inv-next}
+use Rattle.batch.specs.EventsLoop.{Inv, inv-start, inv-asks, inv-end, inv-stop, inv-next}
 use Rattle.batch.specs.First.{first-told, first-turns}
 use Rattle.batch.proofs.events.poll_for_events.Statement.{statement}
 use Rattle.batch.proofs.events.poll_for_events.Tie as tie
@@ -36,17 +36,17 @@ hand-first-requires c κs = (let z = inv-asks _ _ _ _ _ _ _ _ _ _ (c .before .be
 passed-requires : tie.Need-passed-requires Inv-loop μ-loop
 passed-requires c κs = c .before .before .before .before .hand-first .ensures .room
 
-add-used : tie.Need-add-used Inv-loop μ-loop
-add-used c = omega (arith, inv-room _ _ _ _ _ _ _ _ _ _ (c .before .before .before .before .before .before .before .before .before .before .before .before .loop .inv) _ _ _ _ _ _ _ refl refl (first-turns _ _ _ _ _ _ _ _ _ (c .before .before .before .before .before .hand-first .ensures) _ (c .passed .ensures)), c .before .before .before .before .before .before .before .before .before .before .before .before .before .before)
-
-add-count : tie.Need-add-count Inv-loop μ-loop
-add-count c = omega (arith, inv-room _ _ _ _ _ _ _ _ _ _ (c .before .before .before .before .before .before .before .before .before .before .before .before .loop .inv) _ _ _ _ _ _ _ refl refl (first-turns _ _ _ _ _ _ _ _ _ (c .before .before .before .before .before .hand-first .ensures) _ (c .passed .ensures)), c .before .before .before .before .before .before .before .before .before .before .before .before .before)
-
-loop-less : tie.Need-loop-less Inv-loop μ-loop
-loop-less c = omega (arith, inv-room _ _ _ _ _ _ _ _ _ _ (c .before .before .before .before .before .before .before .before .before .before .before .before .loop .inv) _ _ _ _ _ _ _ refl refl (first-turns _ _ _ _ _ _ _ _ _ (c .before .before .before .before .before .hand-first .ensures) _ (c .passed .ensures)))
-
 loop-again : tie.Need-loop-again Inv-loop μ-loop
 loop-again c = inv-next _ _ _ _ _ _ _ _ _ _ (c .before .before .before .before .before .before .before .before .before .before .before .before .loop .inv) _ _ _ _ _ _ _ refl refl (first-turns _ _ _ _ _ _ _ _ _ (c .before .before .before .before .before .hand-first .ensures) _ (c .passed .ensures))
+
+add-used : tie.Need-add-used Inv-loop μ-loop
+add-used c = omega (arith, loop-again c .used-most, c .before .before .before .before .before .before .before .before .before .before .before .before .before .before)
+
+add-count : tie.Need-add-count Inv-loop μ-loop
+add-count c = omega (arith, loop-again c .marks-most, c .before .before .before .before .before .before .before .before .before .before .before .before .before)
+
+loop-less : tie.Need-loop-less Inv-loop μ-loop
+loop-less c = omega (arith, loop-again c .marks-most)
 
 turn-requires : tie.Need-turn-requires Inv-loop μ-loop
 turn-requires c κs = inv-asks _ _ _ _ _ _ _ _ _ _ (c .before .before .before .before .before .before .loop .inv)
@@ -54,17 +54,17 @@ turn-requires c κs = inv-asks _ _ _ _ _ _ _ _ _ _ (c .before .before .before .b
 enum-known-a : tie.Need-enum-known-a Inv-loop μ-loop
 enum-known-a c = search needs
 
-add-used-2 : tie.Need-add-used-2 Inv-loop μ-loop
-add-used-2 c = omega (arith, inv-room _ _ _ _ _ _ _ _ _ _ (c .before .before .before .before .before .before .before .before .before .before .before .before .before .before .before .before .loop .inv) _ _ _ _ _ _ _ (c .before .a .given .1) (c .before .before .before .before .before .before .before .before .before .turn .kept .1 .0) (c .before .before .before .before .before .before .before .before .before .turn .ensures), c .before .before .before .before .before .before .before .before .before .before .before .before .before .before .before .before .before .before)
-
-add-count-2 : tie.Need-add-count-2 Inv-loop μ-loop
-add-count-2 c = omega (arith, inv-room _ _ _ _ _ _ _ _ _ _ (c .before .before .before .before .before .before .before .before .before .before .before .before .before .before .before .before .loop .inv) _ _ _ _ _ _ _ (c .before .a .given .1) (c .before .before .before .before .before .before .before .before .before .turn .kept .1 .0) (c .before .before .before .before .before .before .before .before .before .turn .ensures), c .before .before .before .before .before .before .before .before .before .before .before .before .before .before .before .before .before)
-
-loop-less-2 : tie.Need-loop-less-2 Inv-loop μ-loop
-loop-less-2 c = omega (arith, inv-room _ _ _ _ _ _ _ _ _ _ (c .before .before .before .before .before .before .before .before .before .before .before .before .before .before .before .before .loop .inv) _ _ _ _ _ _ _ (c .before .a .given .1) (c .before .before .before .before .before .before .before .before .before .turn .kept .1 .0) (c .before .before .before .before .before .before .before .before .before .turn .ensures))
-
 loop-again-2 : tie.Need-loop-again-2 Inv-loop μ-loop
 loop-again-2 c = inv-next _ _ _ _ _ _ _ _ _ _ (c .before .before .before .before .before .before .before .before .before .before .before .before .before .before .before .before .loop .inv) _ _ _ _ _ _ _ (c .before .a .given .1) (c .before .before .before .before .before .before .before .before .before .turn .kept .1 .0) (c .before .before .before .before .before .before .before .before .before .turn .ensures)
+
+add-used-2 : tie.Need-add-used-2 Inv-loop μ-loop
+add-used-2 c = omega (arith, loop-again-2 c .used-most, c .before .before .before .before .before .before .before .before .before .before .before .before .before .before .before .before .before .before)
+
+add-count-2 : tie.Need-add-count-2 Inv-loop μ-loop
+add-count-2 c = omega (arith, loop-again-2 c .marks-most, c .before .before .before .before .before .before .before .before .before .before .before .before .before .before .before .before .before)
+
+loop-less-2 : tie.Need-loop-less-2 Inv-loop μ-loop
+loop-less-2 c = omega (arith, loop-again-2 c .marks-most)
 
 enum-told : tie.Need-enum-told Inv-loop μ-loop
 enum-told c = search needs

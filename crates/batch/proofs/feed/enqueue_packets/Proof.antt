@@ -5,7 +5,7 @@ use native.Mathlib.Omega.{arith}
 use mathlib.Core.Path.{refl}
 use borrow.Author.Needs.{needs}
 use Rattle.intake.specs.Theorems.{ready}
-use Rattle.batch.specs.FeedLoop.{Inv, inv-start, inv-end, inv-stop, inv-least, inv-fits, inv-next}
+use Rattle.batch.specs.FeedLoop.{Inv, inv-start, inv-end, inv-stop, inv-least, inv-next}
 use Rattle.batch.specs.Plain.{ahead-event, sound-writable}
 use Rattle.batch.proofs.feed.enqueue_packets.Statement.{statement}
 use Rattle.batch.proofs.feed.enqueue_packets.Tie as tie
@@ -37,17 +37,17 @@ enum-known-number c = search needs
 plain-turn-requires : tie.Need-plain-turn-requires Inv-loop μ-loop
 plain-turn-requires c κs = (sound-writable _ _ _ _ (c .before .before .before .before .before .before .before .before .loop .inv .sound), ahead-event _ _ _ _ _ (c .before .before .before .before .plain-ahead .ensures) (c .before .before .number .given .1))
 
+loop-again : tie.Need-loop-again Inv-loop μ-loop
+loop-again c = inv-next _ _ _ _ _ _ _ _ _ _ (c .before .before .before .before .before .before .before .before .before .before .before .loop .inv) _ _ _ (c .before .before .plain-turn .ensures .turn _ _ _) _ _ refl (λ i. omega (arith, c .before .before .before .before .before .before .before .before .before .before .before .before .shared-slice-known2 .given i)) (c .before .before .plain-turn .kept .1 .0) refl
+
 add-at : tie.Need-add-at Inv-loop μ-loop
-add-at c = omega (arith, inv-fits _ _ _ _ _ _ _ _ _ _ (c .before .before .before .before .before .before .before .before .before .before .before .loop .inv) _ _ _ (c .before .before .plain-turn .ensures .turn _ _ _) _ _ refl, c .before .before .before .before .before .before .before .before .before .before .before .before .before .before .before .before .good)
+add-at c = omega (arith, loop-again c .within, c .before .before .before .before .before .before .before .before .before .before .before .before .before .before .before .before .good)
 
 add-packets : tie.Need-add-packets Inv-loop μ-loop
 add-packets c = omega (arith, c .before .before .before .before .before .before .before .before .before .before .before .loop .inv .few, c .before .before .before .before .before .before .before .before .before .before .loop-test .taken, c .before .before .before .before .before .before .before .before .before .before .before .before .before .before .before .before .good)
 
 loop-less : tie.Need-loop-less Inv-loop μ-loop
-loop-less c = omega (arith, inv-fits _ _ _ _ _ _ _ _ _ _ (c .before .before .before .before .before .before .before .before .before .before .before .loop .inv) _ _ _ (c .before .before .plain-turn .ensures .turn _ _ _) _ _ refl)
-
-loop-again : tie.Need-loop-again Inv-loop μ-loop
-loop-again c = inv-next _ _ _ _ _ _ _ _ _ _ (c .before .before .before .before .before .before .before .before .before .before .before .loop .inv) _ _ _ (c .before .before .plain-turn .ensures .turn _ _ _) _ _ refl (λ i. omega (arith, c .before .before .before .before .before .before .before .before .before .before .before .before .shared-slice-known2 .given i)) (c .before .before .plain-turn .kept .1 .0) refl
+loop-less c = omega (arith, loop-again c .within)
 
 enum-told : tie.Need-enum-told Inv-loop μ-loop
 enum-told c = search needs
@@ -58,17 +58,17 @@ front-turn-requires c κs = ready _ _ (c .before .before .before .before .before
 enum-known-n : tie.Need-enum-known-n Inv-loop μ-loop
 enum-known-n c = search needs
 
+loop-again-2 : tie.Need-loop-again-2 Inv-loop μ-loop
+loop-again-2 c = inv-next _ _ _ _ _ _ _ _ _ _ (c .before .before .before .before .before .before .before .before .before .before .before .before .before .before .before .before .loop .inv) _ _ _ (c .before .before .before .before .before .before .before .front-turn .ensures) _ _ (c .before .n .given .1) (λ i. omega (arith, c .before .before .before .before .before .before .before .before .before .before .before .before .before .before .before .before .before .shared-slice-known2 .given i)) (c .before .before .before .before .before .before .before .front-turn .kept .1 .1 .1 .0) (c .before .before .before .before .before .before .before .front-turn .kept .1 .1 .1 .1 .0)
+
 add-at-2 : tie.Need-add-at-2 Inv-loop μ-loop
-add-at-2 c = omega (arith, inv-fits _ _ _ _ _ _ _ _ _ _ (c .before .before .before .before .before .before .before .before .before .before .before .before .before .before .before .before .loop .inv) _ _ _ (c .before .before .before .before .before .before .before .front-turn .ensures) _ _ (c .before .n .given .1), c .before .before .before .before .before .before .before .before .before .before .before .before .before .before .before .before .before .before .before .before .before .good)
+add-at-2 c = omega (arith, loop-again-2 c .within, c .before .before .before .before .before .before .before .before .before .before .before .before .before .before .before .before .before .before .before .before .before .good)
 
 add-packets-2 : tie.Need-add-packets-2 Inv-loop μ-loop
 add-packets-2 c = omega (arith, c .before .before .before .before .before .before .before .before .before .before .before .before .before .before .before .before .loop .inv .few, c .before .before .before .before .before .before .before .before .before .before .before .before .before .before .before .loop-test .taken, c .before .before .before .before .before .before .before .before .before .before .before .before .before .before .before .before .before .before .before .before .before .good)
 
 loop-less-2 : tie.Need-loop-less-2 Inv-loop μ-loop
-loop-less-2 c = omega (arith, inv-fits _ _ _ _ _ _ _ _ _ _ (c .before .before .before .before .before .before .before .before .before .before .before .before .before .before .before .before .loop .inv) _ _ _ (c .before .before .before .before .before .before .before .front-turn .ensures) _ _ (c .before .n .given .1), inv-least _ _ _ _ _ _ _ _ _ _ (c .before .before .before .before .before .before .before .before .before .before .before .before .before .before .before .before .loop .inv) _ _ _ (c .before .before .before .before .before .before .before .front-turn .ensures) _ _ (c .before .n .given .1))
-
-loop-again-2 : tie.Need-loop-again-2 Inv-loop μ-loop
-loop-again-2 c = inv-next _ _ _ _ _ _ _ _ _ _ (c .before .before .before .before .before .before .before .before .before .before .before .before .before .before .before .before .loop .inv) _ _ _ (c .before .before .before .before .before .before .before .front-turn .ensures) _ _ (c .before .n .given .1) (λ i. omega (arith, c .before .before .before .before .before .before .before .before .before .before .before .before .before .before .before .before .before .shared-slice-known2 .given i)) (c .before .before .before .before .before .before .before .front-turn .kept .1 .1 .1 .0) (c .before .before .before .before .before .before .before .front-turn .kept .1 .1 .1 .1 .0)
+loop-less-2 c = omega (arith, loop-again-2 c .within, inv-least _ _ _ _ _ _ _ _ _ _ (c .before .before .before .before .before .before .before .before .before .before .before .before .before .before .before .before .loop .inv) _ _ _ (c .before .before .before .before .before .before .before .front-turn .ensures) _ _ (c .before .n .given .1))
 
 enum-known-halt : tie.Need-enum-known-halt Inv-loop μ-loop
 enum-known-halt c = search needs

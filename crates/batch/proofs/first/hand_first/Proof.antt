@@ -2,22 +2,26 @@
 use mathlib.Core.Path.{refl}
 use native.Mathlib.Omega.{arith}
 use lib.ListN.{length-set}
-use Rattle.batch.specs.First.{first-within, first-turn}
+use Rattle.batch.specs.First.{FirstWithin, first-within, first-turn}
 use borrow.Author.Needs.{needs}
 use Rattle.batch.proofs.first.hand_first.Statement.{statement}
 use Rattle.batch.proofs.first.hand_first.Tie as tie
 
+-- the oldest record lies in the store
+within : (c : tie.Start) → FirstWithin (c .args .c) (c .args .store .now)
+within c = first-within _ _ (c .pre .0) (c .pre .3 .some)
+
 length-at-requires : tie.Need-length-at-requires
-length-at-requires c κs = omega (arith, first-within (c .before .before .before .before .args .c) (c .before .before .before .before .args .store .now) (c .before .before .before .before .pre .0) (c .before .before .before .before .pre .3 .some) .0)
+length-at-requires c κs = omega (arith, within (c .before .before .before .before))
 
 number-at-requires : tie.Need-number-at-requires
-number-at-requires c κs = omega (arith, first-within (c .before .before .before .before .before .args .c) (c .before .before .before .before .before .args .store .now) (c .before .before .before .before .before .pre .0) (c .before .before .before .before .before .pre .3 .some) .0)
+number-at-requires c κs = omega (arith, within (c .before .before .before .before .before))
 
 add-from : tie.Need-add-from
-add-from c = omega (arith, first-within (c .before .before .before .before .before .before .args .c) (c .before .before .before .before .before .before .args .store .now) (c .before .before .before .before .before .before .pre .0) (c .before .before .before .before .before .before .pre .3 .some) .0)
+add-from c = omega (arith, within (c .before .before .before .before .before .before))
 
 add-end : tie.Need-add-end
-add-end c = omega (arith, c .before .length-at .ensures, first-within (c .before .before .before .before .before .before .args .c) (c .before .before .before .before .before .before .args .store .now) (c .before .before .before .before .before .before .pre .0) (c .before .before .before .before .before .before .pre .3 .some) .1)
+add-end c = omega (arith, c .before .length-at .ensures, within (c .before .before .before .before .before .before))
 
 sub-copy-in : tie.Need-sub-copy-in
 sub-copy-in c = search needs
@@ -26,7 +30,7 @@ part-copy-in-start : tie.Need-part-copy-in-start
 part-copy-in-start c = search needs
 
 part-copy-in-end : tie.Need-part-copy-in-end
-part-copy-in-end c = omega (arith, c .before .before .length-at .ensures, first-within (c .before .before .before .before .before .before .before .args .c) (c .before .before .before .before .before .before .before .args .store .now) (c .before .before .before .before .before .before .before .pre .0) (c .before .before .before .before .before .before .before .pre .3 .some) .1)
+part-copy-in-end c = omega (arith, c .before .before .length-at .ensures, within (c .before .before .before .before .before .before .before))
 
 copy-in-requires : tie.Need-copy-in-requires
 copy-in-requires c κs = search needs

@@ -12,13 +12,13 @@ returns-2 : tie.Need-returns-2
 returns-2 c = search needs
 
 kind-at-requires : tie.Need-kind-at-requires
-kind-at-requires c κs = omega (arith, first-within (c .before .before .before .before .before .args .c) (c .before .before .before .before .before .args .store .now) (c .before .before .before .before .before .pre) (omega arith) .0)
+kind-at-requires c κs = omega (arith, first-within (c .before .before .before .before .before .args .c) (c .before .before .before .before .before .args .store .now) (c .before .before .before .before .before .pre) (omega arith))
 
 returns-3 : tie.Need-returns-3
 returns-3 c = search needs
 
 length-at-requires : tie.Need-length-at-requires
-length-at-requires c κs = omega (arith, first-within (c .before .before .before .before .before .before .before .args .c) (c .before .before .before .before .before .before .before .args .store .now) (c .before .before .before .before .before .before .before .pre) (omega arith) .0)
+length-at-requires c κs = omega (arith, first-within (c .before .before .before .before .before .before .before .args .c) (c .before .before .before .before .before .before .before .args .store .now) (c .before .before .before .before .before .before .before .pre) (omega arith))
 
 returns-4 : tie.Need-returns-4
 returns-4 c = search needs
