@@ -21,6 +21,9 @@ use Rattle.connect.specs.Setup.{Reading, vendorPlace, reasonPlace}
 use Rattle.connect.specs.declared.handshake.Connect.{Connect}
 use Rattle.connect.specs.declared.reply.Setup.{Setup}
 use Rattle.connect.specs.declared.reply.SetupFailed.{SetupFailed}
+use Rattle.requests.specs.declared.Mode.{Mode}
+use Rattle.requests.specs.declared.Mode.the-variants as Mode
+use Rattle.held.specs.Head as Head
 use Rattle.model.specs.Model.{Filing}
 use Rattle.model.specs.Says.{Shown, none, packet, ShownPoll, again, noReply, reply, ShownEvent, noEvent, event as anEvent}
 use Rattle.model.specs.Batch.{Stop, ended, refused, meaningless}
@@ -213,6 +216,18 @@ isMode n = either (eqb n 1) (eqb n 2)
 
 unfoldable pub modeOf : ℕ → DiscardMode
 modeOf n = choose (eqb n 1) DiscardMode.DiscardReply DiscardMode.DiscardReplyAndError
+
+-- ---- what the rooms hold
+
+-- what becomes of the answers of a request: 0 where nothing is discarded, 1 for DiscardReply, 2 for DiscardReplyAndError
+abbrev pub modeNumber : Mode → ℕ
+modeNumber Mode.Keep = 0
+modeNumber Mode.DiscardReply = 1
+modeNumber Mode.DiscardReplyAndError = 2
+
+-- what a held record is: 0 for a reply, 1 for an event
+unfoldable pub kindNumber : ℕ → ℕ
+kindNumber kind = choose (eqb kind Head.event) 1 0
 
 -- ---- laws
 
