@@ -3,6 +3,7 @@ use mathlib.Core.Path.{_≡_, refl, subst, sym, ap, _∙_}
 use mathlib.Core.Bool.{Bool, true, false}
 use mathlib.Core.List.{List}
 use Prim.Native.Nat.{ℕ}
+use lib.ListN.{getD}
 use Rattle.octets.specs.Logic.{apart}
 use Rattle.refusal.specs.Answer.{Answer, gives, refuses}
 
@@ -61,22 +62,35 @@ kept-by a p c w t = record { exported = record { answer = a; promise = p; number
 pub exported-by : {A : Type 0} {P : Answer A → Type 0} {show : A → List ℕ} {v v' : List ℕ} {code : ℕ} (a : Answer A) → P a → code ≡ codeOf a → v' ≡ shownOf show a v → Exported P show v v' code
 exported-by a p c w = record { answer = a; promise = p; number = c; values = w }
 
--- Two outcomes of an export, whose promises P and Q name their rooms: where these allow one answer, equal are the number returned, the numbers shown,
-pub exported-one : {A : Type 0} {P Q : Answer A → Type 0} {show : A → List ℕ} {v u w : List ℕ} {i j : ℕ} → ((a b : Answer A) → P a → Q b → a ≡ b) → Exported P show v u i → Exported Q show v w j → (i ≡ j) × (u ≡ w)
-exported-one {A} {show = show} {v = v} one x y =
+-- Two outcomes of an export, where what the one and the other promise allow one answer: equal are the number returned and the numbers shown,
+pub exported-one : {A : Type 0} {P Q : Answer A → Type 0} {show : A → List ℕ} {v u w : List ℕ} {i j : ℕ} → Exported P show v u i → Exported Q show v w j → ((a b : Answer A) → P a → Q b → a ≡ b) → (i ≡ j) × (u ≡ w)
+exported-one {A} {show = show} {v = v} x y one =
     let e : x .answer ≡ y .answer = one (x .answer) (y .answer) (x .promise) (y .promise) in
     (x .number ∙ ap (λ (a : Answer A). codeOf a) e ∙ sym (y .number), x .values ∙ ap (λ (a : Answer A). shownOf show a v) e ∙ sym (y .values))
 
 -- and the row.
-pub kept-one : {A : Type 0} {P Q : Answer A → Type 0} {show put : A → List ℕ} {v u w s t z : List ℕ} {i j : ℕ} → ((a b : Answer A) → P a → Q b → a ≡ b) → Kept P show put v u s t i → Kept Q show put v w s z j
+pub kept-one : {A : Type 0} {P Q : Answer A → Type 0} {show put : A → List ℕ} {v u w s t z : List ℕ} {i j : ℕ} → Kept P show put v u s t i → Kept Q show put v w s z j → ((a b : Answer A) → P a → Q b → a ≡ b)
     → (i ≡ j) × (u ≡ w) × (t ≡ z)
-kept-one {A} {put = put} {s = s} one x y =
+kept-one {A} {put = put} {s = s} x y one =
     let e : x .exported .answer ≡ y .exported .answer = one (x .exported .answer) (y .exported .answer) (x .exported .promise) (y .exported .promise) in
-    let k = exported-one one (x .exported) (y .exported) in
+    let k = exported-one (x .exported) (y .exported) one in
     (k .0, k .1, x .state ∙ ap (λ (a : Answer A). shownOf put a s) e ∙ sym (y .state))
 
--- A promise behind a test allows one answer where the promise itself does.
-pub when-one : {A : Type 0} {b : Bool} {same alike : Type 0} {P Q : Answer A → Type 0} → ((x y : Answer A) → P x → Q y → x ≡ y) → (x y : Answer A) → When b same P x → When b alike Q y → x ≡ y
+-- The same where they speak of rooms and outputs at exit too: with the answers come the equations L of what is left there.
+pub exported-left : {A L : Type 0} {P Q : Answer A → Type 0} {show : A → List ℕ} {v u w : List ℕ} {i j : ℕ} → Exported P show v u i → Exported Q show v w j → ((a b : Answer A) → P a → Q b → (a ≡ b) × L)
+    → (i ≡ j) × (u ≡ w) × L
+exported-left x y one =
+    let k = exported-one x y (λ a b p q. one a b p q .0) in
+    (k .0, k .1, one (x .answer) (y .answer) (x .promise) (y .promise) .1)
+
+pub kept-left : {A L : Type 0} {P Q : Answer A → Type 0} {show put : A → List ℕ} {v u w s t z : List ℕ} {i j : ℕ} → Kept P show put v u s t i → Kept Q show put v w s z j → ((a b : Answer A) → P a → Q b → (a ≡ b) × L)
+    → (i ≡ j) × (u ≡ w) × (t ≡ z) × L
+kept-left x y one =
+    let k = kept-one x y (λ a b p q. one a b p q .0) in
+    (k .0, k .1, k .2, one (x .exported .answer) (y .exported .answer) (x .exported .promise) (y .exported .promise) .1)
+
+-- A promise behind a test allows one answer where the promise itself does,
+pub when-one : {A : Type 0} {b : Bool} {same same' : Type 0} {P Q : Answer A → Type 0} → ((x y : Answer A) → P x → Q y → x ≡ y) → (x y : Answer A) → When b same P x → When b same' Q y → x ≡ y
 when-one one x y (on h p) (on k q) = one x y p q
 when-one one x y (on h p) (off k s) = apart h k
 when-one one x y (off h s) (on k q) = apart k h
@@ -86,3 +100,15 @@ when-one one x y (off h s) (off k t) = refl
 pub when-off : {A : Type 0} {b : Bool} {same : Type 0} {P : Answer A → Type 0} {x : Answer A} → b ≡ false → When b same P x → (x ≡ refuses 9) × same
 when-off e (on h p) = apart h e
 when-off e (off h s) = (refl, s)
+
+-- and leaves the same where the promise does and all is left as found otherwise.
+pub when-left : {A L : Type 0} {b : Bool} {same same' : Type 0} {P Q : Answer A → Type 0} → (same → same' → L) → ((x y : Answer A) → P x → Q y → (x ≡ y) × L) → (x y : Answer A)
+    → When b same P x → When b same' Q y → (x ≡ y) × L
+when-left both one x y (on h p) (on k q) = one x y p q
+when-left both one x y (on h p) (off k s) = apart h k
+when-left both one x y (off h s) (on k q) = apart k h
+when-left both one x y (off h s) (off k t) = (refl, both s t)
+
+-- one of the numbers shown
+pub shown-at : {u w : List ℕ} (i : ℕ) → u ≡ w → getD u i 0 ≡ getD w i 0
+shown-at i e = ap (λ (l : List ℕ). getD l i 0) e

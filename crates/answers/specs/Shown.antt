@@ -22,8 +22,11 @@ use Rattle.connect.specs.declared.handshake.Connect.{Connect}
 use Rattle.connect.specs.declared.reply.Setup.{Setup}
 use Rattle.connect.specs.declared.reply.SetupFailed.{SetupFailed}
 use Rattle.connect.specs.declared.reply.SetupAuthenticate.{SetupAuthenticate}
-use Rattle.requests.specs.Room.{modeNumber}
+use Rattle.requests.specs.Room as Requests
 use Rattle.model.specs.Model as Model
+use Rattle.requests.specs.declared.Mode.{Mode}
+use Rattle.requests.specs.declared.Mode.the-variants as Mode
+use Rattle.held.specs.Head as Head
 use Rattle.model.specs.Model.{Filing}
 use Rattle.model.specs.Says.{Shown, none, packet, ShownPoll, again, noReply, reply, ShownEvent, noEvent, event as anEvent}
 use Rattle.model.specs.Batch.{Stop, ended, refused, meaningless}
@@ -213,6 +216,18 @@ isMode n = either (eqb n 1) (eqb n 2)
 unfoldable pub modeOf : ℕ → DiscardMode
 modeOf n = choose (eqb n 1) DiscardMode.DiscardReply DiscardMode.DiscardReplyAndError
 
+-- ---- what the rooms hold
+
+-- what becomes of the answers of a request: 0 where nothing is discarded, 1 for DiscardReply, 2 for DiscardReplyAndError
+abbrev pub modeNumber : Mode → ℕ
+modeNumber Mode.Keep = 0
+modeNumber Mode.DiscardReply = 1
+modeNumber Mode.DiscardReplyAndError = 2
+
+-- what a held record is: 0 for a reply, 1 for an event
+unfoldable pub kindNumber : ℕ → ℕ
+kindNumber kind = choose (eqb kind Head.event) 1 0
+
 -- ---- laws
 
 -- a row of another length, and one of the right length
@@ -260,13 +275,6 @@ mode-kept n h = go (eqb n 1) refl h
     go : (b : Bool) → eqb n 1 ≡ b → either b (eqb n 2) ≡ true → modeNumber (Model.modeOf (choose b DiscardMode.DiscardReply DiscardMode.DiscardReplyAndError)) ≡ n
     go true e k = sym (eqb-true n 1 e)
     go false e k = sym (eqb-true n 2 k)
-
--- A kind means the same to a call that makes many steps.
-pub kind-same : (n : ℕ) → kindOf n ≡ SendRequests.kindOf n
-unfolding kindOf choose
-kind-same zero = refl
-kind-same (suc zero) = refl
-kind-same (suc (suc n)) = simp (ne-eqb (suc (suc n)) 0 (λ e. omega (arith, e)), ne-eqb (suc (suc n)) 1 (λ e. omega (arith, e)))
 
 -- ---- What is shown tells what was given: two that show the same are the same.
 

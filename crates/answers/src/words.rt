@@ -1,10 +1,9 @@
 // The numbers that stand for kinds, modes, places and what stopped a call, and what they mean.
 ghost use mathlib.Core.Path.{_≡_};
-ghost use Rattle.requests.specs.Room.{modeNumber};
 ghost use Rattle.model.specs.SaysBatch.{saysStop};
 ghost use Rattle.model.specs.SendRequests.{kindOf};
 ghost use Rattle.model.specs.Feed.{saysHalt};
-ghost use Rattle.answers.specs.Shown.{placeNumber, stopNumber, haltNumber, modeOf, isMode};
+ghost use Rattle.answers.specs.Shown.{placeNumber, stopNumber, haltNumber, modeOf, isMode, modeNumber, kindNumber};
 use crate::code;
 use model::DiscardMode;
 use model::Halt;
@@ -60,6 +59,13 @@ pub fn mode_number(mode: Mode) -> u8
         Mode::DiscardReply => 1,
         Mode::DiscardReplyAndError => 2,
     }
+}
+
+// 0 for a held reply, 1 for a held event.
+pub fn kind_number(kind: u8) -> u8
+    ensures { λ r. ⌜ r ≡ kindNumber kind ⌝ }
+{
+    if kind == held::EVENT { 1 } else { 0 }
 }
 
 pub fn place_number(place: Place) -> u8

@@ -45,7 +45,7 @@ pub fn line(
     slots: &mut [u32],
     bytes: &mut [u8],
 ) -> Done {
-    let k = start.connection.capacity;
+    let k = requests::bytes_for(start.connection.capacity);
     let s = start.connection.room;
     if requests.len() < k {
         return start;

@@ -9,6 +9,7 @@ use model::Event;
 use model::PollReply;
 use model::Polled;
 use script::Op;
+use sequence::SequenceNumber;
 
 // The bytes from one index to another are a packet.
 pub(crate) fn intake(
@@ -42,7 +43,7 @@ pub(crate) fn reply(
     slots: &mut [u32],
     bytes: &mut [u8],
 ) -> Called {
-    let n = op.a;
+    let n = SequenceNumber(op.a);
     if op.code == script::POLL_CHECK {
         return replied(
             c,
@@ -108,7 +109,7 @@ pub(crate) fn reply_or_error(
         requests,
         store,
         slots,
-        number,
+        SequenceNumber(number),
         bytes,
         list,
     );

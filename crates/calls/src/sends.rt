@@ -9,6 +9,7 @@ use model::Sent;
 use refusal::Refusal;
 use script::Bytes;
 use script::Op;
+use sequence::SequenceNumber;
 use text::Answer;
 
 pub(crate) fn with(connection: Connection, answer: Answer) -> Called {
@@ -145,7 +146,7 @@ pub(crate) fn discard(
     let mode = mode_of(op.b);
     next(
         c,
-        connection::discard_reply(c, requests, store, slots, op.a, mode),
+        connection::discard_reply(c, requests, store, slots, SequenceNumber(op.a), mode),
     )
 }
 
@@ -156,7 +157,13 @@ pub(crate) fn prepare(
     store: &[u8],
     slots: &[u32],
 ) -> Called {
-    match connection::prepare_check_for_reply_or_error(c, requests, store, slots, number) {
+    match connection::prepare_check_for_reply_or_error(
+        c,
+        requests,
+        store,
+        slots,
+        SequenceNumber(number),
+    ) {
         Prepared::Answer(yes) => with(c, text::whether(yes)),
         Prepared::Refused(refusal) => refused(c, refusal),
     }

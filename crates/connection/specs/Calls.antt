@@ -8,6 +8,7 @@ use lib.ListN.{length}
 use Rattle.octets.specs.Bytes.{legal}
 use Rattle.refusal.specs.Answer.{Answer, gives, refuse, pass}
 use Rattle.descriptors.specs.Room.{mostDescriptors}
+use Rattle.requests.specs.Room.{capacity}
 use Rattle.model.specs.Client.{Client}
 use Rattle.model.specs.Model.{roomy, new, sendRequest, enqueueFds, takeClosed, Filing, enqueuePacket, discardReply, pollForReplyOrError, pollCheck, pollForReply, prepareCheck, pollForEvent}
 use Rattle.model.specs.Reading.{Rooms, reads}
@@ -47,14 +48,14 @@ freshState o k s = record {
 unfoldable pub openExact : ℕ → Rooms → Answer (Done Unit)
 openExact o r =
     refuse (not (eqb (length (r .slots)) mostDescriptors)) 9
-    (refuse (not (roomy (length (r .requests)) (length (r .store)))) 9
+    (refuse (not (roomy (capacity (r .requests)) (length (r .store)))) 9
     (refuse (not (legal o)) 13
-    (gives (record { value = tt; state = freshState o (length (r .requests)) (length (r .store)); left = r }))))
+    (gives (record { value = tt; state = freshState o (capacity (r .requests)) (length (r .store)); left = r }))))
 
 -- the model's `new`, behind that
 unfoldable pub opened : ℕ → Rooms → Answer (Unit × Client)
 opened o r =
-    refuse (not (eqb (length (r .slots)) mostDescriptors)) 9 (pass (new o (length (r .requests)) (length (r .store))) (λ c. gives (tt, c)))
+    refuse (not (eqb (length (r .slots)) mostDescriptors)) 9 (pass (new o (capacity (r .requests)) (length (r .store))) (λ c. gives (tt, c)))
 
 pub record Opens (o : ℕ) (r : Rooms) (a : Answer (Unit × Connection)) : Type 0 where
   pub exact : Exact same (openExact o r) r a r

@@ -27,7 +27,7 @@ use Rattle.model.specs.declared.Connection.{Connection}
 use Rattle.sending.specs.Send.{same}
 use Rattle.connection.specs.Calls.{freshState, openExact, opened, Opens}
 
-module _ (o : ℕ) (r : Rooms) (f : length (r .slots) ≡ mostDescriptors) (g : roomy (length (r .requests)) (length (r .store)) ≡ true) where
+module _ (o : ℕ) (r : Rooms) (f : length (r .slots) ≡ mostDescriptors) (g : roomy (capacity (r .requests)) (length (r .store)) ≡ true) where
   most : length (r .store) ≤ mostStore
   unfolding roomy
   most = leb-true _ _ (both-right _ _ (both-right _ _ g))
@@ -35,15 +35,15 @@ module _ (o : ℕ) (r : Rooms) (f : length (r .slots) ≡ mostDescriptors) (g : 
   empty : Holds 0 (record { start = 0; end = 0 }) (r .store) []
   empty = Held.sound-empty 0 (record { start = 0; end = 0 }) (r .store) most refl (omega arith)
 
-  none : Slots.Lists (slotsOf (freshState o (length (r .requests)) (length (r .store))) r) [] [] []
+  none : Slots.Lists (slotsOf (freshState o (capacity (r .requests)) (length (r .store))) r) [] [] []
   none = Fds.none-lists (r .slots)
 
   -- it is read as the model's
-  pub fresh-read : reads (freshState o (length (r .requests)) (length (r .store))) r ≡ fresh o (length (r .requests)) (length (r .store))
+  pub fresh-read : reads (freshState o (capacity (r .requests)) (length (r .store))) r ≡ fresh o (capacity (r .requests)) (length (r .store))
   unfolding reads Store.only withDescriptors
   fresh-read = λ k. record {
     order = o;
-    most-requests = length (r .requests);
+    most-requests = capacity (r .requests);
     most-bytes = length (r .store);
     numbers = record { written = 0; expected = 0; read = 0 };
     outstanding = outstanding-none (r .requests) 1 k;
@@ -54,15 +54,15 @@ module _ (o : ℕ) (r : Rooms) (f : length (r .slots) ≡ mostDescriptors) (g : 
   }
 
   -- and sound, in one of the two orders
-  pub fresh-sound : legal o ≡ true → Sound (freshState o (length (r .requests)) (length (r .store))) r
+  pub fresh-sound : legal o ≡ true → Sound (freshState o (capacity (r .requests)) (length (r .store))) r
   unfolding roomy capacity Store.only Store.fdsIn
   fresh-sound h =
-      let a : 1 ≤ length (r .requests) = leb-true _ _ (both-left _ _ (both-left _ _ g)) in
-      let b : length (r .requests) ≤ mostRequests = leb-true _ _ (both-right _ _ (both-left _ _ g)) in
+      let a : 1 ≤ capacity (r .requests) = leb-true _ _ (both-left _ _ (both-left _ _ g)) in
+      let b : capacity (r .requests) ≤ mostRequests = leb-true _ _ (both-right _ _ (both-left _ _ g)) in
       let l : leastStore ≤ length (r .store) = leb-true _ _ (both-left _ _ (both-right _ _ g)) in
       record {
         order = h;
-        requests = sized-is (length (r .requests)) (r .requests) .1 (record { least = a; most = b; holds = refl });
+        requests = sized-is (capacity (r .requests)) (r .requests) .1 (record { least = a; most = b; holds = refl });
         store = refl;
         numbers = record {
           store-least = l;
@@ -75,7 +75,7 @@ module _ (o : ℕ) (r : Rooms) (f : length (r .slots) ≡ mostDescriptors) (g : 
           count-most = omega arith;
         };
         legal-bytes = legals-none (r .requests) 1;
-        slots = Fds.sound-is (slotsOf (freshState o (length (r .requests)) (length (r .store))) r) .1 (record { long = f; most = omega arith });
+        slots = Fds.sound-is (slotsOf (freshState o (capacity (r .requests)) (length (r .store))) r) .1 (record { long = f; most = omega arith });
         held = Held.sound-exactly 0 (record { start = 0; end = 0 }) (r .store) .1 (empty .sound);
         descriptors = ap (λ hs. Store.fdsIn (Store.only 0 hs)) (empty .reads);
       }
@@ -89,8 +89,8 @@ open-model o r =
     (λ f.
     model-refuse _ 9 _
     ∙ refuse-under _ 9
-    (λ g. model-refuse _ 13 _ ∙ ap (λ (x : Client). refuse (not (legal o)) 13 (gives (tt, x))) (fresh-read o r (eqb-true _ _ (not-false _ f)) (not-false _ g)) ∙ sym (pass-refuse (not (legal o)) 13 (gives (fresh o (length (r .requests)) (length (r .store)))) (λ c. gives (tt, c))))
-    ∙ sym (pass-refuse (not (roomy (length (r .requests)) (length (r .store)))) 9 (refuse (not (legal o)) 13 (gives (fresh o (length (r .requests)) (length (r .store))))) (λ c. gives (tt, c))))
+    (λ g. model-refuse _ 13 _ ∙ ap (λ (x : Client). refuse (not (legal o)) 13 (gives (tt, x))) (fresh-read o r (eqb-true _ _ (not-false _ f)) (not-false _ g)) ∙ sym (pass-refuse (not (legal o)) 13 (gives (fresh o (capacity (r .requests)) (length (r .store)))) (λ c. gives (tt, c))))
+    ∙ sym (pass-refuse (not (roomy (capacity (r .requests)) (length (r .store)))) 9 (refuse (not (legal o)) 13 (gives (fresh o (capacity (r .requests)) (length (r .store))))) (λ c. gives (tt, c))))
 
 -- The state that it leaves is sound.
 pub open-sound : (o : ℕ) (r : Rooms) (d : Done Unit) → gives d ≡ openExact o r → Sound (d .state) (d .left)
@@ -114,7 +114,7 @@ module _ (o : ℕ) (r : Rooms) (c : Connection) (h : Opens o r (gives (tt, c))) 
   opens-sound = open-sound o r _ opens-exact
 
   -- and is read as the model's fresh one.
-  pub opens-fresh : reads c r ≡ fresh o (length (r .requests)) (length (r .store))
+  pub opens-fresh : reads c r ≡ fresh o (capacity (r .requests)) (length (r .store))
   unfolding openExact
   opens-fresh =
       let e₁ = gives-rest _ _ _ opens-exact in let e₂ = gives-rest _ _ _ e₁ in
@@ -126,21 +126,24 @@ module _ (o : ℕ) (r : Rooms) where
   unfolding openExact refuse
   opens-slots h = record { exact = exact-refused same _ r 9 (simp (ne-eqb _ _ h)); model = open-model o r }
 
-  module _ (f : length (r .slots) ≡ mostDescriptors) where
-    pub opens-rooms : roomy (length (r .requests)) (length (r .store)) ≡ false → Opens o r (refuses 9)
-    unfolding openExact refuse
-    opens-rooms h = record { exact = exact-refused same _ r 9 (simp (eq-eqb _ _ f, h)); model = open-model o r }
+  module _ (f : length (r .slots) ≡ mostDescriptors) {k : ℕ} (e : k ≡ capacity (r .requests)) where
+    roomy-at : (b : Bool) → roomy k (length (r .store)) ≡ b → roomy (capacity (r .requests)) (length (r .store)) ≡ b
+    roomy-at b h = ap (λ (n : ℕ). roomy n (length (r .store))) (sym e) ∙ h
 
-    module _ (g : roomy (length (r .requests)) (length (r .store)) ≡ true) where
+    pub opens-rooms : roomy k (length (r .store)) ≡ false → Opens o r (refuses 9)
+    unfolding openExact refuse
+    opens-rooms h = record { exact = exact-refused same _ r 9 (simp (eq-eqb _ _ f, roomy-at false h)); model = open-model o r }
+
+    module _ (g : roomy k (length (r .store)) ≡ true) where
       pub opens-order : legal o ≡ false → Opens o r (refuses 13)
       unfolding openExact refuse
-      opens-order h = record { exact = exact-refused same _ r 13 (simp (eq-eqb _ _ f, g, h)); model = open-model o r }
+      opens-order h = record { exact = exact-refused same _ r 13 (simp (eq-eqb _ _ f, roomy-at true g, h)); model = open-model o r }
 
-      pub opens-done : legal o ≡ true → (c : Connection) → c ≡ freshState o (length (r .requests)) (length (r .store)) → Opens o r (gives (tt, c))
+      pub opens-done : legal o ≡ true → (c : Connection) → c ≡ freshState o k (length (r .store)) → Opens o r (gives (tt, c))
       unfolding openExact refuse
-      opens-done h c e =
-          subst (λ (x : Connection). Opens o r (gives (tt, x))) (sym e)
+      opens-done h c q =
+          subst (λ (x : Connection). Opens o r (gives (tt, x))) (sym (q ∙ ap (λ (n : ℕ). freshState o n (length (r .store))) e))
           (record {
-            exact = exact-given same _ r (record { value = tt; state = freshState o (length (r .requests)) (length (r .store)); left = r }) (simp (eq-eqb _ _ f, g, h));
+            exact = exact-given same _ r (record { value = tt; state = freshState o (capacity (r .requests)) (length (r .store)); left = r }) (simp (eq-eqb _ _ f, roomy-at true g, h));
             model = open-model o r;
           })

@@ -1,6 +1,7 @@
 -- What follows from the promises of the public calls. Assumes nothing.
 use mathlib.Core.Path.{_≡_, refl, sym, ap, _∙_, subst}
 use mathlib.Core.Bool.{true}
+use mathlib.Core.List.{List}
 use mathlib.Core.Logic.{_↔_}
 use Prim.Native.Nat.{ℕ, _+_, _<_}
 use native.Mathlib.Omega.{arith}
@@ -19,6 +20,7 @@ use Rattle.model.specs.Reading.{Rooms, count, slotsOf}
 use Rattle.model.specs.Promise.{Done, Promise, answerOf, roomsOf, guarded}
 use Rattle.model.specs.Sound.{Numbers, Sound, soundb, sound-is, is-sound}
 use Rattle.model.specs.declared.Connection.{Connection}
+use Rattle.connection.specs.Calls.{Hands}
 
 -- 01, Rooms, the whole sentence: lent lengths are those given at the start and in range, the byte order is `l` or `B`, full numbers are in range, outstanding requests are a run from 1 or more up to the last written and at most K, each request byte is legal, the store reads as held records whose costs add up to what is used (`Readable`), reply numbers never fall, no held number is above the last read, as many descriptors are held as the replies have, and they number at most 256.
 pub record Sentence (c : Connection) (r : Rooms) : Type 0 where
@@ -89,3 +91,10 @@ module _ {A B : Type 0} (f : A → B) (e : Answer (Done A)) (m : Client → Answ
           let k : Sound (d .state) (d .left) = law S d (gives-rest _ _ _ i) in
           subst (λ (t : Rooms). Sound c' t) (sym l) (subst (λ (z : Connection). Sound z (d .left)) (sym (ap (λ (v : B × Connection). v .1) w)) k)
       by (refuses n) i q l = absurd (let z : _≡_ {A = ℕ} 0 1 = cc in omega arith)
+
+module _ {A B : Type 0} (f : A → B) (g : A → List ℕ) (e : Answer (Done A)) (m : Client → Answer (A × Client)) (c : Connection) (r : Rooms) (out : List ℕ) where
+  -- Any two outcomes of a call that hands something out are equal, and what it hands out is.
+  pub hands-outcome : (a b : Answer (B × Connection)) (s t : Rooms) (x y : List ℕ) → Hands f g e m c r out a s x → Hands f g e m c r out b t y → (a ≡ b) × (s ≡ t) × (x ≡ y)
+  hands-outcome a b s t x y p q =
+      let z = one-outcome f e m c r a b s t (p .promise) (q .promise) in
+      (z .0, z .1, p .output ∙ sym (q .output))

@@ -23,6 +23,7 @@ use model::ReplyFdKind;
 use model::Sent;
 use model::SentMany;
 use refusal::Refusal;
+use sequence::SequenceNumber;
 ghost use mathlib.Core.Path.{_≡_};
 ghost use Rattle.model.specs.Model.{roomy};
 ghost use Rattle.model.specs.Reading.{rooms};
@@ -37,11 +38,12 @@ ghost use Rattle.connection.specs.Calls.{Opens, Sends, EnqueuesFds, Enqu
 pub fn new(order: u8, requests: &[u8], store: &[u8], slots: &[u32]) -> Next
     ensures { λ r. ⌜ Opens order (rooms (now (requests .entry)) (now (store .entry)) (now (slots .entry))) (saysNext r) ⌝ }
 {
-    let c = fresh(order, requests.len(), store.len());
+    let k = requests::capacity(requests);
+    let c = fresh(order, k, store.len());
     if slots.len() != descriptors::MOST_DESCRIPTORS {
         return Next::Refused(Refusal::BadRoom);
     }
-    if !in_range(requests.len(), store.len()) {
+    if !in_range(k, store.len()) {
         return Next::Refused(Refusal::BadRoom);
     }
     if !octets::is_legal(order) {
@@ -146,21 +148,21 @@ pub fn discard_reply(
     requests: &mut [u8],
     store: &mut [u8],
     slots: &mut [u32],
-    number: u64,
+    number: SequenceNumber,
     mode: DiscardMode,
 ) -> Next
-    ensures { λ r. ⌜ Discards c (rooms (now (requests .entry)) (now (store .entry)) (now (slots .entry))) number mode (saysNext r) (rooms (now (requests .exit)) (now (store .exit)) (now (slots .exit))) ⌝ }
+    ensures { λ r. ⌜ Discards c (rooms (now (requests .entry)) (now (store .entry)) (now (slots .entry))) (number .0) mode (saysNext r) (rooms (now (requests .exit)) (now (store .exit)) (now (slots .exit))) ⌝ }
 {
     if !model::is_sound(c, requests, store, slots) {
         return Next::Refused(Refusal::BadRoom);
     }
-    let found = held::count(store, c.window, number);
+    let found = held::count(store, c.window, number.0);
     let next = polling::discard_reply(
         c,
         requests,
         store,
         slots,
-        number,
+        number.0,
         mode,
         found.own,
         found.above,
@@ -175,16 +177,16 @@ pub fn poll_for_reply_or_error(
     requests: &[u8],
     store: &mut [u8],
     slots: &mut [u32],
-    number: u64,
+    number: SequenceNumber,
     out: &mut [u8],
     fds: &mut [u32],
 ) -> Polled
-    ensures { λ r. ⌜ Polls c (rooms (now (requests .entry)) (now (store .entry)) (now (slots .entry))) number (now (out .entry)) (now (fds .entry)) (saysPolled r) (rooms (now (requests .entry)) (now (store .exit)) (now (slots .exit))) (now (out .exit)) (now (fds .exit)) ⌝ }
+    ensures { λ r. ⌜ Polls c (rooms (now (requests .entry)) (now (store .entry)) (now (slots .entry))) (number .0) (now (out .entry)) (now (fds .entry)) (saysPolled r) (rooms (now (requests .entry)) (now (store .exit)) (now (slots .exit))) (now (out .exit)) (now (fds .exit)) ⌝ }
 {
     if !model::is_sound(c, requests, store, slots) {
         return Polled::Refused(Refusal::BadRoom);
     }
-    polling::poll_for_reply_or_error(c, store, slots, number, out, fds)
+    polling::poll_for_reply_or_error(c, store, slots, number.0, out, fds)
 }
 
 // The oldest reply or error of a request; its descriptors are to be closed. NoReply only where a
@@ -194,15 +196,15 @@ pub fn poll_check_for_reply_or_error(
     requests: &[u8],
     store: &mut [u8],
     slots: &mut [u32],
-    number: u64,
+    number: SequenceNumber,
     out: &mut [u8],
 ) -> PollReply
-    ensures { λ r. ⌜ Checks c (rooms (now (requests .entry)) (now (store .entry)) (now (slots .entry))) number (now (out .entry)) (saysPollReply r) (rooms (now (requests .entry)) (now (store .exit)) (now (slots .exit))) (now (out .exit)) ⌝ }
+    ensures { λ r. ⌜ Checks c (rooms (now (requests .entry)) (now (store .entry)) (now (slots .entry))) (number .0) (now (out .entry)) (saysPollReply r) (rooms (now (requests .entry)) (now (store .exit)) (now (slots .exit))) (now (out .exit)) ⌝ }
 {
     if !model::is_sound(c, requests, store, slots) {
         return PollReply::Refused(Refusal::BadRoom);
     }
-    polling::poll_check(c, store, slots, number, out)
+    polling::poll_check(c, store, slots, number.0, out)
 }
 
 // The oldest reply of a request; its descriptors are to be closed. An error becomes an event, and
@@ -212,15 +214,15 @@ pub fn poll_for_reply(
     requests: &[u8],
     store: &mut [u8],
     slots: &mut [u32],
-    number: u64,
+    number: SequenceNumber,
     out: &mut [u8],
 ) -> PollReply
-    ensures { λ r. ⌜ PollsReply c (rooms (now (requests .entry)) (now (store .entry)) (now (slots .entry))) number (now (out .entry)) (saysPollReply r) (rooms (now (requests .entry)) (now (store .exit)) (now (slots .exit))) (now (out .exit)) ⌝ }
+    ensures { λ r. ⌜ PollsReply c (rooms (now (requests .entry)) (now (store .entry)) (now (slots .entry))) (number .0) (now (out .entry)) (saysPollReply r) (rooms (now (requests .entry)) (now (store .exit)) (now (slots .exit))) (now (out .exit)) ⌝ }
 {
     if !model::is_sound(c, requests, store, slots) {
         return PollReply::Refused(Refusal::BadRoom);
     }
-    polling::poll_for_reply(c, store, slots, number, out)
+    polling::poll_for_reply(c, store, slots, number.0, out)
 }
 
 // The oldest event, with its number. Refused by 9, and 8 where out is too small.
@@ -282,14 +284,14 @@ pub fn prepare_check_for_reply_or_error(
     requests: &[u8],
     store: &[u8],
     slots: &[u32],
-    number: u64,
+    number: SequenceNumber,
 ) -> Prepared
-    ensures { λ r. ⌜ Prepares c (rooms (now (requests .entry)) (now (store .entry)) (now (slots .entry))) number (saysPrepared r) ⌝ }
+    ensures { λ r. ⌜ Prepares c (rooms (now (requests .entry)) (now (store .entry)) (now (slots .entry))) (number .0) (saysPrepared r) ⌝ }
 {
     if !model::is_sound(c, requests, store, slots) {
         return Prepared::Refused(Refusal::BadRoom);
     }
-    Prepared::Answer(c.expected < number)
+    Prepared::Answer(c.expected < number.0)
 }
 
 fn fresh(order: u8, capacity: usize, room: usize) -> Connection
@@ -312,7 +314,7 @@ fn fresh(order: u8, capacity: usize, room: usize) -> Connection
     }
 }
 
-// Whether the lengths of the request room and of the packet store are in their ranges.
+// Whether the capacity of the request room and the length of the packet store are in their ranges.
 fn in_range(capacity: usize, room: usize) -> bool
     ensures { λ r. ⌜ r ≡ roomy capacity room ⌝ }
 {

@@ -8,6 +8,7 @@ use lib.ListN.{length, length-append}
 use borrow.Author.Tests.{lt-leb, le-leb}
 use Rattle.octets.specs.Logic.{choose, both, apart}
 use Rattle.refusal.specs.Answer.{Answer, gives, refuses, refuse}
+use Rattle.requests.specs.Room.{capacity}
 use Rattle.requests.specs.declared.Request.{Request}
 use Rattle.sequence.specs.Numbering.{lastNumber}
 use Rattle.sequence.specs.Sending.{syncSpan, mustSync}
@@ -172,9 +173,9 @@ row-said {c} {r} S (one {xs = xs} kind a r' h k) =
     let z = says-same c r S kind a r' h in
     ap (λ (l : List Said). saidOf a ∷ l) (row-said (z .sound) k) ∙ sym (λ i. z .step-is i .said ∷ run (z .step-is i .next) xs .said)
 
-pub opened-said : (o : ℕ) (r : Rooms) (c : Connection) → Opens o r (gives (tt, c)) → length (r .requests) ≡ mostSends → {xs : List Call} {said : List Said} → SendsRow c r xs said → said ≡ run (fresh o mostSends (length (r .store))) xs .said
+pub opened-said : (o : ℕ) (r : Rooms) (c : Connection) → Opens o r (gives (tt, c)) → capacity (r .requests) ≡ mostSends → {xs : List Call} {said : List Said} → SendsRow c r xs said → said ≡ run (fresh o mostSends (length (r .store))) xs .said
 opened-said o r c h k {xs} row = row-said (opens-sound o r c h) row ∙ ap (λ (y : Client). run y xs .said) (opens-fresh o r c h ∙ ap (λ (n : ℕ). fresh o n (length (r .store))) k)
 
-pub new-values : (o : ℕ) (r : Rooms) (c : Connection) → Opens o r (gives (tt, c)) → length (r .requests) ≡ mostSends → (kind : ReplyFdKind) → hasReply kind ≡ true → (kinds : List ReplyFdKind)
+pub new-values : (o : ℕ) (r : Rooms) (c : Connection) → Opens o r (gives (tt, c)) → capacity (r .requests) ≡ mostSends → (kind : ReplyFdKind) → hasReply kind ≡ true → (kinds : List ReplyFdKind)
     → (said : List Said) → SendsRow c r (withoutReply 65534 ++ (send ReplyFdKind.NoReply ∷ send kind ∷ send ReplyFdKind.NoReply ∷ sendsOf kinds)) said → said ≡ numbersFrom 1 65534 ++ (refused 6 ∷ number 65535 ∷ number 65536 ∷ allNoRoom kinds)
 new-values o r c h k kind reply kinds said row = opened-said o r c h k row ∙ fresh-values o (length (r .store)) kind reply kinds

@@ -7,6 +7,7 @@ use lib.ListN.{length, take, drop, getD}
 use lib.Seq.{take-append-le, take-length}
 use Rattle.octets.specs.Put.{put}
 use Rattle.refusal.specs.Answer.{Answer, gives, refuses, gives-rest, gives-same}
+use Rattle.requests.specs.Room.{capacity}
 use Rattle.descriptors.specs.Room.{count}
 use Rattle.descriptors.specs.Room as Slots
 use Rattle.descriptors.specs.Counting.{count-append, count-inside}
@@ -202,7 +203,7 @@ none-within d o k s = refl
 
 pub session-balances : {c : Connection} {r : Rooms} {l : List Event} (k : Session c r l) (d : ℕ) → count d (sessionAccepted k) ≡ count d (within (reads c r)) + count d (sessionHanded k)
 unfolding sessionAccepted sessionHanded count
-session-balances (new o r c h) d = omega (arith, ap (λ (y : Client). count d (within y)) (opens-fresh o r c h), none-within d o (length (r .requests)) (length (r .store)))
+session-balances (new o r c h) d = omega (arith, ap (λ (y : Client). count d (within y)) (opens-fresh o r c h), none-within d o (capacity (r .requests)) (length (r .store)))
 session-balances (send-request {c = c} {r = r} kind a r' h k) d = omega (arith, session-balances k d, still-within c r d (send kind) tt same _ a r' h)
 session-balances (Public.enqueue-fds {c = c} {r = r} list a r' h k) d = omega (arith, session-balances k d, more-within c r d list a r' h, count-append d (brought list a) (sessionAccepted k))
 session-balances (enqueue-packet {c = c} {r = r} t p b a r' h k) d = omega (arith, session-balances k d, still-within c r d (enqueue p) tt _ _ a r' h)

@@ -345,7 +345,7 @@ pub fresh-values : (o s : ℕ) (kind : ReplyFdKind) → hasReply kind ≡ true �
 fresh-values o s kind reply kinds = SendsLaws.fresh-values o s kind reply kinds
 
 -- The public calls: whatever `send_request` answers after a `new` with such a room is what the model says of the same row, and so that table.
-pub new-values : (o : ℕ) (r : Rooms) (c : Connection) → Opens o r (gives (tt, c)) → length (r .requests) ≡ mostSends → (kind : ReplyFdKind) → hasReply kind ≡ true → (kinds : List ReplyFdKind)
+pub new-values : (o : ℕ) (r : Rooms) (c : Connection) → Opens o r (gives (tt, c)) → capacity (r .requests) ≡ mostSends → (kind : ReplyFdKind) → hasReply kind ≡ true → (kinds : List ReplyFdKind)
     → (said : List Said) → SendsRow c r (withoutReply 65534 ++ (send ReplyFdKind.NoReply ∷ send kind ∷ send ReplyFdKind.NoReply ∷ sendsOf kinds)) said → said ≡ numbersFrom 1 65534 ++ (refused 6 ∷ number 65535 ∷ number 65536 ∷ allNoRoom kinds)
 new-values o r c h k kind reply kinds said row = SendsLaws.new-values o r c h k kind reply kinds said row
 

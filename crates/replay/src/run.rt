@@ -165,7 +165,7 @@ fn with(state: State, c: Connection) -> State {
 
 // A room longer than any that there is has no length that the rules allow.
 fn open(op: Op, requests: &[u8], store: &[u8], slots: &[u32]) -> Next {
-    let k = op.a as usize;
+    let k = requests::bytes_for(op.a as usize);
     let s = op.b as usize;
     if requests.len() < k {
         return Next::Refused(Refusal::BadRoom);

@@ -18,6 +18,10 @@ mostRequests = 65536
 unfoldable pub capacity : List ℕ → ℕ
 capacity room = length room
 
+-- and how many bytes a room for k requests has
+unfoldable pub bytesFor : ℕ → ℕ
+bytesFor k = k
+
 -- a room for k requests
 pub record Sized (k : ℕ) (room : List ℕ) : Type 0 where
   pub least : 1 ≤ k

@@ -10,7 +10,7 @@ use lib.ListN.{length, drop, getD, set, length-set}
 use lib.Dec.{leb, eqb}
 use borrow.Author.Tests.{leb-true, le-leb, eqb-true, eq-eqb}
 use Rattle.octets.specs.Logic.{both, both-left, both-right, both-yes}
-use Rattle.requests.specs.Room.{mostRequests, Sized, sized, capacity, byteOf, legal, requestOf, upto, byteAt, requestAt, outstanding, Encodes, legalRun, legals, putRequest, underMode, putMode}
+use Rattle.requests.specs.Room.{mostRequests, Sized, sized, capacity, bytesFor, byteOf, legal, requestOf, upto, byteAt, requestAt, outstanding, Encodes, legalRun, legals, putRequest, underMode, putMode}
 use Rattle.requests.specs.Upto.{length-upto, getD-upto, upto-drop}
 use Rattle.requests.specs.Slots as Slots
 use Rattle.requests.specs.Legal as Legal
@@ -38,6 +38,11 @@ sized-is k room = (there, λ s. both-yes _ _ (le-leb 1 k (s .least)) (both-yes _
     there h =
         let t : both (leb k mostRequests) (eqb (length room) k) ≡ true = both-right _ _ h in
         record { least = leb-true 1 k (both-left _ _ h); most = leb-true k mostRequests (both-left _ _ t); holds = eqb-true (length room) k (both-right _ _ t) }
+
+-- A room has the bytes for as many requests as it is one for.
+pub bytes-capacity : (room : List ℕ) → length room ≡ bytesFor (capacity room)
+unfolding capacity bytesFor
+bytes-capacity room = refl
 
 -- Setting a mode is to set the request under that mode, so what follows holds of it too.
 pub mode-put : (room : List ℕ) (n : ℕ) (m : Mode) → putMode room n m ≡ putRequest room n (underMode m (requestAt room n))

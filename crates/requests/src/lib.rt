@@ -8,7 +8,7 @@ ghost use mathlib.Core.Path.{_≡_};
 ghost use Prim.Native.Nat.{_-_, _≤_, _<_, _%_};
 ghost use lib.ListN.{length};
 ghost use Rattle.octets.specs.Put.{cut};
-ghost use Rattle.requests.specs.Room.{capacity, sized, modeOf, modeNumber, byteOf, requestOf, requestAt, putRequest, putMode, legals, legalRun};
+ghost use Rattle.requests.specs.Room.{capacity, bytesFor, sized, modeOf, modeNumber, byteOf, requestOf, requestAt, putRequest, putMode, legals, legalRun};
 
 // What happens to the answer of a request.
 pub enum Mode {
@@ -29,6 +29,20 @@ pub const MOST_REQUESTS: usize = 65536;
 
 // The largest byte of a request.
 const LAST_BYTE: u8 = 5;
+
+// How many requests the room has bytes for.
+pub fn capacity(room: &[u8]) -> usize
+    ensures { λ r. ⌜ r ≡ capacity (now (room .entry)) ⌝ }
+{
+    room.len()
+}
+
+// How many bytes a room for k requests has.
+pub fn bytes_for(k: usize) -> usize
+    ensures { λ r. ⌜ r ≡ bytesFor k ⌝ }
+{
+    k
+}
 
 // Whether the room is one for k requests.
 pub fn sized(room: &[u8], k: usize) -> bool

@@ -7,6 +7,7 @@ use lib.ListN.{replicate}
 use Rattle.octets.specs.Logic.{both, either}
 use Rattle.octets.specs.Bytes.{legal}
 use Rattle.refusal.specs.Answer.{Answer, gives, refuses, gives-same}
+use Rattle.requests.specs.Room.{capacity}
 use Rattle.model.specs.Client.{Client}
 use Rattle.model.specs.Model.{roomy, fresh, joining, Filing, sendRequest, enqueuePacket}
 use Rattle.model.specs.Reading.{Rooms, rooms, reads}
@@ -28,11 +29,11 @@ abbrev start : Connection
 start = freshState 108 1 200
 
 start-sound : Sound start lent
-unfolding roomy both legal either
+unfolding roomy both legal either capacity
 start-sound = fresh-sound 108 lent refl refl refl
 
 start-read : reads start lent ≡ fresh 108 1 200
-unfolding roomy both
+unfolding roomy both capacity
 start-read = fresh-read 108 lent refl refl
 
 -- an event with its wire number

@@ -80,7 +80,7 @@ fn run(count: u64, letter: u8, out: &mut [u8], waiting: usize) -> usize {
 }
 
 fn letter_at(requests: &[u8], number: u64) -> u8 {
-    if requests.len() == 0 {
+    if requests::capacity(requests) == 0 {
         return b'?';
     }
     letter_of(requests::get(requests, number))

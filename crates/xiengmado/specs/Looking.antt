@@ -7,14 +7,15 @@ use native.Mathlib.Omega.{arith}
 use lib.ListN.{length, drop}
 use Rattle.octets.specs.Put.{cut}
 use Rattle.refusal.specs.Answer.{Answer, gives, refuses, refuse}
-use Rattle.requests.specs.Room.{sized, requestAt, modeNumber}
+use Rattle.requests.specs.Room.{sized, capacity, requestAt}
 use Rattle.requests.specs.declared.Request.{Request}
 use Rattle.held.specs.Head.{Held, decoded, cost, headerSize, numOf, lenOf, fdsOf, kindOf}
 use Rattle.held.specs.Front.{Begins, Stands, begins-stands}
+use Rattle.answers.specs.Shown.{modeNumber, kindNumber}
 
 -- The request of a number: 9 for a room that is none.
 unfoldable pub requestKept : List ℕ → ℕ → Answer Request
-requestKept room n = refuse (not (sized (length room) room)) 9 (gives (requestAt room n))
+requestKept room n = refuse (not (sized (capacity room) room)) 9 (gives (requestAt room n))
 
 -- 1 where its reply has descriptors, and its mode
 abbrev pub requestFields : Request → List ℕ
@@ -27,24 +28,24 @@ pub data Looks (s : List ℕ) (at end : ℕ) : Answer Held → Type 0 where
 
 -- its kind, its number, the length of its packet and its descriptors
 abbrev pub recordFields : Held → List ℕ
-recordFields h = h .kind ∷ h .number ∷ length (h .packet) ∷ h .fds ∷ []
+recordFields h = kindNumber (h .kind) ∷ h .number ∷ length (h .packet) ∷ h .fds ∷ []
 
 -- ---- laws
 
-pub kept-none : (room : List ℕ) (n : ℕ) → sized (length room) room ≡ false → refuses 9 ≡ requestKept room n
+pub kept-none : (room : List ℕ) (n : ℕ) {k : ℕ} → k ≡ capacity room → sized k room ≡ false → refuses 9 ≡ requestKept room n
 unfolding requestKept refuse
-kept-none room n h = simp h
+kept-none room n e h = let q : sized (capacity room) room ≡ false = ap (λ (m : ℕ). sized m room) (sym e) ∙ h in simp q
 
-pub kept-some : (room : List ℕ) (n : ℕ) → sized (length room) room ≡ true → gives (requestAt room n) ≡ requestKept room n
+pub kept-some : (room : List ℕ) (n : ℕ) {k : ℕ} → k ≡ capacity room → sized k room ≡ true → gives (requestAt room n) ≡ requestKept room n
 unfolding requestKept refuse
-kept-some room n h = simp h
+kept-some room n e h = let q : sized (capacity room) room ≡ true = ap (λ (m : ℕ). sized m room) (sym e) ∙ h in simp q
 
 -- Any two answers that looking may give are equal.
 pub looks-one : {s : List ℕ} {at end : ℕ} (a b : Answer Held) → Looks s at end a → Looks s at end b → a ≡ b
-looks-one a b (here p q r) (here p' q' r') = refl
-looks-one a b (here p q r) (nowhere n) = absurd (n p q r)
-looks-one a b (nowhere n) (here p q r) = absurd (n p q r)
-looks-one a b (nowhere n) (nowhere m) = refl
+looks-one a b (here p q r) (here k l m) = refl
+looks-one a b (here p q r) (nowhere h) = absurd (h p q r)
+looks-one a b (nowhere h) (here p q r) = absurd (h p q r)
+looks-one a b (nowhere h) (nowhere k) = refl
 
 -- what is read at an index where a record stands
 module _ (s : List ℕ) (at end : ℕ) (low : at ≤ end) (high : end ≤ length s) (b : Begins (cut at (end - at) s)) where
@@ -54,5 +55,5 @@ module _ (s : List ℕ) (at end : ℕ) (low : at ≤ end) (high : end ≤ length
   pub header-there : at + headerSize ≤ length s
   header-there = omega (arith, found .least, found .most)
 
-  pub looked : (k n l f : ℕ) → k ≡ kindOf (drop at s) → n ≡ numOf (drop at s) → l ≡ lenOf (drop at s) → f ≡ fdsOf (drop at s) → k ∷ n ∷ l ∷ f ∷ [] ≡ recordFields (decoded (cut at (end - at) s))
-  looked k n l f p q r t = cc (p ∙ found .kind, q ∙ found .number, r ∙ found .len, t ∙ found .fds)
+  pub looked : (k n l f : ℕ) → k ≡ kindNumber (kindOf (drop at s)) → n ≡ numOf (drop at s) → l ≡ lenOf (drop at s) → f ≡ fdsOf (drop at s) → k ∷ n ∷ l ∷ f ∷ [] ≡ recordFields (decoded (cut at (end - at) s))
+  looked k n l f p q r t = cc (p ∙ ap kindNumber (found .kind), q ∙ found .number, r ∙ found .len, t ∙ found .fds)

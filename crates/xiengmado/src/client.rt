@@ -24,6 +24,7 @@ use answers::is_mode;
 use answers::kind_of;
 use answers::mode_of;
 use model::Prepared;
+use sequence::SequenceNumber;
 
 // A fresh connection in these rooms.
 #[no_mangle]
@@ -80,7 +81,14 @@ pub extern "C" fn xm_discard_reply(
         return BAD;
     }
     let now = rows::connection(state);
-    let answer = connection::discard_reply(now, requests, store, slots, number, mode_of(mode));
+    let answer = connection::discard_reply(
+        now,
+        requests,
+        store,
+        slots,
+        SequenceNumber(number),
+        mode_of(mode),
+    );
     give_next(answer, state)
 }
 
@@ -134,7 +142,15 @@ pub extern "C" fn xm_poll_for_reply_or_error(
     ensures { λ r. ⌜ Kept (λ a. Polls (connectionOf (now (state .entry))) (rooms (now (requests .entry)) (now (store .entry)) (now (slots .entry))) number (now (out .entry)) (now (fds .entry)) a (rooms (now (requests .entry)) (now (store .exit)) (now (slots .exit))) (now (out .exit)) (now (fds .exit))) polled (stateRow (now (state .entry))) (now (found .entry) ∷ now (size .entry) ∷ now (count .entry) ∷ []) (now (found .exit) ∷ now (size .exit) ∷ now (count .exit) ∷ []) (now (state .entry)) (now (state .exit)) r ⌝ }
 {
     let now = rows::connection(state);
-    let answer = connection::poll_for_reply_or_error(now, requests, store, slots, number, out, fds);
+    let answer = connection::poll_for_reply_or_error(
+        now,
+        requests,
+        store,
+        slots,
+        SequenceNumber(number),
+        out,
+        fds,
+    );
     give_polled(answer, state, found, size, count)
 }
 
@@ -158,7 +174,7 @@ pub extern "C" fn xm_poll_check_for_reply_or_error(
         requests,
         store,
         slots,
-        number,
+        SequenceNumber(number),
         out,
     );
     give_poll(answer, state, result, size)
@@ -179,7 +195,14 @@ pub extern "C" fn xm_poll_for_reply(
     ensures { λ r. ⌜ Kept (λ a. PollsReply (connectionOf (now (state .entry))) (rooms (now (requests .entry)) (now (store .entry)) (now (slots .entry))) number (now (out .entry)) a (rooms (now (requests .entry)) (now (store .exit)) (now (slots .exit))) (now (out .exit))) poll (stateRow (now (state .entry))) (now (result .entry) ∷ now (size .entry) ∷ []) (now (result .exit) ∷ now (size .exit) ∷ []) (now (state .entry)) (now (state .exit)) r ⌝ }
 {
     let now = rows::connection(state);
-    let answer = connection::poll_for_reply(now, requests, store, slots, number, out);
+    let answer = connection::poll_for_reply(
+        now,
+        requests,
+        store,
+        slots,
+        SequenceNumber(number),
+        out,
+    );
     give_poll(answer, state, result, size)
 }
 
@@ -231,7 +254,13 @@ pub extern "C" fn xm_prepare_check_for_reply_or_error(
     ensures { λ r. ⌜ Exported (λ a. Prepares (connectionOf (now (state .entry))) (rooms (now (requests .entry)) (now (store .entry)) (now (slots .entry))) number a) flag (now (sync .entry) ∷ []) (now (sync .exit) ∷ []) r ⌝ }
 {
     let now = rows::connection(state);
-    let answer = connection::prepare_check_for_reply_or_error(now, requests, store, slots, number);
+    let answer = connection::prepare_check_for_reply_or_error(
+        now,
+        requests,
+        store,
+        slots,
+        SequenceNumber(number),
+    );
     match answer {
         Prepared::Answer(needed) => {
             *sync = bit(needed);

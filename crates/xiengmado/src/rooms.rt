@@ -7,6 +7,7 @@ ghost use Rattle.xiengmado.specs.Looking.{requestKept, requestFields, Lo
 use answers::BAD;
 use answers::DONE;
 use answers::bit;
+use answers::kind_number;
 use answers::mode_number;
 
 // What is kept of the request of a number: whether its reply has descriptors, and its mode (0 none, 1
@@ -21,7 +22,7 @@ pub extern "C" fn xm_request_at(
 ) -> u32
     ensures { λ r. ⌜ Exported (λ a. a ≡ requestKept (now (requests .entry)) number) requestFields (now (descriptors .entry) ∷ now (mode .entry) ∷ []) (now (descriptors .exit) ∷ now (mode .exit) ∷ []) r ⌝ }
 {
-    if !requests::sized(requests, requests.len()) {
+    if !requests::sized(requests, requests::capacity(requests)) {
         return BAD;
     }
     let request = requests::get(requests, number);
@@ -57,7 +58,8 @@ pub extern "C" fn xm_record_at(
     if cost == 0 {
         return BAD;
     }
-    *kind = held::kind_at(store, at);
+    let of = held::kind_at(store, at);
+    *kind = kind_number(of);
     *number = held::number_at(store, at);
     *size = held::length_at(store, at);
     *count = held::count_at(store, at);

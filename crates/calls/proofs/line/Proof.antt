@@ -6,6 +6,9 @@ use borrow.Author.Needs.{needs}
 use Rattle.calls.proofs.line.Statement.{statement}
 use Rattle.calls.proofs.line.Tie as tie
 
+bytes-for-requires : tie.Need-bytes-for-requires
+bytes-for-requires c κs = search needs
+
 returns : tie.Need-returns
 returns c = search needs
 
@@ -46,6 +49,7 @@ pub line-spec : {M : Type 1} → statement M
 line-spec =
     tie.close
     (tie.spec
+    bytes-for-requires
     returns
     returns-2
     slice-relend-prefix-ended

@@ -6,6 +6,9 @@ use borrow.Author.Needs.{needs}
 use Rattle.connection.proofs.new.Statement.{statement}
 use Rattle.connection.proofs.new.Tie as tie
 
+capacity-requires : tie.Need-capacity-requires
+capacity-requires c κs = search needs
+
 fresh-requires : tie.Need-fresh-requires
 fresh-requires c κs = search needs
 
@@ -16,21 +19,28 @@ in-range-requires : tie.Need-in-range-requires
 in-range-requires c κs = search needs
 
 returns-2 : tie.Need-returns-2
-returns-2 c = opens-rooms _ _ (c .before .before .if1 .left) (sym (c .before .in-range .ensures) ∙ not-true _ (c .if2 .taken))
+returns-2 c =
+    let k = c .before .before .before .before .capacity .ensures in
+    opens-rooms _ _ (c .before .before .if1 .left) k (sym (c .before .in-range .ensures) ∙ not-true _ (c .if2 .taken))
 
 is-legal-requires : tie.Need-is-legal-requires
 is-legal-requires c κs = search needs
 
 returns-3 : tie.Need-returns-3
-returns-3 c = opens-order _ _ (c .before .before .before .before .if1 .left) (sym (c .before .before .before .in-range .ensures) ∙ not-false _ (c .before .before .if2 .left)) (sym (c .before .is-legal .ensures) ∙ not-true _ (c .if3 .taken))
+returns-3 c =
+    let k = c .before .before .before .before .before .before .capacity .ensures in
+    opens-order _ _ (c .before .before .before .before .if1 .left) k (sym (c .before .before .before .in-range .ensures) ∙ not-false _ (c .before .before .if2 .left)) (sym (c .before .is-legal .ensures) ∙ not-true _ (c .if3 .taken))
 
 returns-4 : tie.Need-returns-4
-returns-4 c = opens-done _ _ (c .before .before .before .before .if1 .left) (sym (c .before .before .before .in-range .ensures) ∙ not-false _ (c .before .before .if2 .left)) (sym (c .before .is-legal .ensures) ∙ not-false _ (c .if3 .left)) _ (c .before .before .before .before .before .fresh .ensures)
+returns-4 c =
+    let k = c .before .before .before .before .before .before .capacity .ensures in
+    opens-done _ _ (c .before .before .before .before .if1 .left) k (sym (c .before .before .before .in-range .ensures) ∙ not-false _ (c .before .before .if2 .left)) (sym (c .before .is-legal .ensures) ∙ not-false _ (c .if3 .left)) _ (c .before .before .before .before .before .fresh .ensures)
 
 pub new-spec : {M : Type 1} → statement M
 new-spec =
     tie.close
     (tie.spec
+    capacity-requires
     fresh-requires
     returns
     in-range-requires

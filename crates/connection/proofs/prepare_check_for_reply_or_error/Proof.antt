@@ -16,7 +16,7 @@ returns c = sym (guarded-off _ _ _ (unsound-seen _ _ _ (c .before .is-sound .ens
 
 returns-2 : tie.Need-returns-2
 unfolding prepareCheck reads
-returns-2 c = sym (guarded-on _ _ _ (sound-seen _ _ _ (c .before .before .is-sound .ensures) (c .before .if1 .left)))
+returns-2 c = sym (guarded-on _ _ _ (sound-seen _ _ _ (c .before .before .before .is-sound .ensures) (c .before .before .if1 .left)))
 
 pub prepare-check-for-reply-or-error-spec : {M : Type 1} → statement M
 prepare-check-for-reply-or-error-spec = tie.close (tie.spec is-sound-requires returns returns-2)

@@ -6,6 +6,9 @@ use borrow.Author.Needs.{needs}
 use Rattle.replay.proofs.run.open.Statement.{statement}
 use Rattle.replay.proofs.run.open.Tie as tie
 
+bytes-for-requires : tie.Need-bytes-for-requires
+bytes-for-requires c κs = search needs
+
 returns : tie.Need-returns
 returns c = search needs
 
@@ -31,6 +34,7 @@ pub open-spec : {M : Type 1} → statement M
 open-spec =
     tie.close
     (tie.spec
+    bytes-for-requires
     returns
     returns-2
     cast-new
