@@ -22,11 +22,12 @@ use Rattle.model.specs.Client.{Held, Client, used, costs, descriptorsOf, inside
 use Rattle.model.specs.Model as Model
 use Rattle.model.specs.Model.{leastStore, joining}
 use Rattle.model.specs.Calls.{Call, send, enqueue, poll, check, prepare, poll-event, take-closed, Said, number, filed, nothing, took, again, absent, answer, closed, refused, step, run}
+use Rattle.model.specs.declared.DiscardMode.the-variants.{DiscardReply, DiscardReplyAndError}
 use Rattle.model.specs.declared.ReplyFdKind.the-variants.{NoReply}
 use Rattle.model.specs.declared.Place.the-variants.{Replies, Events, Dropped}
 use Rattle.honest.specs.Run.{All}
 use Rattle.ledger.specs.Encoding.{ReplyFits, EventFits, NeverFall, InRange}
-use Rattle.ledger.specs.State.{Needed, withOrder, withK, withS, withWritten, withExpected, withRead, withOutstanding, withDescribed, withMode, withReplies, withEvents, withWaiting, withClosing}
+use Rattle.ledger.specs.State.{Needed, withOrder, withK, withS, withWritten, withExpected, withRead, withOutstanding, withDescribed, withMode, withDiscard, withReplies, withEvents, withNumber, withPacket, withHeld, withTurn, withWaiting, withClosing}
 
 -- ---- the ranges as a test
 
@@ -125,16 +126,36 @@ reply = packet 1 1 1
 abbrev event : List ℕ
 event = packet 2 0 1
 
-abbrev held : List ℕ → List ℕ → Held
-held p fds = record { number = 1; packet = p; descriptors = fds }
+abbrev zeros : List ℕ
+zeros = replicate 32 0
 
--- packets that are handed out with other descriptors
-took-apart : (h k : Held) → (h .descriptors ≡ k .descriptors → ⊥) → filed Replies 1 ∷ took h ∷ [] ≡ filed Replies 1 ∷ took k ∷ [] → ⊥
-took-apart h k d e = let z : h ≡ k = cc in d (ap (λ (x : Held). x .descriptors) z)
+abbrev heldAs : ℕ → List ℕ → List ℕ → Held
+heldAs n p fds = record { number = n; packet = p; descriptors = fds }
+
+abbrev held : List ℕ → List ℕ → Held
+held p fds = heldAs 1 p fds
+
+-- packets that are handed out, and are not the same
+module _ (h k : Held) where
+  took-apart : (h ≡ k → ⊥) → took h ∷ [] ≡ took k ∷ [] → ⊥
+  took-apart d e = let z : h ≡ k = cc in d z
+
+  number-apart : (h .number ≡ k .number → ⊥) → took h ∷ [] ≡ took k ∷ [] → ⊥
+  number-apart d e = took-apart (λ z. d (ap (λ (x : Held). x .number) z)) e
+
+  packet-apart : (h .packet ≡ k .packet → ⊥) → took h ∷ [] ≡ took k ∷ [] → ⊥
+  packet-apart d e = took-apart (λ z. d (ap (λ (x : Held). x .packet) z)) e
+
+  descriptors-apart : (h .descriptors ≡ k .descriptors → ⊥) → took h ∷ [] ≡ took k ∷ [] → ⊥
+  descriptors-apart d e = took-apart (λ z. d (ap (λ (x : Held). x .descriptors) z)) e
+
+  -- behind an answer that is
+  filed-apart : (h .descriptors ≡ k .descriptors → ⊥) → filed Replies 1 ∷ took h ∷ [] ≡ filed Replies 1 ∷ took k ∷ [] → ⊥
+  filed-apart d e = let z : took h ∷ [] ≡ took k ∷ [] = cc in descriptors-apart d z
 
 -- In the order of the table. K and S by what has room; the numbers by what is said; requests by where a packet is filed; the rest by what is handed out.
 pub each-needed :
-    Needed withOrder × Needed withK × Needed withS × Needed withWritten × Needed withExpected × Needed withRead × Needed withOutstanding × Needed withDescribed × Needed withMode × Needed withReplies × Needed withEvents × Needed withWaiting × Needed withClosing
+    Needed withOrder × Needed withK × Needed withS × Needed withWritten × Needed withExpected × Needed withRead × Needed withOutstanding × Needed withDescribed × Needed withMode × Needed withDiscard × Needed withReplies × Needed withEvents × Needed withNumber × Needed withPacket × Needed withHeld × Needed withTurn × Needed withWaiting × Needed withClosing
 unfolding ranged each holds falls legal run step Model.sendRequest Model.enqueuePacket Model.takeClosed Model.pollForReplyOrError Model.pollCheck Model.prepareCheck Model.pollForEvent Model.find pass refuse sending mustSync both either choose Model.packetNumber inRange full field numberIn cut turned bytesOf lowBytes lowNumber Model.numbered Model.askedOf Model.headOf Model.placeOf Model.claimed Model.takeIn costs descriptorsOf
 each-needed = (
   needed withOrder 108 66 (enqueue event ∷ []) (filed Events 1 ∷ []) (filed Events 256 ∷ []) refl refl refl refl (λ e. let z : _≡_ {A = ℕ} 1 256 = cc in omega arith),
@@ -144,10 +165,15 @@ each-needed = (
   needed withExpected 0 1 (prepare 1 ∷ []) (answer true ∷ []) (answer false ∷ []) refl refl refl refl (λ e. let z : _≡_ {A = ℕ} 0 1 = cc in omega arith),
   needed withRead 0 1 (check 0 32 ∷ []) (again ∷ []) (absent ∷ []) refl refl refl refl (λ e. let z : _≡_ {A = ℕ} 0 1 = cc in omega arith),
   needed withOutstanding [] (joining NoReply ∷ []) (enqueue error ∷ []) (filed Events 1 ∷ []) (filed Replies 1 ∷ []) refl refl refl refl (λ e. let z : _≡_ {A = ℕ} 0 1 = cc in omega arith),
-  needed withDescribed true false (enqueue reply ∷ poll 1 32 1 ∷ []) (filed Replies 1 ∷ took (held reply (7 ∷ [])) ∷ []) (filed Replies 1 ∷ took (held reply []) ∷ []) refl refl refl refl (λ e. took-apart (held reply (7 ∷ [])) (held reply []) (λ l. let z : _≡_ {A = ℕ} 0 1 = cc in omega arith) e),
-  needed withMode Mode.DiscardReply Mode.DiscardReplyAndError (enqueue error ∷ []) (filed Events 1 ∷ []) (filed Dropped 1 ∷ []) refl refl refl refl (λ e. let z : _≡_ {A = ℕ} 0 1 = cc in omega arith),
+  needed withDescribed true false (enqueue reply ∷ poll 1 32 1 ∷ []) (filed Replies 1 ∷ took (held reply (7 ∷ [])) ∷ []) (filed Replies 1 ∷ took (held reply []) ∷ []) refl refl refl refl (λ e. filed-apart (held reply (7 ∷ [])) (held reply []) (λ l. let z : _≡_ {A = ℕ} 0 1 = cc in omega arith) e),
+  needed withMode Mode.Keep Mode.DiscardReply (enqueue error ∷ []) (filed Replies 1 ∷ []) (filed Events 1 ∷ []) refl refl refl refl (λ e. let z : _≡_ {A = ℕ} 0 1 = cc in omega arith),
+  needed withDiscard DiscardReply DiscardReplyAndError (enqueue error ∷ []) (filed Events 1 ∷ []) (filed Dropped 1 ∷ []) refl refl refl refl (λ e. let z : _≡_ {A = ℕ} 0 1 = cc in omega arith),
   needed withReplies [] (held reply [] ∷ []) (poll 1 32 0 ∷ []) (nothing ∷ []) (took (held reply []) ∷ []) refl refl refl refl (λ e. let z : _≡_ {A = ℕ} 0 1 = cc in omega arith),
   needed withEvents [] (held event [] ∷ []) (poll-event 32 ∷ []) (nothing ∷ []) (took (held event []) ∷ []) refl refl refl refl (λ e. let z : _≡_ {A = ℕ} 0 1 = cc in omega arith),
-  needed withWaiting (7 ∷ []) (8 ∷ []) (enqueue reply ∷ poll 1 32 1 ∷ []) (filed Replies 1 ∷ took (held reply (7 ∷ [])) ∷ []) (filed Replies 1 ∷ took (held reply (8 ∷ [])) ∷ []) refl refl refl refl (λ e. took-apart (held reply (7 ∷ [])) (held reply (8 ∷ [])) (λ l. let z : _≡_ {A = ℕ} 7 8 = cc in omega arith) e),
+  needed withNumber 0 1 (poll-event 32 ∷ []) (took (heldAs 0 zeros []) ∷ []) (took (heldAs 1 zeros []) ∷ []) refl refl refl refl (number-apart (heldAs 0 zeros []) (heldAs 1 zeros []) (λ l. omega arith)),
+  needed withPacket event error (poll-event 32 ∷ []) (took (held event []) ∷ []) (took (held error []) ∷ []) refl refl refl refl (packet-apart (held event []) (held error []) (λ l. let z : _≡_ {A = ℕ} 2 0 = cc in omega arith)),
+  needed withHeld (8 ∷ []) (9 ∷ []) (poll 1 32 1 ∷ []) (took (held zeros (8 ∷ [])) ∷ []) (took (held zeros (9 ∷ [])) ∷ []) refl refl refl refl (descriptors-apart (held zeros (8 ∷ [])) (held zeros (9 ∷ [])) (λ l. let z : _≡_ {A = ℕ} 8 9 = cc in omega arith)),
+  needed withTurn true false (poll-event 32 ∷ []) (took (heldAs 0 zeros []) ∷ []) (took (heldAs 1 zeros []) ∷ []) refl refl refl refl (number-apart (heldAs 0 zeros []) (heldAs 1 zeros []) (λ l. omega arith)),
+  needed withWaiting (7 ∷ []) (8 ∷ []) (enqueue reply ∷ poll 1 32 1 ∷ []) (filed Replies 1 ∷ took (held reply (7 ∷ [])) ∷ []) (filed Replies 1 ∷ took (held reply (8 ∷ [])) ∷ []) refl refl refl refl (λ e. filed-apart (held reply (7 ∷ [])) (held reply (8 ∷ [])) (λ l. let z : _≡_ {A = ℕ} 7 8 = cc in omega arith) e),
   needed withClosing [] (7 ∷ []) (take-closed 9 ∷ []) (closed [] ∷ []) (closed (7 ∷ []) ∷ []) refl refl refl refl (λ e. let z : _≡_ {A = ℕ} 0 1 = cc in omega arith),
 )

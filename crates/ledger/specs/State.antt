@@ -1,16 +1,16 @@
 -- What counts as state: outcomes as they are read, states that are alike, rows of public calls, and when a part of the state is needed. Definitions only. Assumes nothing.
-use mathlib.Core.Bool.{Bool, true}
+use mathlib.Core.Bool.{Bool, true, false}
 use mathlib.Core.List.{List, [], _∷_}
 use mathlib.Core.Path.{_≡_}
 use Prim.Native.Nat.{ℕ, _<_}
-use lib.ListN.{getD}
+use lib.ListN.{getD, replicate}
 use Rattle.octets.specs.Put.{put}
 use Rattle.refusal.specs.Answer.{Answer, gives, refuses}
 use Rattle.requests.specs.declared.Mode.{Mode}
 use Rattle.requests.specs.declared.Mode.the-variants as Mode
 use Rattle.requests.specs.declared.Request.{Request}
 use Rattle.model.specs.Client.{Numbers, Held, Client}
-use Rattle.model.specs.Model.{Filing}
+use Rattle.model.specs.Model.{modeOf, Filing}
 use Rattle.model.specs.Calls.{Call, run}
 use Rattle.model.specs.Reading.{Rooms, reads}
 use Rattle.model.specs.Says.{Shown, ShownEvent, ShownPoll}
@@ -186,18 +186,38 @@ withRead n = client 108 4 500 (at 1 1 n) (asked true Mode.Keep) [] [] (7 ∷ [])
 abbrev pub withOutstanding : List Request → Client
 withOutstanding l = client 108 4 500 (at 1 1 1) l [] [] (7 ∷ []) []
 
--- of a request, whether it has descriptors, and its mode
+-- of a request, whether it has descriptors, whether it has a mode, and which
 abbrev pub withDescribed : Bool → Client
 withDescribed b = client 108 4 500 (at 1 1 1) (asked b Mode.Keep) [] [] (7 ∷ []) []
 
 abbrev pub withMode : Mode → Client
 withMode m = client 108 4 500 (at 1 1 1) (asked true m) [] [] (7 ∷ []) []
 
+abbrev pub withDiscard : DiscardMode → Client
+withDiscard m = withMode (modeOf m)
+
 abbrev pub withReplies : List Held → Client
 withReplies l = client 108 4 500 (at 1 1 1) (asked true Mode.Keep) l [] (7 ∷ []) []
 
 abbrev pub withEvents : List Held → Client
 withEvents l = client 108 4 500 (at 1 1 1) (asked true Mode.Keep) [] l (7 ∷ []) []
+
+-- of a held record, its number, its packet and a reply's descriptors; of two their order
+abbrev holding : ℕ → List ℕ → List ℕ → Held
+holding n p fds = record { number = n; packet = p; descriptors = fds }
+
+abbrev pub withNumber : ℕ → Client
+withNumber n = withEvents (holding n (replicate 32 0) [] ∷ [])
+
+abbrev pub withPacket : List ℕ → Client
+withPacket p = withEvents (holding 1 p [] ∷ [])
+
+abbrev pub withHeld : List ℕ → Client
+withHeld fds = withReplies (holding 1 (replicate 32 0) fds ∷ [])
+
+abbrev pub withTurn : Bool → Client
+withTurn true = withEvents (holding 0 (replicate 32 0) [] ∷ holding 1 (replicate 32 0) [] ∷ [])
+withTurn false = withEvents (holding 1 (replicate 32 0) [] ∷ holding 0 (replicate 32 0) [] ∷ [])
 
 abbrev pub withWaiting : List ℕ → Client
 withWaiting l = client 108 4 500 (at 1 1 1) (asked true Mode.Keep) [] [] l []

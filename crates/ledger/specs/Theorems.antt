@@ -51,7 +51,7 @@ use Rattle.ledger.specs.Descriptors.{within, accepted, handedOut, accept
 use Rattle.ledger.specs.Room.{filled, kept, SendShort, PacketShort, NoRoom, added, givenBack, NoDiscard}
 use Rattle.ledger.specs.Sends.{mostSends, withoutReply, numbersFrom, sendsOf, allNoRoom, SendsRow}
 use Rattle.ledger.specs.Encoding.{InRange, Encodes}
-use Rattle.ledger.specs.State.{told, asRead, shownBy, writtenBy, Alike, Same, Ask, AllHeard, Row, Needed, withOrder, withK, withS, withWritten, withExpected, withRead, withOutstanding, withDescribed, withMode, withReplies, withEvents, withWaiting, withClosing}
+use Rattle.ledger.specs.State.{told, asRead, shownBy, writtenBy, Alike, Same, Ask, AllHeard, Row, Needed, withOrder, withK, withS, withWritten, withExpected, withRead, withOutstanding, withDescribed, withMode, withDiscard, withReplies, withEvents, withNumber, withPacket, withHeld, withTurn, withWaiting, withClosing}
 use Rattle.ledger.specs.EncodingLaws as EncodingLaws
 use Rattle.ledger.specs.Balance as Balance
 use Rattle.ledger.specs.Sessions as Sessions
@@ -431,7 +431,7 @@ pub sessions-same : (o : ℕ) (r q : Rooms) → capacity (r .requests) ≡ capac
     → (xs : List Ask) (hs gs : AllHeard xs) (c' : Connection) (r' : Rooms) (d' : Connection) (q' : Rooms) → Row xs c r hs c' r' → Row xs d q gs d' q' → hs ≡ gs
 sessions-same o r q k s c d h i xs hs gs c' r' d' q' l m = StateLaws.rows-same (StateLaws.new-alike o r q k s c d h i) l m .0
 
--- NOTHING SUPERFLUOUS: of each part there are two values in range, all else the same, and calls that answer differently: byte order, K, S, the last number written, the next reply expected, the last read, the outstanding requests, whether one has descriptors and its mode, replies, events, the descriptors that wait, and those to be closed.
+-- NOTHING SUPERFLUOUS: of each part there are two values in range, all else the same, and calls that answer differently: byte order, K, S, the last number written, the next reply expected, the last read, the outstanding requests, of one whether it has descriptors, whether it has a mode and which, replies, events, of a held record its number, its packet and a reply's descriptors, of two their order, the descriptors that wait, and those to be closed.
 pub each-needed :
-    Needed withOrder × Needed withK × Needed withS × Needed withWritten × Needed withExpected × Needed withRead × Needed withOutstanding × Needed withDescribed × Needed withMode × Needed withReplies × Needed withEvents × Needed withWaiting × Needed withClosing
+    Needed withOrder × Needed withK × Needed withS × Needed withWritten × Needed withExpected × Needed withRead × Needed withOutstanding × Needed withDescribed × Needed withMode × Needed withDiscard × Needed withReplies × Needed withEvents × Needed withNumber × Needed withPacket × Needed withHeld × Needed withTurn × Needed withWaiting × Needed withClosing
 each-needed = Part.each-needed
