@@ -2,7 +2,7 @@
 use mathlib.Core.Path.{_≡_, refl, sym, ap, _∙_}
 use mathlib.Core.Bool.{Bool, true, false, cond, not}
 use mathlib.Core.List.{List, [], _∷_}
-use Prim.Native.Nat.{ℕ, zero, suc, _≤_, _<_}
+use Prim.Native.Nat.{ℕ, _≤_, _<_}
 use native.Mathlib.Omega.{arith}
 use lib.Dec.{eqb, ltb}
 use borrow.Author.Tests.{eq-eqb, eqb-true, ne-eqb, lt-ltb, le-ltb}
@@ -22,7 +22,6 @@ use Rattle.connect.specs.declared.handshake.Connect.{Connect}
 use Rattle.connect.specs.declared.reply.Setup.{Setup}
 use Rattle.connect.specs.declared.reply.SetupFailed.{SetupFailed}
 use Rattle.connect.specs.declared.reply.SetupAuthenticate.{SetupAuthenticate}
-use Rattle.requests.specs.Room as Requests
 use Rattle.model.specs.Model as Model
 use Rattle.requests.specs.declared.Mode.{Mode}
 use Rattle.requests.specs.declared.Mode.the-variants as Mode
@@ -30,7 +29,6 @@ use Rattle.held.specs.Head as Head
 use Rattle.model.specs.Model.{Filing}
 use Rattle.model.specs.Says.{Shown, none, packet, ShownPoll, again, noReply, reply, ShownEvent, noEvent, event as anEvent}
 use Rattle.model.specs.Batch.{Stop, ended, refused, meaningless}
-use Rattle.model.specs.SendRequests as SendRequests
 use Rattle.model.specs.SendRequests.{ShownSendings}
 use Rattle.model.specs.PollForEvents.{ShownHandings}
 use Rattle.model.specs.Feed.{ShownFed}

@@ -200,7 +200,7 @@ new-told (refuses n) m = refl
 
 module _ (o : ℕ) (r q : Rooms) (k : capacity (r .requests) ≡ capacity (q .requests)) (s : length (r .store) ≡ length (q .store)) where
   opened-same : length (r .slots) ≡ length (q .slots) → opened o r ≡ opened o q
-  unfolding opened capacity
+  unfolding opened
   opened-same f = λ j. refuse (not (eqb (f j) mostDescriptors)) 9 (pass (new o (k j) (s j)) (λ c. gives (tt, c)))
 
   -- it tells the same, whatever stands in rooms of these lengths
@@ -211,7 +211,6 @@ module _ (o : ℕ) (r q : Rooms) (k : capacity (r .requests) ≡ capacity (q .re
 
   -- and leaves states that are alike
   pub new-alike : (c d : Connection) → Opens o r (gives (tt, c)) → Opens o q (gives (tt, d)) → Alike c r d q
-  unfolding capacity
   new-alike c d h i =
       record {
         sound = opens-sound o r c h;
