@@ -1,6 +1,6 @@
 pub mod Looking
 pub mod Sending
-pub mod Outcomes
-pub mod OutcomesLeaves
-pub mod OutcomesReader
-pub mod OutcomesHandshake
+pub mod Exports
+pub mod ExportsLeaves
+pub mod ExportsReader
+pub mod ExportsHandshake

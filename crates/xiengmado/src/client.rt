@@ -1,14 +1,5 @@
 // `connection`: the public calls, over a state in sixteen lent numbers and the three rooms.
-ghost use mathlib.Core.Path.{_≡_};
-ghost use mathlib.Core.List.{[], _∷_};
-ghost use lib.Dec.{eqb, leb};
-ghost use lib.ListN.{length};
-ghost use Rattle.model.specs.Reading.{rooms};
-ghost use Rattle.model.specs.SendRequests.{kindOf};
-ghost use Rattle.connection.specs.Calls.{Opens, Sends, EnqueuesFds, Enqueues, Discards, Polls, Checks, PollsReply, PollsEvent, Closes, Prepares};
-ghost use Rattle.answers.specs.Exported.{Exported, Kept, When};
-ghost use Rattle.answers.specs.Shown.{nothing, stateRow, first, filing, polled, poll, event, flag, modeOf, mostKind, isMode};
-ghost use Rattle.rows.specs.State.{connectionSlots, connectionOf};
+ghost use Rattle.xiengmado.specs.Exports.{XmConnectionNew, XmSendRequest, XmDiscardReply, XmEnqueueFds, XmEnqueuePacket, XmPollForReplyOrError, XmPollCheckForReplyOrError, XmPollForReply, XmPollForEventWithSequence, XmTakeClosedFds, XmPrepareCheckForReplyOrError};
 use answers::BAD;
 use answers::DONE;
 use answers::bit;
@@ -35,7 +26,7 @@ pub extern "C" fn xm_connection_new(
     store: &[u8],
     slots: &[u32],
 ) -> u32
-    ensures { λ r. ⌜ Kept (λ a. When (eqb (length (now (state .entry))) connectionSlots) Unit (Opens order (rooms (now (requests .entry)) (now (store .entry)) (now (slots .entry)))) a) nothing (stateRow (now (state .entry))) [] [] (now (state .entry)) (now (state .exit)) r ⌝ }
+    ensures { λ r. ⌜ XmConnectionNew (now (state .entry)) order (now (requests .entry)) (now (store .entry)) (now (slots .entry)) (now (state .exit)) r ⌝ }
 {
     if state.len() != rows::CONNECTION {
         return BAD;
@@ -55,7 +46,7 @@ pub extern "C" fn xm_send_request(
     kind: u8,
     number: &mut u64,
 ) -> u32
-    ensures { λ r. ⌜ Kept (λ a. When (leb kind mostKind) (now (requests .exit) ≡ now (requests .entry)) (λ b. Sends (connectionOf (now (state .entry))) (rooms (now (requests .entry)) (now (store .entry)) (now (slots .entry))) (kindOf kind) b (rooms (now (requests .exit)) (now (store .entry)) (now (slots .entry)))) a) first (stateRow (now (state .entry))) (now (number .entry) ∷ []) (now (number .exit) ∷ []) (now (state .entry)) (now (state .exit)) r ⌝ }
+    ensures { λ r. ⌜ XmSendRequest (now (state .entry)) (now (requests .entry)) (now (store .entry)) (now (slots .entry)) kind (now (number .entry)) (now (state .exit)) (now (requests .exit)) (now (number .exit)) r ⌝ }
 {
     if answers::MOST_KIND < kind {
         return BAD;
@@ -75,7 +66,7 @@ pub extern "C" fn xm_discard_reply(
     number: u64,
     mode: u8,
 ) -> u32
-    ensures { λ r. ⌜ Kept (λ a. When (isMode mode) ((rooms (now (requests .exit)) (now (store .exit)) (now (slots .exit))) ≡ (rooms (now (requests .entry)) (now (store .entry)) (now (slots .entry)))) (λ b. Discards (connectionOf (now (state .entry))) (rooms (now (requests .entry)) (now (store .entry)) (now (slots .entry))) number (modeOf mode) b (rooms (now (requests .exit)) (now (store .exit)) (now (slots .exit)))) a) nothing (stateRow (now (state .entry))) [] [] (now (state .entry)) (now (state .exit)) r ⌝ }
+    ensures { λ r. ⌜ XmDiscardReply (now (state .entry)) (now (requests .entry)) (now (store .entry)) (now (slots .entry)) number mode (now (state .exit)) (now (requests .exit)) (now (store .exit)) (now (slots .exit)) r ⌝ }
 {
     if !is_mode(mode) {
         return BAD;
@@ -100,7 +91,7 @@ pub extern "C" fn xm_enqueue_fds(
     slots: &mut [u32],
     list: &[u32],
 ) -> u32
-    ensures { λ r. ⌜ Kept (λ a. EnqueuesFds (connectionOf (now (state .entry))) (rooms (now (requests .entry)) (now (store .entry)) (now (slots .entry))) (now (list .entry)) a (rooms (now (requests .entry)) (now (store .entry)) (now (slots .exit)))) nothing (stateRow (now (state .entry))) [] [] (now (state .entry)) (now (state .exit)) r ⌝ }
+    ensures { λ r. ⌜ XmEnqueueFds (now (state .entry)) (now (requests .entry)) (now (store .entry)) (now (slots .entry)) (now (list .entry)) (now (state .exit)) (now (slots .exit)) r ⌝ }
 {
     let now = rows::connection(state);
     let answer = connection::enqueue_fds(now, requests, store, slots, list);
@@ -118,7 +109,7 @@ pub extern "C" fn xm_enqueue_packet(
     place: &mut u8,
     number: &mut u64,
 ) -> u32
-    ensures { λ r. ⌜ Kept (λ a. Enqueues (connectionOf (now (state .entry))) (rooms (now (requests .entry)) (now (store .entry)) (now (slots .entry))) (now (packet .entry)) a (rooms (now (requests .entry)) (now (store .exit)) (now (slots .exit)))) filing (stateRow (now (state .entry))) (now (place .entry) ∷ now (number .entry) ∷ []) (now (place .exit) ∷ now (number .exit) ∷ []) (now (state .entry)) (now (state .exit)) r ⌝ }
+    ensures { λ r. ⌜ XmEnqueuePacket (now (state .entry)) (now (requests .entry)) (now (store .entry)) (now (slots .entry)) (now (packet .entry)) (now (place .entry)) (now (number .entry)) (now (state .exit)) (now (store .exit)) (now (slots .exit)) (now (place .exit)) (now (number .exit)) r ⌝ }
 {
     let now = rows::connection(state);
     let answer = connection::enqueue_packet(now, requests, store, slots, packet);
@@ -139,7 +130,7 @@ pub extern "C" fn xm_poll_for_reply_or_error(
     size: &mut usize,
     count: &mut usize,
 ) -> u32
-    ensures { λ r. ⌜ Kept (λ a. Polls (connectionOf (now (state .entry))) (rooms (now (requests .entry)) (now (store .entry)) (now (slots .entry))) number (now (out .entry)) (now (fds .entry)) a (rooms (now (requests .entry)) (now (store .exit)) (now (slots .exit))) (now (out .exit)) (now (fds .exit))) polled (stateRow (now (state .entry))) (now (found .entry) ∷ now (size .entry) ∷ now (count .entry) ∷ []) (now (found .exit) ∷ now (size .exit) ∷ now (count .exit) ∷ []) (now (state .entry)) (now (state .exit)) r ⌝ }
+    ensures { λ r. ⌜ XmPollForReplyOrError (now (state .entry)) (now (requests .entry)) (now (store .entry)) (now (slots .entry)) number (now (out .entry)) (now (fds .entry)) (now (found .entry)) (now (size .entry)) (now (count .entry)) (now (state .exit)) (now (store .exit)) (now (slots .exit)) (now (out .exit)) (now (fds .exit)) (now (found .exit)) (now (size .exit)) (now (count .exit)) r ⌝ }
 {
     let now = rows::connection(state);
     let answer = connection::poll_for_reply_or_error(
@@ -166,7 +157,7 @@ pub extern "C" fn xm_poll_check_for_reply_or_error(
     result: &mut u8,
     size: &mut usize,
 ) -> u32
-    ensures { λ r. ⌜ Kept (λ a. Checks (connectionOf (now (state .entry))) (rooms (now (requests .entry)) (now (store .entry)) (now (slots .entry))) number (now (out .entry)) a (rooms (now (requests .entry)) (now (store .exit)) (now (slots .exit))) (now (out .exit))) poll (stateRow (now (state .entry))) (now (result .entry) ∷ now (size .entry) ∷ []) (now (result .exit) ∷ now (size .exit) ∷ []) (now (state .entry)) (now (state .exit)) r ⌝ }
+    ensures { λ r. ⌜ XmPollCheckForReplyOrError (now (state .entry)) (now (requests .entry)) (now (store .entry)) (now (slots .entry)) number (now (out .entry)) (now (result .entry)) (now (size .entry)) (now (state .exit)) (now (store .exit)) (now (slots .exit)) (now (out .exit)) (now (result .exit)) (now (size .exit)) r ⌝ }
 {
     let now = rows::connection(state);
     let answer = connection::poll_check_for_reply_or_error(
@@ -192,7 +183,7 @@ pub extern "C" fn xm_poll_for_reply(
     result: &mut u8,
     size: &mut usize,
 ) -> u32
-    ensures { λ r. ⌜ Kept (λ a. PollsReply (connectionOf (now (state .entry))) (rooms (now (requests .entry)) (now (store .entry)) (now (slots .entry))) number (now (out .entry)) a (rooms (now (requests .entry)) (now (store .exit)) (now (slots .exit))) (now (out .exit))) poll (stateRow (now (state .entry))) (now (result .entry) ∷ now (size .entry) ∷ []) (now (result .exit) ∷ now (size .exit) ∷ []) (now (state .entry)) (now (state .exit)) r ⌝ }
+    ensures { λ r. ⌜ XmPollForReply (now (state .entry)) (now (requests .entry)) (now (store .entry)) (now (slots .entry)) number (now (out .entry)) (now (result .entry)) (now (size .entry)) (now (state .exit)) (now (store .exit)) (now (slots .exit)) (now (out .exit)) (now (result .exit)) (now (size .exit)) r ⌝ }
 {
     let now = rows::connection(state);
     let answer = connection::poll_for_reply(
@@ -218,7 +209,7 @@ pub extern "C" fn xm_poll_for_event_with_sequence(
     number: &mut u64,
     size: &mut usize,
 ) -> u32
-    ensures { λ r. ⌜ Kept (λ a. PollsEvent (connectionOf (now (state .entry))) (rooms (now (requests .entry)) (now (store .entry)) (now (slots .entry))) (now (out .entry)) a (rooms (now (requests .entry)) (now (store .exit)) (now (slots .entry))) (now (out .exit))) event (stateRow (now (state .entry))) (now (found .entry) ∷ now (number .entry) ∷ now (size .entry) ∷ []) (now (found .exit) ∷ now (number .exit) ∷ now (size .exit) ∷ []) (now (state .entry)) (now (state .exit)) r ⌝ }
+    ensures { λ r. ⌜ XmPollForEventWithSequence (now (state .entry)) (now (requests .entry)) (now (store .entry)) (now (slots .entry)) (now (out .entry)) (now (found .entry)) (now (number .entry)) (now (size .entry)) (now (state .exit)) (now (store .exit)) (now (out .exit)) (now (found .exit)) (now (number .exit)) (now (size .exit)) r ⌝ }
 {
     let now = rows::connection(state);
     let answer = connection::poll_for_event_with_sequence(now, requests, store, slots, out);
@@ -234,7 +225,7 @@ pub extern "C" fn xm_take_closed_fds(
     out: &mut [u32],
     count: &mut usize,
 ) -> u32
-    ensures { λ r. ⌜ Kept (λ a. Closes (connectionOf (now (state .entry))) (rooms (now (requests .entry)) (now (store .entry)) (now (slots .entry))) (now (out .entry)) a (rooms (now (requests .entry)) (now (store .entry)) (now (slots .exit))) (now (out .exit))) first (stateRow (now (state .entry))) (now (count .entry) ∷ []) (now (count .exit) ∷ []) (now (state .entry)) (now (state .exit)) r ⌝ }
+    ensures { λ r. ⌜ XmTakeClosedFds (now (state .entry)) (now (requests .entry)) (now (store .entry)) (now (slots .entry)) (now (out .entry)) (now (count .entry)) (now (state .exit)) (now (slots .exit)) (now (out .exit)) (now (count .exit)) r ⌝ }
 {
     let now = rows::connection(state);
     let answer = connection::take_closed_fds(now, requests, store, slots, out);
@@ -251,7 +242,7 @@ pub extern "C" fn xm_prepare_check_for_reply_or_error(
     number: u64,
     sync: &mut u8,
 ) -> u32
-    ensures { λ r. ⌜ Exported (λ a. Prepares (connectionOf (now (state .entry))) (rooms (now (requests .entry)) (now (store .entry)) (now (slots .entry))) number a) flag (now (sync .entry) ∷ []) (now (sync .exit) ∷ []) r ⌝ }
+    ensures { λ r. ⌜ XmPrepareCheckForReplyOrError (now (state .entry)) (now (requests .entry)) (now (store .entry)) (now (slots .entry)) number (now (sync .entry)) (now (sync .exit)) r ⌝ }
 {
     let now = rows::connection(state);
     let answer = connection::prepare_check_for_reply_or_error(

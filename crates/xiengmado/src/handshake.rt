@@ -1,13 +1,5 @@
 // `connect`: the setup request, and a handshake in three lent numbers beside its buffer.
-ghost use mathlib.Core.Path.{_≡_};
-ghost use mathlib.Core.List.{[], _∷_};
-ghost use lib.ListN.{length};
-ghost use Rattle.connect.specs.Handshake.{made, capacity, advanced};
-ghost use Rattle.connect.specs.Request.{Writes};
-ghost use Rattle.connect.specs.Setup.{setup as Setup·setup};
-ghost use Rattle.answers.specs.Exported.{Exported, Kept};
-ghost use Rattle.answers.specs.Shown.{nothing, number, roomed, completed, progressed, setupRoomed, statusOf, setupFields, vendorText, reasonText};
-ghost use Rattle.rows.specs.State.{threeSlots, handshakeOf, handshakeRow};
+ghost use Rattle.xiengmado.specs.ExportsHandshake.{XmSetupRequest, XmConnectNew, XmConnectRemainingCapacity, XmConnectBuffer, XmConnectAdvance, XmConnectSetup, XmConnectVendor, XmConnectReason};
 use answers::BAD;
 use answers::DONE;
 use answers::code;
@@ -27,7 +19,7 @@ pub extern "C" fn xm_setup_request(
     out: &mut [u8],
     size: &mut usize,
 ) -> u32
-    ensures { λ r. ⌜ Exported (λ a. Writes order (now (name .entry)) (now (auth .entry)) (now (out .entry)) a (now (out .exit))) number (now (size .entry) ∷ []) (now (size .exit) ∷ []) r ⌝ }
+    ensures { λ r. ⌜ XmSetupRequest order (now (name .entry)) (now (auth .entry)) (now (out .entry)) (now (size .entry)) (now (out .exit)) (now (size .exit)) r ⌝ }
 {
     let answer = connect::setup_request(order, name, auth, out);
     match answer {
@@ -41,7 +33,7 @@ pub extern "C" fn xm_setup_request(
 
 #[no_mangle]
 pub extern "C" fn xm_connect_new(connect: &mut [u64], order: u8, buf: &[u8]) -> u32
-    ensures { λ r. ⌜ Kept (λ a. a ≡ roomed threeSlots (now (connect .entry)) (made order (length (now (buf .entry))))) nothing (handshakeRow (now (connect .entry))) [] [] (now (connect .entry)) (now (connect .exit)) r ⌝ }
+    ensures { λ r. ⌜ XmConnectNew (now (connect .entry)) order (now (buf .entry)) (now (connect .exit)) r ⌝ }
 {
     if connect.len() != rows::THREE {
         return BAD;
@@ -62,7 +54,7 @@ pub extern "C" fn xm_connect_remaining_capacity(
     buf: &[u8],
     size: &mut usize,
 ) -> u32
-    ensures { λ r. ⌜ Exported (λ a. a ≡ capacity (handshakeOf (now (connect .entry))) (now (buf .entry))) number (now (size .entry) ∷ []) (now (size .exit) ∷ []) r ⌝ }
+    ensures { λ r. ⌜ XmConnectRemainingCapacity (now (connect .entry)) (now (buf .entry)) (now (size .entry)) (now (size .exit)) r ⌝ }
 {
     let at = rows::handshake(connect);
     let answer = at.remaining_capacity(buf);
@@ -83,7 +75,7 @@ pub extern "C" fn xm_connect_buffer(
     start: &mut usize,
     size: &mut usize,
 ) -> u32
-    ensures { λ r. ⌜ Exported (λ a. a ≡ capacity (handshakeOf (now (connect .entry))) (now (buf .entry))) (λ n. handshakeOf (now (connect .entry)) .filled ∷ n ∷ []) (now (start .entry) ∷ now (size .entry) ∷ []) (now (start .exit) ∷ now (size .exit) ∷ []) r ⌝ }
+    ensures { λ r. ⌜ XmConnectBuffer (now (connect .entry)) (now (buf .entry)) (now (start .entry)) (now (size .entry)) (now (start .exit)) (now (size .exit)) r ⌝ }
 {
     let at = rows::handshake(connect);
     let answer = at.remaining_capacity(buf);
@@ -104,7 +96,7 @@ pub extern "C" fn xm_connect_advance(
     amount: usize,
     complete: &mut u8,
 ) -> u32
-    ensures { λ r. ⌜ Kept (λ a. a ≡ advanced (handshakeOf (now (connect .entry))) (now (buf .entry)) amount) completed (λ p. handshakeRow (now (connect .entry)) (progressed p)) (now (complete .entry) ∷ []) (now (complete .exit) ∷ []) (now (connect .entry)) (now (connect .exit)) r ⌝ }
+    ensures { λ r. ⌜ XmConnectAdvance (now (connect .entry)) (now (buf .entry)) amount (now (complete .entry)) (now (connect .exit)) (now (complete .exit)) r ⌝ }
 {
     let at = rows::handshake(connect);
     let answer = at.advance(buf, amount);
@@ -132,7 +124,7 @@ pub extern "C" fn xm_connect_setup(
     status: &mut u8,
     fields: &mut [u32],
 ) -> u32
-    ensures { λ r. ⌜ Kept (λ a. a ≡ setupRoomed (length (now (fields .entry))) (Setup·setup (handshakeOf (now (connect .entry))) (now (buf .entry)))) statusOf (setupFields (now (fields .entry))) (now (status .entry) ∷ []) (now (status .exit) ∷ []) (now (fields .entry)) (now (fields .exit)) r ⌝ }
+    ensures { λ r. ⌜ XmConnectSetup (now (connect .entry)) (now (buf .entry)) (now (status .entry)) (now (fields .entry)) (now (status .exit)) (now (fields .exit)) r ⌝ }
 {
     let at = rows::handshake(connect);
     let answer = at.setup(buf);
@@ -147,7 +139,7 @@ pub extern "C" fn xm_connect_vendor(
     start: &mut usize,
     size: &mut usize,
 ) -> u32
-    ensures { λ r. ⌜ Exported (λ a. a ≡ Setup·setup (handshakeOf (now (connect .entry))) (now (buf .entry))) vendorText (now (start .entry) ∷ now (size .entry) ∷ []) (now (start .exit) ∷ now (size .exit) ∷ []) r ⌝ }
+    ensures { λ r. ⌜ XmConnectVendor (now (connect .entry)) (now (buf .entry)) (now (start .entry)) (now (size .entry)) (now (start .exit)) (now (size .exit)) r ⌝ }
 {
     let at = rows::handshake(connect);
     let answer = at.setup(buf);
@@ -179,7 +171,7 @@ pub extern "C" fn xm_connect_reason(
     start: &mut usize,
     size: &mut usize,
 ) -> u32
-    ensures { λ r. ⌜ Exported (λ a. a ≡ Setup·setup (handshakeOf (now (connect .entry))) (now (buf .entry))) reasonText (now (start .entry) ∷ now (size .entry) ∷ []) (now (start .exit) ∷ now (size .exit) ∷ []) r ⌝ }
+    ensures { λ r. ⌜ XmConnectReason (now (connect .entry)) (now (buf .entry)) (now (start .entry)) (now (size .entry)) (now (start .exit)) (now (size .exit)) r ⌝ }
 {
     let at = rows::handshake(connect);
     let answer = at.setup(buf);

@@ -7,7 +7,7 @@
 // many or too few of them, are read as a state that is not sound, so the call refuses them by 9.
 // Values come back through pointers; a part of a buffer as its start and its size. What `kind` and
 // `mode` cannot mean is refused by 9 too. Nothing is decided here: a contract says that an export
-// does what the promise of the call below it says (`answers/specs/Exported`).
+// does what the promise of the call below it says (`specs/Exports`, over `answers/specs/Exported`).
 
 mod client;
 mod handshake;

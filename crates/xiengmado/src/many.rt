@@ -1,11 +1,6 @@
 // `connection`: the public calls that make many steps. What stopped one is a number: 0 for the end,
 // that of the refusal of the next step, 255 for a byte that is no kind, or 254 for part of a packet.
-ghost use mathlib.Core.List.{[], _∷_};
-ghost use Rattle.model.specs.Reading.{rooms};
-ghost use Rattle.connection.specs.Calls.{SendsMany, EnqueuesMany, PollsEvents};
-ghost use Rattle.answers.specs.Exported.{Kept};
-ghost use Rattle.answers.specs.Shown.{stateRow, sendings, fed, handings};
-ghost use Rattle.rows.specs.State.{connectionOf};
+ghost use Rattle.xiengmado.specs.Exports.{XmSendRequests, XmEnqueuePackets, XmPollForEvents};
 use answers::give_events;
 use answers::give_fed;
 use answers::give_sent_many;
@@ -22,7 +17,7 @@ pub extern "C" fn xm_send_requests(
     number: &mut u64,
     stop: &mut u32,
 ) -> u32
-    ensures { λ r. ⌜ Kept (λ a. SendsMany (connectionOf (now (state .entry))) (rooms (now (requests .entry)) (now (store .entry)) (now (slots .entry))) (now (kinds .entry)) a (rooms (now (requests .exit)) (now (store .entry)) (now (slots .entry)))) sendings (stateRow (now (state .entry))) (now (count .entry) ∷ now (number .entry) ∷ now (stop .entry) ∷ []) (now (count .exit) ∷ now (number .exit) ∷ now (stop .exit) ∷ []) (now (state .entry)) (now (state .exit)) r ⌝ }
+    ensures { λ r. ⌜ XmSendRequests (now (state .entry)) (now (requests .entry)) (now (store .entry)) (now (slots .entry)) (now (kinds .entry)) (now (count .entry)) (now (number .entry)) (now (stop .entry)) (now (state .exit)) (now (requests .exit)) (now (count .exit)) (now (number .exit)) (now (stop .exit)) r ⌝ }
 {
     let now = rows::connection(state);
     let answer = connection::send_requests(now, requests, store, slots, kinds);
@@ -41,7 +36,7 @@ pub extern "C" fn xm_enqueue_packets(
     count: &mut usize,
     stop: &mut u32,
 ) -> u32
-    ensures { λ r. ⌜ Kept (λ a. EnqueuesMany (connectionOf (now (state .entry))) (rooms (now (requests .entry)) (now (store .entry)) (now (slots .entry))) (now (bytes .entry)) a (rooms (now (requests .entry)) (now (store .exit)) (now (slots .exit)))) fed (stateRow (now (state .entry))) (now (size .entry) ∷ now (count .entry) ∷ now (stop .entry) ∷ []) (now (size .exit) ∷ now (count .exit) ∷ now (stop .exit) ∷ []) (now (state .entry)) (now (state .exit)) r ⌝ }
+    ensures { λ r. ⌜ XmEnqueuePackets (now (state .entry)) (now (requests .entry)) (now (store .entry)) (now (slots .entry)) (now (bytes .entry)) (now (size .entry)) (now (count .entry)) (now (stop .entry)) (now (state .exit)) (now (store .exit)) (now (slots .exit)) (now (size .exit)) (now (count .exit)) (now (stop .exit)) r ⌝ }
 {
     let now = rows::connection(state);
     let answer = connection::enqueue_packets(now, requests, store, slots, bytes);
@@ -61,7 +56,7 @@ pub extern "C" fn xm_poll_for_events(
     size: &mut usize,
     stop: &mut u32,
 ) -> u32
-    ensures { λ r. ⌜ Kept (λ a. PollsEvents (connectionOf (now (state .entry))) (rooms (now (requests .entry)) (now (store .entry)) (now (slots .entry))) (now (out .entry)) (now (marks .entry)) a (rooms (now (requests .entry)) (now (store .exit)) (now (slots .entry))) (now (out .exit)) (now (marks .exit))) handings (stateRow (now (state .entry))) (now (count .entry) ∷ now (size .entry) ∷ now (stop .entry) ∷ []) (now (count .exit) ∷ now (size .exit) ∷ now (stop .exit) ∷ []) (now (state .entry)) (now (state .exit)) r ⌝ }
+    ensures { λ r. ⌜ XmPollForEvents (now (state .entry)) (now (requests .entry)) (now (store .entry)) (now (slots .entry)) (now (out .entry)) (now (marks .entry)) (now (count .entry)) (now (size .entry)) (now (stop .entry)) (now (state .exit)) (now (store .exit)) (now (out .exit)) (now (marks .exit)) (now (count .exit)) (now (size .exit)) (now (stop .exit)) r ⌝ }
 {
     let now = rows::connection(state);
     let answer = connection::poll_for_events(now, requests, store, slots, out, marks);

@@ -1,10 +1,5 @@
 // `xc_misc`: three requests and three replies.
-ghost use mathlib.Core.Path.{_≡_};
-ghost use mathlib.Core.List.{[], _∷_};
-ghost use Rattle.xc_misc.specs.Requests.{Writes, getVersion, getXIDRange, getXIDList};
-ghost use Rattle.xc_misc.specs.Replies.{version, range, Lists};
-ghost use Rattle.answers.specs.Exported.{Exported};
-ghost use Rattle.answers.specs.Shown.{number, versionFields, rangeFields, listFields};
+ghost use Rattle.xiengmado.specs.ExportsLeaves.{XmXcMiscGetVersionRequest, XmXcMiscGetXidRangeRequest, XmXcMiscGetXidListRequest, XmXcMiscGetVersionReply, XmXcMiscGetXidRangeReply, XmXcMiscGetXidListReply};
 use answers::DONE;
 use answers::code;
 use xc_misc::ListAnswer;
@@ -21,7 +16,7 @@ pub extern "C" fn xm_xc_misc_get_version_request(
     out: &mut [u8],
     size: &mut usize,
 ) -> u32
-    ensures { λ r. ⌜ Exported (λ a. Writes order (getVersion order opcode major minor) (now (out .entry)) a (now (out .exit))) number (now (size .entry) ∷ []) (now (size .exit) ∷ []) r ⌝ }
+    ensures { λ r. ⌜ XmXcMiscGetVersionRequest order opcode major minor (now (out .entry)) (now (size .entry)) (now (out .exit)) (now (size .exit)) r ⌝ }
 {
     let answer = xc_misc::get_version_request(order, opcode, major, minor, out);
     match answer {
@@ -40,7 +35,7 @@ pub extern "C" fn xm_xc_misc_get_xid_range_request(
     out: &mut [u8],
     size: &mut usize,
 ) -> u32
-    ensures { λ r. ⌜ Exported (λ a. Writes order (getXIDRange order opcode) (now (out .entry)) a (now (out .exit))) number (now (size .entry) ∷ []) (now (size .exit) ∷ []) r ⌝ }
+    ensures { λ r. ⌜ XmXcMiscGetXidRangeRequest order opcode (now (out .entry)) (now (size .entry)) (now (out .exit)) (now (size .exit)) r ⌝ }
 {
     let answer = xc_misc::get_xid_range_request(order, opcode, out);
     match answer {
@@ -60,7 +55,7 @@ pub extern "C" fn xm_xc_misc_get_xid_list_request(
     out: &mut [u8],
     size: &mut usize,
 ) -> u32
-    ensures { λ r. ⌜ Exported (λ a. Writes order (getXIDList order opcode count) (now (out .entry)) a (now (out .exit))) number (now (size .entry) ∷ []) (now (size .exit) ∷ []) r ⌝ }
+    ensures { λ r. ⌜ XmXcMiscGetXidListRequest order opcode count (now (out .entry)) (now (size .entry)) (now (out .exit)) (now (size .exit)) r ⌝ }
 {
     let answer = xc_misc::get_xid_list_request(order, opcode, count, out);
     match answer {
@@ -81,7 +76,7 @@ pub extern "C" fn xm_xc_misc_get_version_reply(
     major: &mut u16,
     minor: &mut u16,
 ) -> u32
-    ensures { λ r. ⌜ Exported (λ a. a ≡ version order (now (packet .entry))) versionFields (now (sequence .entry) ∷ now (length .entry) ∷ now (major .entry) ∷ now (minor .entry) ∷ []) (now (sequence .exit) ∷ now (length .exit) ∷ now (major .exit) ∷ now (minor .exit) ∷ []) r ⌝ }
+    ensures { λ r. ⌜ XmXcMiscGetVersionReply order (now (packet .entry)) (now (sequence .entry)) (now (length .entry)) (now (major .entry)) (now (minor .entry)) (now (sequence .exit)) (now (length .exit)) (now (major .exit)) (now (minor .exit)) r ⌝ }
 {
     let answer = xc_misc::get_version_reply(order, packet);
     match answer {
@@ -106,7 +101,7 @@ pub extern "C" fn xm_xc_misc_get_xid_range_reply(
     start: &mut u32,
     count: &mut u32,
 ) -> u32
-    ensures { λ r. ⌜ Exported (λ a. a ≡ range order (now (packet .entry))) rangeFields (now (sequence .entry) ∷ now (length .entry) ∷ now (start .entry) ∷ now (count .entry) ∷ []) (now (sequence .exit) ∷ now (length .exit) ∷ now (start .exit) ∷ now (count .exit) ∷ []) r ⌝ }
+    ensures { λ r. ⌜ XmXcMiscGetXidRangeReply order (now (packet .entry)) (now (sequence .entry)) (now (length .entry)) (now (start .entry)) (now (count .entry)) (now (sequence .exit)) (now (length .exit)) (now (start .exit)) (now (count .exit)) r ⌝ }
 {
     let answer = xc_misc::get_xid_range_reply(order, packet);
     match answer {
@@ -131,7 +126,7 @@ pub extern "C" fn xm_xc_misc_get_xid_list_reply(
     length: &mut u32,
     count: &mut u32,
 ) -> u32
-    ensures { λ r. ⌜ Exported (λ a. Lists order (now (packet .entry)) (now (ids .entry)) a (now (ids .exit))) listFields (now (sequence .entry) ∷ now (length .entry) ∷ now (count .entry) ∷ []) (now (sequence .exit) ∷ now (length .exit) ∷ now (count .exit) ∷ []) r ⌝ }
+    ensures { λ r. ⌜ XmXcMiscGetXidListReply order (now (packet .entry)) (now (ids .entry)) (now (sequence .entry)) (now (length .entry)) (now (count .entry)) (now (ids .exit)) (now (sequence .exit)) (now (length .exit)) (now (count .exit)) r ⌝ }
 {
     let answer = xc_misc::get_xid_list_reply(order, packet, ids);
     match answer {

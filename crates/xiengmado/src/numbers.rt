@@ -1,9 +1,5 @@
 // `sequence`: the number of a packet, and that of a request.
-ghost use mathlib.Core.Path.{_≡_};
-ghost use mathlib.Core.List.{[], _∷_};
-ghost use Rattle.sequence.specs.Numbering.{FullNumber};
-ghost use Rattle.sequence.specs.Sending.{sending};
-ghost use Rattle.answers.specs.Exported.{Exported};
+ghost use Rattle.xiengmado.specs.ExportsLeaves.{XmFullNumber, XmSend};
 use answers::DONE;
 use answers::code;
 use sequence::Full;
@@ -13,7 +9,7 @@ use sequence::WireNumber;
 
 #[no_mangle]
 pub extern "C" fn xm_full_number(read: u64, wire: u16, number: &mut u64) -> u32
-    ensures { λ r. ⌜ Exported (λ a. FullNumber read wire a) (λ n. n ∷ []) (now (number .entry) ∷ []) (now (number .exit) ∷ []) r ⌝ }
+    ensures { λ r. ⌜ XmFullNumber read wire (now (number .entry)) (now (number .exit)) r ⌝ }
 {
     let answer = sequence::full_number(SequenceNumber(read), WireNumber(wire));
     match answer {
@@ -33,7 +29,7 @@ pub extern "C" fn xm_send(
     number: &mut u64,
     next: &mut u64,
 ) -> u32
-    ensures { λ r. ⌜ Exported (λ a. a ≡ sending written expected reply) (λ n. n .number ∷ n .expected ∷ []) (now (number .entry) ∷ now (next .entry) ∷ []) (now (number .exit) ∷ now (next .exit) ∷ []) r ⌝ }
+    ensures { λ r. ⌜ XmSend written expected reply (now (number .entry)) (now (next .entry)) (now (number .exit)) (now (next .exit)) r ⌝ }
 {
     let answer = sequence::send(SequenceNumber(written), SequenceNumber(expected), reply);
     match answer {

@@ -1,10 +1,5 @@
 // `x11_utils`: what a packet must be, and the fields of an error.
-ghost use mathlib.Core.Path.{_≡_};
-ghost use mathlib.Core.List.{[], _∷_};
-ghost use Rattle.x11_utils.specs.Packet.{checked};
-ghost use Rattle.x11_utils.specs.Error.{parsed};
-ghost use Rattle.answers.specs.Exported.{Exported};
-ghost use Rattle.answers.specs.Shown.{nothing, errorFields};
+ghost use Rattle.xiengmado.specs.ExportsLeaves.{XmCheckPacket, XmError};
 use answers::DONE;
 use answers::code;
 use x11_utils::Checked;
@@ -13,7 +8,7 @@ use x11_utils::X11Error;
 
 #[no_mangle]
 pub extern "C" fn xm_check_packet(order: u8, packet: &[u8], first: u8) -> u32
-    ensures { λ r. ⌜ Exported (λ a. a ≡ checked order (now (packet .entry)) first) nothing [] [] r ⌝ }
+    ensures { λ r. ⌜ XmCheckPacket order (now (packet .entry)) first r ⌝ }
 {
     let answer = x11_utils::check_packet(order, packet, first);
     match answer {
@@ -32,7 +27,7 @@ pub extern "C" fn xm_error(
     minor: &mut u16,
     major: &mut u8,
 ) -> u32
-    ensures { λ r. ⌜ Exported (λ a. a ≡ parsed order (now (packet .entry))) errorFields (now (error .entry) ∷ now (sequence .entry) ∷ now (value .entry) ∷ now (minor .entry) ∷ now (major .entry) ∷ []) (now (error .exit) ∷ now (sequence .exit) ∷ now (value .exit) ∷ now (minor .exit) ∷ now (major .exit) ∷ []) r ⌝ }
+    ensures { λ r. ⌜ XmError order (now (packet .entry)) (now (error .entry)) (now (sequence .entry)) (now (value .entry)) (now (minor .entry)) (now (major .entry)) (now (error .exit)) (now (sequence .exit)) (now (value .exit)) (now (minor .exit)) (now (major .exit)) r ⌝ }
 {
     let answer = X11Error::try_parse(order, packet);
     match answer {

@@ -1,12 +1,5 @@
 // `packet_reader`: the length of a packet, and a reader in three lent numbers beside its buffer.
-ghost use mathlib.Core.Path.{_≡_};
-ghost use mathlib.Core.List.{[], _∷_};
-ghost use lib.ListN.{length};
-ghost use Rattle.packet_reader.specs.Frame.{total};
-ghost use Rattle.packet_reader.specs.Reader.{made, capacity, advanced};
-ghost use Rattle.answers.specs.Exported.{Exported, Kept};
-ghost use Rattle.answers.specs.Shown.{nothing, number, roomed, packetLength, packetReader};
-ghost use Rattle.rows.specs.State.{threeSlots, readerOf, readerRow};
+ghost use Rattle.xiengmado.specs.ExportsReader.{XmPacketLength, XmReaderNew, XmReaderRemainingCapacity, XmReaderBuffer, XmReaderAdvance};
 use answers::BAD;
 use answers::DONE;
 use answers::code;
@@ -17,14 +10,14 @@ use packet_reader::PacketReader;
 
 #[no_mangle]
 pub extern "C" fn xm_packet_length(packet_code: u8, field: u32) -> usize
-    ensures { λ r. ⌜ r ≡ total «packet_code» field ⌝ }
+    ensures { λ r. ⌜ XmPacketLength «packet_code» field r ⌝ }
 {
     packet_reader::packet_length(packet_code, field)
 }
 
 #[no_mangle]
 pub extern "C" fn xm_reader_new(reader: &mut [u64], order: u8, buf: &[u8]) -> u32
-    ensures { λ r. ⌜ Kept (λ a. a ≡ roomed threeSlots (now (reader .entry)) (made order (length (now (buf .entry))))) nothing (readerRow (now (reader .entry))) [] [] (now (reader .entry)) (now (reader .exit)) r ⌝ }
+    ensures { λ r. ⌜ XmReaderNew (now (reader .entry)) order (now (buf .entry)) (now (reader .exit)) r ⌝ }
 {
     if reader.len() != rows::THREE {
         return BAD;
@@ -41,7 +34,7 @@ pub extern "C" fn xm_reader_new(reader: &mut [u64], order: u8, buf: &[u8]) -> u3
 
 #[no_mangle]
 pub extern "C" fn xm_reader_remaining_capacity(reader: &[u64], buf: &[u8], size: &mut usize) -> u32
-    ensures { λ r. ⌜ Exported (λ a. a ≡ capacity (readerOf (now (reader .entry))) (now (buf .entry))) number (now (size .entry) ∷ []) (now (size .exit) ∷ []) r ⌝ }
+    ensures { λ r. ⌜ XmReaderRemainingCapacity (now (reader .entry)) (now (buf .entry)) (now (size .entry)) (now (size .exit)) r ⌝ }
 {
     let at = rows::reader(reader);
     let answer = at.remaining_capacity(buf);
@@ -62,7 +55,7 @@ pub extern "C" fn xm_reader_buffer(
     start: &mut usize,
     size: &mut usize,
 ) -> u32
-    ensures { λ r. ⌜ Exported (λ a. a ≡ capacity (readerOf (now (reader .entry))) (now (buf .entry))) (λ n. readerOf (now (reader .entry)) .filled ∷ n ∷ []) (now (start .entry) ∷ now (size .entry) ∷ []) (now (start .exit) ∷ now (size .exit) ∷ []) r ⌝ }
+    ensures { λ r. ⌜ XmReaderBuffer (now (reader .entry)) (now (buf .entry)) (now (start .entry)) (now (size .entry)) (now (start .exit)) (now (size .exit)) r ⌝ }
 {
     let at = rows::reader(reader);
     let answer = at.remaining_capacity(buf);
@@ -84,7 +77,7 @@ pub extern "C" fn xm_reader_advance(
     amount: usize,
     size: &mut usize,
 ) -> u32
-    ensures { λ r. ⌜ Kept (λ a. a ≡ advanced (readerOf (now (reader .entry))) (now (buf .entry)) amount) packetLength (λ p. readerRow (now (reader .entry)) (packetReader p)) (now (size .entry) ∷ []) (now (size .exit) ∷ []) (now (reader .entry)) (now (reader .exit)) r ⌝ }
+    ensures { λ r. ⌜ XmReaderAdvance (now (reader .entry)) (now (buf .entry)) amount (now (size .entry)) (now (reader .exit)) (now (size .exit)) r ⌝ }
 {
     let at = rows::reader(reader);
     let answer = at.advance(buf, amount);

@@ -1,9 +1,6 @@
 // What the rooms of a connection hold, read without a state: for those who compare two runs or look
 // for a fault. No other function of the library needs these.
-ghost use mathlib.Core.Path.{_≡_};
-ghost use mathlib.Core.List.{[], _∷_};
-ghost use Rattle.answers.specs.Exported.{Exported};
-ghost use Rattle.xiengmado.specs.Looking.{requestKept, requestFields, Looks, recordFields};
+ghost use Rattle.xiengmado.specs.Exports.{XmRequestAt, XmRecordAt};
 use answers::BAD;
 use answers::DONE;
 use answers::bit;
@@ -20,7 +17,7 @@ pub extern "C" fn xm_request_at(
     descriptors: &mut u8,
     mode: &mut u8,
 ) -> u32
-    ensures { λ r. ⌜ Exported (λ a. a ≡ requestKept (now (requests .entry)) number) requestFields (now (descriptors .entry) ∷ now (mode .entry) ∷ []) (now (descriptors .exit) ∷ now (mode .exit) ∷ []) r ⌝ }
+    ensures { λ r. ⌜ XmRequestAt (now (requests .entry)) number (now (descriptors .entry)) (now (mode .entry)) (now (descriptors .exit)) (now (mode .exit)) r ⌝ }
 {
     if !requests::sized(requests, requests::capacity(requests)) {
         return BAD;
@@ -46,7 +43,7 @@ pub extern "C" fn xm_record_at(
     size: &mut usize,
     count: &mut u8,
 ) -> u32
-    ensures { λ r. ⌜ Exported (λ a. Looks (now (store .entry)) at end a) recordFields (now (kind .entry) ∷ now (number .entry) ∷ now (size .entry) ∷ now (count .entry) ∷ []) (now (kind .exit) ∷ now (number .exit) ∷ now (size .exit) ∷ now (count .exit) ∷ []) r ⌝ }
+    ensures { λ r. ⌜ XmRecordAt (now (store .entry)) at end (now (kind .entry)) (now (number .entry)) (now (size .entry)) (now (count .entry)) (now (kind .exit)) (now (number .exit)) (now (size .exit)) (now (count .exit)) r ⌝ }
 {
     if store.len() < end {
         return BAD;

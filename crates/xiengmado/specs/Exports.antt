@@ -1,5 +1,5 @@
--- Any two outcomes that the promise of an export of the connection allows are equal: the number returned, the numbers shown, the row, the rooms and every output. A definition is the promise of its
--- export, word for word: a name is what was lent or handed in, with a stroke what is there at exit, and r the number returned. Assumes nothing.
+-- THE PROMISES of the exports of the connection: a name is what was lent or handed in, with a stroke what is there at exit, and r the number returned. Beside each, that any two outcomes that it
+-- allows are equal: the number returned, the numbers shown, the row, the rooms and every output. Assumes nothing.
 use mathlib.Core.Path.{_≡_, sym, ap, _∙_}
 use mathlib.Core.List.{List, [], _∷_}
 use Prim.Native.Nat.{ℕ}
