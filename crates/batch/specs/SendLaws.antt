@@ -12,7 +12,7 @@ use Rattle.refusal.specs.Answer.{gives}
 use Rattle.requests.specs.Room.{capacity}
 use Rattle.model.specs.Reading.{Rooms, rooms, reads}
 use Rattle.model.specs.Promise.{answerOf, roomsOf}
-use Rattle.model.specs.Sound.{Numbers, room-there}
+use Rattle.model.specs.Sound.{Ranges, room-there}
 use Rattle.model.specs.Batch.{goes, stops, onward, many, ended, refused, meaningless, Site, site, exactTurn, exactMany}
 use Rattle.model.specs.BatchLaws.{exact-gave, exact-stayed, row-goes, row-stops, row-ends}
 use Rattle.model.specs.SendRequests.{kinds, kindOf, sendings, shownSendings}
@@ -75,7 +75,7 @@ pub inv-start : (c : Connection) (q bytes : List ℕ) → Ready c q → Inv c q 
 inv-start c q bytes R = record { most = omega arith; ready = R; long = refl; numbers = []; counted = refl; rest = λ s f. refl }
 
 -- what a step asks of the state
-pub inv-asks : (c₀ : Connection) (q₀ bytes : List ℕ) (c : Connection) (q : List ℕ) (i : ℕ) → Inv c₀ q₀ bytes c q i → Numbers c × (0 < capacity q)
+pub inv-asks : (c₀ : Connection) (q₀ bytes : List ℕ) (c : Connection) (q : List ℕ) (i : ℕ) → Inv c₀ q₀ bytes c q i → Ranges c × (0 < capacity q)
 inv-asks c₀ q₀ bytes c q i I = (I .ready .sound .numbers, room-there _ _ (I .ready .sound))
 
 -- a row that came to its end, as an answer

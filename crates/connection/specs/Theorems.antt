@@ -18,7 +18,7 @@ use Rattle.descriptors.specs.Theorems as Fds
 use Rattle.model.specs.Client.{Client}
 use Rattle.model.specs.Reading.{Rooms, count, slotsOf}
 use Rattle.model.specs.Promise.{Done, Promise, answerOf, roomsOf, guarded}
-use Rattle.model.specs.Sound.{Numbers, Sound, soundb, sound-is, is-sound}
+use Rattle.model.specs.Sound.{Ranges, Sound, soundb, sound-is, is-sound}
 use Rattle.model.specs.declared.Connection.{Connection}
 use Rattle.connection.specs.Calls.{Hands}
 
@@ -27,7 +27,7 @@ pub record Sentence (c : Connection) (r : Rooms) : Type 0 where
   pub order : legal (c .order) ≡ true
   pub requests : Room.Sized (c .capacity) (r .requests)
   pub store : length (r .store) ≡ c .room
-  pub numbers : Numbers c
+  pub numbers : Ranges c
   pub legal-bytes : (i : ℕ) → i < count c → Room.legal (Room.byteAt (r .requests) (c .first + i)) ≡ true
   pub held : Store.Sound (c .read) (c .window) (r .store)
   pub descriptors : Store.fdsIn (Store.replies (c .window) (r .store)) ≡ c .counts .held

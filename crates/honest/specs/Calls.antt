@@ -18,7 +18,7 @@ use Rattle.model.specs.declared.DiscardMode.{DiscardMode}
 use Rattle.model.specs.declared.DiscardMode.the-variants as DiscardMode
 use Rattle.model.specs.declared.Place.{Place}
 use Rattle.model.specs.declared.Place.the-variants as Place
-use Rattle.honest.specs.Run.{Event, took, unnumbered, noteSent, noteTook, noted, Runs, start, call, Lands, heldAs}
+use Rattle.honest.specs.Run.{Entry, took, unnumbered, noteSent, noteTook, noted, Runs, start, call, Lands, heldAs}
 use Rattle.honest.specs.Rules.{Ruled, none, sends-one, takes-one}
 
 -- ---- calls that touch neither byte order nor numbers
@@ -102,18 +102,18 @@ keeps-next c bytes = keeps-event c bytes (c .events)
 
 -- ---- the run
 
-abbrev RuledAt : Client → List Event → Type 0
+abbrev RuledAt : Client → List Entry → Type 0
 RuledAt c l = Ruled (c .order) (c .numbers) l
 
-moved : (c c' : Client) (l : List Event) → Still c c' → RuledAt c l → RuledAt c' l
+moved : (c c' : Client) (l : List Entry) → Still c c' → RuledAt c l → RuledAt c' l
 moved c c' l s r = rw (s .0, s .1) r
 
-ruled-kept : {A : Type 0} (f : A → Said) (c : Client) (l : List Event) (a : Answer (A × Client)) → Keeps c a → RuledAt c l → RuledAt (outcome f c a .next) l
+ruled-kept : {A : Type 0} (f : A → Said) (c : Client) (l : List Entry) (a : Answer (A × Client)) → Keeps c a → RuledAt c l → RuledAt (outcome f c a .next) l
 ruled-kept f c l (gives x) k r = moved c (x .1) l k r
 ruled-kept f c l (refuses n) k r = r
 
 -- a send follows the rule of sending
-ruled-send : (f : ℕ → Said) (c : Client) (l : List Event) (kind : ReplyFdKind) (a : Answer (ℕ × Client)) → a ≡ sendRequest c kind → RuledAt c l
+ruled-send : (f : ℕ → Said) (c : Client) (l : List Entry) (kind : ReplyFdKind) (a : Answer (ℕ × Client)) → a ≡ sendRequest c kind → RuledAt c l
     → RuledAt (outcome f c a .next) (noteSent (hasReply kind) a l)
 unfolding sendRequest noteSent
 ruled-send f c l kind (gives x) e r =
@@ -185,7 +185,7 @@ module _ (c : Client) (p : List ℕ) (x : Filing × Client) (k : Taking c p x) w
       let a : k .n ≡ c .numbers .read = gives-same (k .number-is ∙ (λ i. choose (h i) (gives (c .numbers .read)) (inRange (full (c .numbers .read) (field (c .order) 2 2 p))))) in
       (still-taken .0, still-taken .1 ∙ (λ i. record { written = c .numbers .written; expected = choose (h i) (c .numbers .expected) (max (c .numbers .expected) (a i)); read = a i }))
 
-ruled-packet : (f : Filing → Said) (c : Client) (l : List Event) (t : ℕ) (p : List ℕ) (a : Answer (Filing × Client)) → a ≡ enqueuePacket c p → RuledAt c l
+ruled-packet : (f : Filing → Said) (c : Client) (l : List Entry) (t : ℕ) (p : List ℕ) (a : Answer (Filing × Client)) → a ≡ enqueuePacket c p → RuledAt c l
     → RuledAt (outcome f c a .next) (noteTook t p a l)
 unfolding noteTook choose
 ruled-packet f c l t p (refuses n) e r = r
@@ -198,7 +198,7 @@ ruled-packet f c l t p (gives x) e r = go (unnumbered p) refl
         rw (k .order-is, k .numbers-is) (takes-one t p (x .0) (k .number-is) r)
 
 -- THE LINK: every run of calls keeps the rules.
-pub runs-ruled : {c : Client} {l : List Event} → Runs c l → Ruled (c .order) (c .numbers) l
+pub runs-ruled : {c : Client} {l : List Entry} → Runs c l → Ruled (c .order) (c .numbers) l
 unfolding step noted
 runs-ruled (start o k s) = none
 runs-ruled (call {c = c} {log = l} (send kind) t r) = ruled-send _ c l kind (sendRequest c kind) refl (runs-ruled r)

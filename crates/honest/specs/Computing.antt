@@ -17,7 +17,7 @@ use Rattle.model.specs.Model as Model
 use Rattle.model.specs.Model.{hasReply, sendRequest, Filing, enqueuePacket, Taken, pollForReplyOrError}
 use Rattle.model.specs.Calls.{send, enqueue, poll, step, run}
 use Rattle.model.specs.declared.ReplyFdKind.{ReplyFdKind}
-use Rattle.honest.specs.Run.{Event, sent, took, unnumbered, noteSent, noteTook, noted, Runs, call}
+use Rattle.honest.specs.Run.{Entry, sent, took, unnumbered, noteSent, noteTook, noted, Runs, call}
 
 -- opens what a call computes with
 unfoldable pub computing : ℕ
@@ -30,14 +30,14 @@ packetOf code second wire = code ∷ second ∷ (bytesOf 108 2 wire ++ replicate
 
 -- ---- A run goes on to what a call is known to give.
 
-pub send-to : {c : Client} {l : List Event} (kind : ReplyFdKind) (n : ℕ) (c' : Client) → sendRequest c kind ≡ gives (n, c') → Runs c l → Runs c' (sent (hasReply kind) ∷ l)
+pub send-to : {c : Client} {l : List Entry} (kind : ReplyFdKind) (n : ℕ) (c' : Client) → sendRequest c kind ≡ gives (n, c') → Runs c l → Runs c' (sent (hasReply kind) ∷ l)
 unfolding step noted noteSent
 send-to {c} {l} kind n c' e r = rw e at (call (send kind) 0 r)
 
-pub packet-to : {c : Client} {l : List Event} (t : ℕ) (p : List ℕ) (f : Filing) (c' : Client) → unnumbered p ≡ false → enqueuePacket c p ≡ gives (f, c') → Runs c l → Runs c' (took t p f ∷ l)
+pub packet-to : {c : Client} {l : List Entry} (t : ℕ) (p : List ℕ) (f : Filing) (c' : Client) → unnumbered p ≡ false → enqueuePacket c p ≡ gives (f, c') → Runs c l → Runs c' (took t p f ∷ l)
 unfolding step noted noteTook choose
 packet-to {c} {l} t p f c' h e r = rw (e, h) at (call (enqueue p) t r)
 
-pub poll-to : {c : Client} {l : List Event} (n bytes places : ℕ) (x : Taken) (c' : Client) → pollForReplyOrError c n bytes places ≡ gives (x, c') → Runs c l → Runs c' l
+pub poll-to : {c : Client} {l : List Entry} (n bytes places : ℕ) (x : Taken) (c' : Client) → pollForReplyOrError c n bytes places ≡ gives (x, c') → Runs c l → Runs c' l
 unfolding step noted
 poll-to {c} {l} n bytes places x c' e r = rw e at (call (poll n bytes places) 0 r)

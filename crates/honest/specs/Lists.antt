@@ -16,7 +16,7 @@ use Rattle.model.specs.declared.DiscardMode.the-variants as DiscardMode
 use Rattle.model.specs.declared.Place.{Place}
 use Rattle.model.specs.declared.Place.the-variants as Place
 use Rattle.model.specs.Batch.{Each}
-use Rattle.honest.specs.Run.{Event, sent, took, unnumbered, noteSent, noteTook, noted, Runs, start, call, Right, Lands, heldAs, Took, Bears, Holds, Hands}
+use Rattle.honest.specs.Run.{Entry, sent, took, unnumbered, noteSent, noteTook, noted, Runs, start, call, Right, Lands, heldAs, Took, Bears, Holds, Hands}
 use Rattle.honest.specs.Calls.{Taking, taking, lands}
 
 -- of the client that a call hands back
@@ -220,33 +220,33 @@ module _ (P : Held → Type 0) (c : Client) where
 
 -- ---- what is known of a record from the log: a packet was said to be filed under its number
 
-abbrev pub FiledAs : List Event → ℕ → List ℕ → Type 0
+abbrev pub FiledAs : List Entry → ℕ → List ℕ → Type 0
 FiledAs [] n p = ⊥
 FiledAs (sent has-reply ∷ l) n p = FiledAs l n p
 FiledAs (took u q f ∷ l) n p = ((n ≡ f .number) × (p ≡ q)) ⊎ FiledAs l n p
 
-abbrev pub FiledIn : List Event → Held → Type 0
+abbrev pub FiledIn : List Entry → Held → Type 0
 FiledIn l h = unnumbered (h .packet) ≡ false → FiledAs l (h .number) (h .packet)
 
 -- where the numbers are right, it is the true one
-filed-as : (l : List Event) → Right l → (n : ℕ) (p : List ℕ) → FiledAs l n p → Took l n p
+filed-as : (l : List Entry) → Right l → (n : ℕ) (p : List ℕ) → FiledAs l n p → Took l n p
 filed-as [] r n p k = k
 filed-as (sent has-reply ∷ l) r n p k = filed-as l r n p k
 filed-as (took u q f ∷ l) r n p (inl k) = inl (k .0 ∙ r .0, k .1)
 filed-as (took u q f ∷ l) r n p (inr k) = inr (filed-as l (r .1) n p k)
 
-pub filed-took : (l : List Event) → Right l → (h : Held) → FiledIn l h → Bears l h
+pub filed-took : (l : List Entry) → Right l → (h : Held) → FiledIn l h → Bears l h
 filed-took l r h k e = filed-as l r (h .number) (h .packet) (k e)
 
-as-event : (l : List Event) (h : Held) → FiledIn l h → FiledIn l (asEvent h)
+as-event : (l : List Entry) (h : Held) → FiledIn l h → FiledIn l (asEvent h)
 as-event l h k = k
 
-filed-send : (f : ℕ → Said) (c : Client) (l : List Event) (b : Bool) (a : Answer (ℕ × Client)) → Holds (FiledIn l) c → Leaves (FiledIn l) a → Holds (FiledIn (noteSent b a l)) (outcome f c a .next)
+filed-send : (f : ℕ → Said) (c : Client) (l : List Entry) (b : Bool) (a : Answer (ℕ × Client)) → Holds (FiledIn l) c → Leaves (FiledIn l) a → Holds (FiledIn (noteSent b a l)) (outcome f c a .next)
 unfolding noteSent
 filed-send f c l b (gives x) h k = k
 filed-send f c l b (refuses n) h k = h
 
-filed-packet : (f : Filing → Said) (c : Client) (l : List Event) (t : ℕ) (p : List ℕ) (a : Answer (Filing × Client)) → a ≡ enqueuePacket c p → Holds (FiledIn l) c
+filed-packet : (f : Filing → Said) (c : Client) (l : List Entry) (t : ℕ) (p : List ℕ) (a : Answer (Filing × Client)) → a ≡ enqueuePacket c p → Holds (FiledIn l) c
     → Holds (FiledIn (noteTook t p a l)) (outcome f c a .next)
 unfolding noteTook choose
 filed-packet f c l t p (refuses n) e h = h
@@ -260,7 +260,7 @@ filed-packet f c l t p (gives x) e h = go (unnumbered p) refl (taking c p x e)
         (all-map (λ y g z. inr (g z)) (c .replies) (h .0), all-map (λ y g z. inr (g z)) (c .events) (h .1))
         (λ z. inl (sym (ap (λ y. y .number) (k .filing-is)), refl))
 
-pub runs-filed : {c : Client} {l : List Event} → Runs c l → Holds (FiledIn l) c
+pub runs-filed : {c : Client} {l : List Entry} → Runs c l → Holds (FiledIn l) c
 unfolding step noted
 runs-filed (start o k s) = (tt, tt)
 runs-filed (call {c = c} {log = l} (send kind) t r) = filed-send _ c l _ (sendRequest c kind) (runs-filed r) (leaves-send (FiledIn l) (as-event l) c kind (runs-filed r))

@@ -14,13 +14,13 @@ use Rattle.model.specs.Model.{fresh, joining, sendRequest, Filing}
 use Rattle.model.specs.Calls.{send, enqueue, step}
 use Rattle.model.specs.declared.ReplyFdKind.the-variants.{NoReply, ReplyWithoutFds}
 use Rattle.model.specs.declared.Place.the-variants.{Events}
-use Rattle.honest.specs.Run.{Event, sent, took, Runs, start, call, sends, Heard, Wire, Rises, Known, Answered, Along, Right}
+use Rattle.honest.specs.Run.{Entry, sent, took, Runs, start, call, sends, Heard, Wire, Rises, Known, Answered, Along, Right}
 use Rattle.honest.specs.Computing.{computing, packetOf, send-to}
 
 -- There is a run in which each packet is as P says, and not each was given its true number.
-pub record Wrong (P : ℕ → List Event → ℕ → List ℕ → Type 0) : Type 0 where
+pub record Wrong (P : ℕ → List Entry → ℕ → List ℕ → Type 0) : Type 0 where
   pub state : Client
-  pub log : List Event
+  pub log : List Entry
   pub run : Runs state log
   pub so : Along (P (state .order)) log
   pub wrong : Right log → ⊥
@@ -73,7 +73,7 @@ known-needed =
 abbrev asked : ℕ → Client
 asked n = record { order = 108; most-requests = 65536; most-bytes = 48; numbers = record { written = n; expected = n; read = 0 }; outstanding = replicate n (joining ReplyWithoutFds); replies = []; events = []; waiting = []; closing = [] }
 
-asks : ℕ → List Event
+asks : ℕ → List Entry
 asks zero = []
 asks (suc n) = sent true ∷ asks n
 
@@ -87,7 +87,7 @@ unfolding asks
 asks-heard zero u h = h
 asks-heard (suc n) u h = asks-heard n u h
 
-asks-each : (P : List Event → ℕ → List ℕ → Type 0) (n : ℕ) → Along P (asks n)
+asks-each : (P : List Entry → ℕ → List ℕ → Type 0) (n : ℕ) → Along P (asks n)
 unfolding asks
 asks-each P zero = tt
 asks-each P (suc n) = asks-each P n

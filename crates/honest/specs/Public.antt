@@ -13,7 +13,7 @@ use Rattle.model.specs.Promise.{Done, answerOf, roomsOf, modelOf, guarded, Prom
 use Rattle.model.specs.Sound.{soundb}
 use Rattle.model.specs.declared.Connection.{Connection}
 use Rattle.model.specs.declared.ReplyFdKind.{ReplyFdKind}
-use Rattle.honest.specs.Run.{Event, noteSent, noteTook, noted, Runs, start, call}
+use Rattle.honest.specs.Run.{Entry, noteSent, noteTook, noted, Runs, start, call}
 
 -- the state that an answer hands back; a refusal hands none back, and the caller goes on with the one it has
 unfoldable pub stateOf : {B : Type 0} → Answer (B × Connection) → Connection → Connection
@@ -59,13 +59,13 @@ Other (poll-event bytes) = Unit {0}
 Other (take-closed places) = Unit {0}
 
 -- A run of public calls, over state and rooms: from ones that are read as fresh, any call that keeps its promise, whatever it is exactly (e) and whatever it shows of what it gives (f). The log has what the answers say.
-pub data Public : Connection → Rooms → List Event → Type 1 where
+pub data Public : Connection → Rooms → List Entry → Type 1 where
   opens : {c : Connection} {r : Rooms} (o k s : ℕ) → reads c r ≡ fresh o k s → Public c r []
-  sends : {c : Connection} {r : Rooms} {l : List Event} (kind : ReplyFdKind) (e : Answer (Done ℕ)) (a : Answer (ℕ × Connection)) (r' : Rooms) → Promise (λ n. n) e (λ m. sendRequest m kind) c r a r' → Public c r l
+  sends : {c : Connection} {r : Rooms} {l : List Entry} (kind : ReplyFdKind) (e : Answer (Done ℕ)) (a : Answer (ℕ × Connection)) (r' : Rooms) → Promise (λ n. n) e (λ m. sendRequest m kind) c r a r' → Public c r l
       → Public (stateOf a c) r' (noteSent (hasReply kind) a l)
-  takes : {c : Connection} {r : Rooms} {l : List Event} (t : ℕ) (p : List ℕ) (e : Answer (Done Filing)) (a : Answer (Filing × Connection)) (r' : Rooms) → Promise (λ n. n) e (λ m. enqueuePacket m p) c r a r' → Public c r l
+  takes : {c : Connection} {r : Rooms} {l : List Entry} (t : ℕ) (p : List ℕ) (e : Answer (Done Filing)) (a : Answer (Filing × Connection)) (r' : Rooms) → Promise (λ n. n) e (λ m. enqueuePacket m p) c r a r' → Public c r l
       → Public (stateOf a c) r' (noteTook t p a l)
-  others : {c : Connection} {r : Rooms} {l : List Event} (x : Call) → Other x → {B : Type 0} (f : Given x → B) (e : Answer (Done (Given x))) (a : Answer (B × Connection)) (r' : Rooms) → Promise f e (modelled x) c r a r' → Public c r l
+  others : {c : Connection} {r : Rooms} {l : List Entry} (x : Call) → Other x → {B : Type 0} (f : Given x → B) (e : Answer (Done (Given x))) (a : Answer (B × Connection)) (r' : Rooms) → Promise f e (modelled x) c r a r' → Public c r l
       → Public (stateOf a c) r' l
 
 -- ---- What a promise comes to: the model gives the same and the state is read as the model's; or a refusal, 9 among them, and all is as found.
@@ -82,7 +82,7 @@ came {A = A} f e m c r a r' k = rw (k .exact .answers, k .exact .leaves) (go (gu
     go (gives d) q = gave (d .value) (d .state) (d .left) (sym (gives-rest _ 9 _ q))
     go (refuses n) q = kept n
 
-module _ (c : Connection) (r : Rooms) (l : List Event) where
+module _ (c : Connection) (r : Rooms) (l : List Entry) where
   came-sent : (kind : ReplyFdKind) {a : Answer (ℕ × Connection)} {r' : Rooms} → Came (λ n. n) (sendRequest (reads c r) kind) r a r' → Runs (reads c r) l → Runs (reads (stateOf a c) r') (noteSent (hasReply kind) a l)
   unfolding stateOf noteSent step noted
   came-sent kind (gave v s r' q) k = rw q at (call (send kind) 0 k)
@@ -113,7 +113,7 @@ module _ (c : Connection) (r : Rooms) (l : List Event) where
   came-other x o f (kept n) k = k
 
 -- THE LIFT: a run of public calls is, as it is read, a run of the model.
-pub public-runs : {c : Connection} {r : Rooms} {l : List Event} → Public c r l → Runs (reads c r) l
+pub public-runs : {c : Connection} {r : Rooms} {l : List Entry} → Public c r l → Runs (reads c r) l
 public-runs (opens o k s e) = rw e (start o k s)
 public-runs (sends {c = c} {r = r} {l = l} kind e a r' k h) = came-sent c r l kind (came _ e (λ m. sendRequest m kind) c r a r' k) (public-runs h)
 public-runs (takes {c = c} {r = r} {l = l} t p e a r' k h) = came-took c r l t p (came _ e (λ m. enqueuePacket m p) c r a r' k) (public-runs h)

@@ -15,14 +15,14 @@ use Rattle.sequence.specs.Sending as Sending
 use Rattle.sequence.specs.Sending.{sending, mustSync, syncSpan}
 use Rattle.model.specs.Client.{Numbers}
 use Rattle.model.specs.Model.{Filing}
-use Rattle.honest.specs.Run.{Event, sent, took, sends, Asked, Heard, Fair, Honest, Right}
+use Rattle.honest.specs.Run.{Entry, sent, took, sends, WithReply, Heard, Fair, Honest, Right}
 
 -- What accepted sends and accepted packets make of the three numbers, on a connection of byte order o.
-pub data Ruled (o : ℕ) : Numbers → List Event → Type 0 where
+pub data Ruled (o : ℕ) : Numbers → List Entry → Type 0 where
   none : Ruled o (record { written = 0; expected = 0; read = 0 }) []
-  sends-one : {n : Numbers} {l : List Event} (has-reply : Bool) (x : Sending.Numbers) → gives x ≡ sending (n .written) (n .expected) has-reply → Ruled o n l
+  sends-one : {n : Numbers} {l : List Entry} (has-reply : Bool) (x : Sending.Numbers) → gives x ≡ sending (n .written) (n .expected) has-reply → Ruled o n l
       → Ruled o (record { written = x .number; expected = x .expected; read = n .read }) (sent has-reply ∷ l)
-  takes-one : {n : Numbers} {l : List Event} (t : ℕ) (p : List ℕ) (f : Filing) → gives (f .number) ≡ inRange (full (n .read) (field o 2 2 p)) → Ruled o n l
+  takes-one : {n : Numbers} {l : List Entry} (t : ℕ) (p : List ℕ) (f : Filing) → gives (f .number) ≡ inRange (full (n .read) (field o 2 2 p)) → Ruled o n l
       → Ruled o (record { written = n .written; expected = max (n .expected) (f .number); read = f .number }) (took t p f ∷ l)
 
 -- FREED: once a request with a reply was sent, no sync is asked for.
@@ -37,20 +37,20 @@ sync-frees w e x q =
 -- ---- the invariant
 
 -- a request with a reply at most 65,535 before t
-pub record Before (l : List Event) (t : ℕ) : Type 0 where
+pub record Before (l : List Entry) (t : ℕ) : Type 0 where
   pub q : ℕ
-  pub asked : Asked l q
+  pub asked : WithReply l q
   pub less : q < t
   pub near : t < q + wireValues
 
 -- `covered` is what carries it: each number further than 65,535 past the last read has a request with a reply closely before it, and it only gets weaker as the last read rises.
-pub record Inv (n : Numbers) (l : List Event) : Type 0 where
+pub record Inv (n : Numbers) (l : List Entry) : Type 0 where
   pub counted : n .written ≡ sends l
   pub fits : n .written ≤ lastNumber
   pub read-sent : n .read ≤ n .written
   pub expected-sent : n .expected ≤ n .written
   pub near : n .written ≤ n .expected + syncSpan
-  pub anchor : (n .expected ≤ n .read) ⊎ Asked l (n .expected)
+  pub anchor : (n .expected ≤ n .read) ⊎ WithReply l (n .expected)
   pub last : (n .read ≡ 0) ⊎ Heard l (n .read)
   pub heard : (u : ℕ) → Heard l u → u ≤ n .read
   pub covered : (t : ℕ) → n .read + wireValues ≤ t → t ≤ n .written → Before l t
@@ -72,15 +72,15 @@ inv-start =
       right = tt;
     }
 
-asked-more : (e : Event) (l : List Event) (q : ℕ) → Asked l q → Asked (e ∷ l) q
+asked-more : (e : Entry) (l : List Entry) (q : ℕ) → WithReply l q → WithReply (e ∷ l) q
 asked-more (sent true) l q a = inr a
 asked-more (sent false) l q a = a
 asked-more (took t p f) l q a = a
 
-before-more : (e : Event) {l : List Event} {t : ℕ} → Before l t → Before (e ∷ l) t
+before-more : (e : Entry) {l : List Entry} {t : ℕ} → Before l t → Before (e ∷ l) t
 before-more e {l} b = record { q = b .q; asked = asked-more e l (b .q) (b .asked); less = b .less; near = b .near }
 
-module _ (o : ℕ) (n : Numbers) (l : List Event) (i : Inv n l) where
+module _ (o : ℕ) (n : Numbers) (l : List Entry) (i : Inv n l) where
   -- An honest packet is at most 65,535 past the last read: else a request with a reply stands between.
   near-read : (t : ℕ) (p : List ℕ) → Fair o l t p → t < n .read + wireValues
   near-read t p f = elim (decLe (n .read + wireValues) t) [ yes far ↦ absurd (never far) | no near ↦ omega arith ]
@@ -179,13 +179,13 @@ module _ (o : ℕ) (n : Numbers) (l : List Event) (i : Inv n l) where
         right = (e, i .right);
       }
     where
-      still : n .read ≤ t → ¬ (n .expected ≤ f .number) → Asked l (max (n .expected) (f .number))
+      still : n .read ≤ t → ¬ (n .expected ≤ f .number) → WithReply l (max (n .expected) (f .number))
       still up h =
           let m : max (n .expected) (f .number) ≡ n .expected = omega arith in
           ⊎-elim (λ (le : n .expected ≤ n .read). absurd (omega arith)) (λ a. rw m a) (i .anchor)
 
 -- THE INVARIANT holds with an honest server, however long the run.
-pub ruled-inv : {o : ℕ} {n : Numbers} {l : List Event} → Ruled o n l → Honest o l → Inv n l
+pub ruled-inv : {o : ℕ} {n : Numbers} {l : List Entry} → Ruled o n l → Honest o l → Inv n l
 ruled-inv none h = inv-start
 ruled-inv {o} (sends-one {n = n} {l = l} has-reply x e r) h = inv-sent o n l (ruled-inv r h) has-reply x e
 ruled-inv {o} (takes-one {n = n} {l = l} t p f e r) h =

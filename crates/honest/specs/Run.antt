@@ -21,25 +21,25 @@ use Rattle.model.specs.Batch.{Each}
 -- ---- A run
 
 -- The log tells what was accepted, the latest first: a request, whose number is its place among them, from 1 on; and a packet that carries a number, with its true number, which the engine never sees, and with what the engine said of it, where it was filed and under which number.
-pub data Event : Type 0 where
-  sent : (has-reply : Bool) → Event
-  took : (true-number : ℕ) (packet : List ℕ) (filing : Filing) → Event
+pub data Entry : Type 0 where
+  sent : (has-reply : Bool) → Entry
+  took : (true-number : ℕ) (packet : List ℕ) (filing : Filing) → Entry
 
 -- every packet carries a number but those of code 11
 abbrev pub unnumbered : List ℕ → Bool
 unnumbered p = eqb (codeOf p) keymapNotify
 
 -- what a send and a packet add to the log: a refusal adds nothing, and so does a packet that carries no number
-unfoldable pub noteSent : {A : Type 0} → Bool → Answer A → List Event → List Event
+unfoldable pub noteSent : {A : Type 0} → Bool → Answer A → List Entry → List Entry
 noteSent has-reply (gives x) log = sent has-reply ∷ log
 noteSent has-reply (refuses n) log = log
 
-unfoldable pub noteTook : {A : Type 0} → ℕ → List ℕ → Answer (Filing × A) → List Event → List Event
+unfoldable pub noteTook : {A : Type 0} → ℕ → List ℕ → Answer (Filing × A) → List Entry → List Entry
 noteTook t p (gives x) log = choose (unnumbered p) log (took t p (x .0) ∷ log)
 noteTook t p (refuses n) log = log
 
 -- what a call adds; t is the true number of the packet that it brings, if it brings one
-unfoldable pub noted : Client → Call → ℕ → List Event → List Event
+unfoldable pub noted : Client → Call → ℕ → List Entry → List Entry
 noted c (send kind) t log = noteSent (hasReply kind) (sendRequest c kind) log
 noted c (enqueue-fds list) t log = log
 noted c (enqueue p) t log = noteTook t p (enqueuePacket c p) log
@@ -52,27 +52,27 @@ noted c (poll-event bytes) t log = log
 noted c (take-closed places) t log = log
 
 -- "take a fresh engine, its sends and other calls, and a server's packets taken in order, mixed as one likes, each call given the state as the one before left it": any call, with any arguments, at any time. A refused packet leaves no trace, so that the log has the packets in the server's order where a refused one is offered again before a later one.
-pub data Runs : Client → List Event → Type 0 where
+pub data Runs : Client → List Entry → Type 0 where
   start : (o k s : ℕ) → Runs (fresh o k s) []
-  call : {c : Client} {log : List Event} (x : Call) (t : ℕ) → Runs c log → Runs (step c x .next) (noted c x t log)
+  call : {c : Client} {log : List Entry} (x : Call) (t : ℕ) → Runs c log → Runs (step c x .next) (noted c x t log)
 
 -- ---- The server: all of this speaks of the log, and never of the engine's numbers
 
 -- how many requests were sent
-abbrev pub sends : List Event → ℕ
+abbrev pub sends : List Entry → ℕ
 sends [] = 0
 sends (sent has-reply ∷ l) = sends l + 1
 sends (took t p f ∷ l) = sends l
 
 -- q is the number of a request with a reply
-abbrev pub Asked : List Event → ℕ → Type 0
-Asked [] q = ⊥
-Asked (sent true ∷ l) q = (q ≡ sends l + 1) ⊎ Asked l q
-Asked (sent false ∷ l) q = Asked l q
-Asked (took t p f ∷ l) q = Asked l q
+abbrev pub WithReply : List Entry → ℕ → Type 0
+WithReply [] q = ⊥
+WithReply (sent true ∷ l) q = (q ≡ sends l + 1) ⊎ WithReply l q
+WithReply (sent false ∷ l) q = WithReply l q
+WithReply (took t p f ∷ l) q = WithReply l q
 
 -- a packet with the true number q came
-abbrev pub Heard : List Event → ℕ → Type 0
+abbrev pub Heard : List Entry → ℕ → Type 0
 Heard [] q = ⊥
 Heard (sent has-reply ∷ l) q = Heard l q
 Heard (took t p f ∷ l) q = (q ≡ t) ⊎ Heard l q
@@ -82,37 +82,37 @@ abbrev pub Wire : ℕ → ℕ → List ℕ → Type 0
 Wire o t p = field o 2 2 p ≡ t % wireValues
 
 -- "true numbers never fall"
-abbrev pub Rises : List Event → ℕ → Type 0
+abbrev pub Rises : List Entry → ℕ → Type 0
 Rises l t = (u : ℕ) → Heard l u → u ≤ t
 
 -- "nor pass the requests sent by then"
-abbrev pub Known : List Event → ℕ → Type 0
+abbrev pub Known : List Entry → ℕ → Type 0
 Known l t = t ≤ sends l
 
 -- and "each request with a reply" has had "a numbered packet of its own number before any of a greater".
-abbrev pub Answered : List Event → ℕ → Type 0
-Answered l t = (q : ℕ) → Asked l q → q < t → Heard l q
+abbrev pub Answered : List Entry → ℕ → Type 0
+Answered l t = (q : ℕ) → WithReply l q → q < t → Heard l q
 
-pub record Fair (o : ℕ) (l : List Event) (t : ℕ) (p : List ℕ) : Type 0 where
+pub record Fair (o : ℕ) (l : List Entry) (t : ℕ) (p : List ℕ) : Type 0 where
   pub wire : Wire o t p
   pub rises : Rises l t
   pub known : Known l t
   pub answered : Answered l t
 
 -- each packet of a log was as P says when it came
-abbrev pub Along : (List Event → ℕ → List ℕ → Type 0) → List Event → Type 0
+abbrev pub Along : (List Entry → ℕ → List ℕ → Type 0) → List Entry → Type 0
 Along P [] = Unit {0}
 Along P (sent has-reply ∷ l) = Along P l
 Along P (took t p f ∷ l) = P l t p × Along P l
 
 -- the server is honest
-abbrev pub Honest : ℕ → List Event → Type 0
+abbrev pub Honest : ℕ → List Entry → Type 0
 Honest o = Along (Fair o)
 
 -- ---- What is to be shown
 
 -- the engine's number of each packet is the true one
-abbrev pub Right : List Event → Type 0
+abbrev pub Right : List Entry → Type 0
 Right [] = Unit {0}
 Right (sent has-reply ∷ l) = Right l
 Right (took t p f ∷ l) = (f .number ≡ t) × Right l
@@ -134,13 +134,13 @@ pub record Filed (c : Client) (p : List ℕ) (t : ℕ) (x : Filing × Client) : 
   pub record-is : Lands (x .0 .place) (heldAs c p t) c (x .1)
 
 -- a packet p with the true number t was taken in
-abbrev pub Took : List Event → ℕ → List ℕ → Type 0
+abbrev pub Took : List Entry → ℕ → List ℕ → Type 0
 Took [] t p = ⊥
 Took (sent has-reply ∷ l) t p = Took l t p
 Took (took u q f ∷ l) t p = ((t ≡ u) × (p ≡ q)) ⊎ Took l t p
 
 -- a record bears the true number of its packet, if the packet carries one
-abbrev pub Bears : List Event → Held → Type 0
+abbrev pub Bears : List Entry → Held → Type 0
 Bears l h = unnumbered (h .packet) ≡ false → Took l (h .number) (h .packet)
 
 -- P is true of each record that is held

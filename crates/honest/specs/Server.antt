@@ -11,7 +11,7 @@ use Rattle.model.specs.Client.{Client}
 use Rattle.model.specs.Model.{fresh, hasReply, sendRequest, Filing, enqueuePacket}
 use Rattle.model.specs.Calls.{Call, send, enqueue-fds, enqueue, discard, poll, check, poll-reply, prepare, poll-event, take-closed, step}
 use Rattle.model.specs.Batch.{Each}
-use Rattle.honest.specs.Run.{Event, sent, took, unnumbered, noteSent, noteTook, noted, Runs, start, call, Asked, Heard, Wire, Known, Along, Honest}
+use Rattle.honest.specs.Run.{Entry, sent, took, unnumbered, noteSent, noteTook, noted, Runs, start, call, WithReply, Heard, Wire, Known, Along, Honest}
 
 -- a packet of the server, with its true number
 pub record Packet : Type 0 where
@@ -37,14 +37,14 @@ Own (poll-event bytes) = Unit {0}
 Own (take-closed places) = Unit {0}
 
 -- A run with a server that has these packets to bring, of which `rest` are left.
-pub data Serves (all : List Packet) : List Packet → Client → List Event → Type 0 where
+pub data Serves (all : List Packet) : List Packet → Client → List Entry → Type 0 where
   begins : (o k s : ℕ) → Serves all all (fresh o k s) []
-  offers : {p : Packet} {rest : List Packet} {c : Client} {l : List Event} → Serves all (p ∷ rest) c l
+  offers : {p : Packet} {rest : List Packet} {c : Client} {l : List Entry} → Serves all (p ∷ rest) c l
       → Serves all (left (enqueuePacket c (p .bytes)) p rest) (step c (enqueue (p .bytes)) .next) (noted c (enqueue (p .bytes)) (p .true-number) l)
-  calls : {rest : List Packet} {c : Client} {l : List Event} (x : Call) → Own x → Serves all rest c l → Serves all rest (step c x .next) (noted c x 0 l)
+  calls : {rest : List Packet} {c : Client} {l : List Entry} (x : Call) → Own x → Serves all rest c l → Serves all rest (step c x .next) (noted c x 0 l)
 
 -- it is a run
-pub serves-runs : {all rest : List Packet} {c : Client} {l : List Event} → Serves all rest c l → Runs c l
+pub serves-runs : {all rest : List Packet} {c : Client} {l : List Entry} → Serves all rest c l → Runs c l
 serves-runs (begins o k s) = start o k s
 serves-runs (offers {p = p} h) = call (enqueue (p .bytes)) (p .true-number) (serves-runs h)
 serves-runs (calls x o h) = call x 0 (serves-runs h)
@@ -54,7 +54,7 @@ unfoldable pub carrying : List Packet → List Packet
 carrying [] = []
 carrying (p ∷ l) = choose (unnumbered (p .bytes)) (carrying l) (p ∷ carrying l)
 
-unfoldable pub packetsIn : List Event → List Packet
+unfoldable pub packetsIn : List Entry → List Packet
 packetsIn [] = []
 packetsIn (sent has-reply ∷ l) = packetsIn l
 packetsIn (took t p f ∷ l) = packetsIn l ++ (record { true-number = t; bytes = p } ∷ [])
@@ -72,15 +72,15 @@ First q [] = Unit {0}
 First q (p ∷ l) = (p .true-number ≡ q) ⊎ ((p .true-number ≤ q) × First q l)
 
 -- "Let each packet but code 11 carry the low 16 bits of its true number; let true numbers never fall nor pass the requests sent by then; and let each request with a reply have a numbered packet of its own number before any of a greater."
-pub record HonestServer (o : ℕ) (all : List Packet) (l : List Event) : Type 0 where
+pub record HonestServer (o : ℕ) (all : List Packet) (l : List Entry) : Type 0 where
   pub wire : Each (λ (p : Packet). Wire o (p .true-number) (p .bytes)) (carrying all)
   pub rising : Rising (carrying all)
   pub known : Along (λ before t p. Known before t) l
-  pub answered : (q : ℕ) → Asked l q → First q (carrying all)
+  pub answered : (q : ℕ) → WithReply l q → First q (carrying all)
 
 -- ---- IN ORDER: the log's packets and those left are the server's.
 
-offered : (p : Packet) (rest : List Packet) (l : List Event) (a : Answer (Filing × Client)) → packetsIn (noteTook (p .true-number) (p .bytes) a l) ++ carrying (left a p rest) ≡ packetsIn l ++ carrying (p ∷ rest)
+offered : (p : Packet) (rest : List Packet) (l : List Entry) (a : Answer (Filing × Client)) → packetsIn (noteTook (p .true-number) (p .bytes) a l) ++ carrying (left a p rest) ≡ packetsIn l ++ carrying (p ∷ rest)
 unfolding noteTook left carrying packetsIn choose
 offered p rest l (refuses n) = refl
 offered p rest l (gives x) = go (unnumbered (p .bytes))
@@ -89,12 +89,12 @@ offered p rest l (gives x) = go (unnumbered (p .bytes))
     go true = refl
     go false = append-assoc (packetsIn l) (p ∷ []) (carrying rest)
 
-sent-none : {A : Type 0} (b : Bool) (a : Answer A) (l : List Event) → packetsIn (noteSent b a l) ≡ packetsIn l
+sent-none : {A : Type 0} (b : Bool) (a : Answer A) (l : List Entry) → packetsIn (noteSent b a l) ≡ packetsIn l
 unfolding noteSent packetsIn
 sent-none b (gives x) l = refl
 sent-none b (refuses n) l = refl
 
-own-none : (c : Client) (x : Call) (l : List Event) → Own x → packetsIn (noted c x 0 l) ≡ packetsIn l
+own-none : (c : Client) (x : Call) (l : List Entry) → Own x → packetsIn (noted c x 0 l) ≡ packetsIn l
 unfolding noted
 own-none c (send kind) l o = sent-none (hasReply kind) (sendRequest c kind) l
 own-none c (enqueue-fds list) l o = refl
@@ -107,7 +107,7 @@ own-none c (prepare n) l o = refl
 own-none c (poll-event bytes) l o = refl
 own-none c (take-closed places) l o = refl
 
-pub in-order : {all rest : List Packet} {c : Client} {l : List Event} → Serves all rest c l → packetsIn l ++ carrying rest ≡ carrying all
+pub in-order : {all rest : List Packet} {c : Client} {l : List Entry} → Serves all rest c l → packetsIn l ++ carrying rest ≡ carrying all
 unfolding packetsIn noted
 in-order (begins o k s) = refl
 in-order (offers {p = p} {rest = rest} {c = c} {l = l} h) = offered p rest l (enqueuePacket c (p .bytes)) ∙ in-order h
@@ -140,13 +140,13 @@ has-last q [] p (inr e) = absurd e
 has-last q (x ∷ xs) p (inl e) = inr (inl e)
 has-last q (x ∷ xs) p (inr e) = ⊎-elim inl (λ r. inr (inr r)) (has-last q xs p e)
 
-has-heard : (q : ℕ) (l : List Event) → Has q (packetsIn l) → Heard l q
+has-heard : (q : ℕ) (l : List Entry) → Has q (packetsIn l) → Heard l q
 unfolding packetsIn
 has-heard q [] e = e
 has-heard q (sent has-reply ∷ l) e = has-heard q l e
 has-heard q (took t p f ∷ l) e = ⊎-elim inl (λ r. inr (has-heard q l r)) (has-last q (packetsIn l) (record { true-number = t; bytes = p }) e)
 
-heard-most : (n : ℕ) (l : List Event) → Each (λ (x : Packet). x .true-number ≤ n) (packetsIn l) → (u : ℕ) → Heard l u → u ≤ n
+heard-most : (n : ℕ) (l : List Entry) → Each (λ (x : Packet). x .true-number ≤ n) (packetsIn l) → (u : ℕ) → Heard l u → u ≤ n
 unfolding packetsIn
 heard-most n [] e u h = absurd h
 heard-most n (sent has-reply ∷ l) e u h = heard-most n l e u h
@@ -155,7 +155,7 @@ heard-most n (took t p f ∷ l) e u (inr h) = heard-most n l (every-split (λ x.
 
 -- of packets that are all or only some of the server's
 module _ (o : ℕ) (packets : List Packet) (wire : Each (λ (p : Packet). Wire o (p .true-number) (p .bytes)) packets) (rising : Rising packets) where
-  honest-log : (l : List Event) (ys : List Packet) → packetsIn l ++ ys ≡ packets → Along (λ before t p. Known before t) l → ((q : ℕ) → Asked l q → First q packets) → Honest o l
+  honest-log : (l : List Entry) (ys : List Packet) → packetsIn l ++ ys ≡ packets → Along (λ before t p. Known before t) l → ((q : ℕ) → WithReply l q → First q packets) → Honest o l
   unfolding packetsIn
   honest-log [] ys e k a = tt
   honest-log (sent true ∷ l) ys e k a = honest-log l ys e k (λ q r. a q (inr r))
@@ -174,5 +174,5 @@ module _ (o : ℕ) (packets : List Packet) (wire : Each (λ (p : Packet). Wire o
         honest-log l (x ∷ ys) g (k .1) a,
       )
 
-pub server-honest : {all rest : List Packet} {c : Client} {l : List Event} (o : ℕ) → Serves all rest c l → HonestServer o all l → Honest o l
+pub server-honest : {all rest : List Packet} {c : Client} {l : List Entry} (o : ℕ) → Serves all rest c l → HonestServer o all l → Honest o l
 server-honest {all} {rest} {c} {l} o s h = honest-log o (carrying all) (h .wire) (h .rising) l (carrying rest) (in-order s) (h .known) (h .answered)

@@ -10,16 +10,16 @@ use borrow.Author.Tests.{leb-true, eqb-true}
 use Rattle.octets.specs.Logic.{both, either, apart, both-left, both-right}
 use Rattle.octets.specs.Field.{field}
 use Rattle.sequence.specs.Numbering.{wireValues}
-use Rattle.honest.specs.Run.{Event, sent, took, sends, Asked, Heard, Fair, Honest}
+use Rattle.honest.specs.Run.{Entry, sent, took, sends, WithReply, Heard, Fair, Honest}
 
 -- the numbers of the requests with a reply, and of the packets that came
-unfoldable pub numbersAsked : List Event → List ℕ
+unfoldable pub numbersAsked : List Entry → List ℕ
 numbersAsked [] = []
 numbersAsked (sent true ∷ l) = (sends l + 1) ∷ numbersAsked l
 numbersAsked (sent false ∷ l) = numbersAsked l
 numbersAsked (took t p f ∷ l) = numbersAsked l
 
-unfoldable pub numbersHeard : List Event → List ℕ
+unfoldable pub numbersHeard : List Entry → List ℕ
 numbersHeard [] = []
 numbersHeard (sent has-reply ∷ l) = numbersHeard l
 numbersHeard (took t p f ∷ l) = t ∷ numbersHeard l
@@ -32,26 +32,26 @@ unfoldable pub among : ℕ → List ℕ → Bool
 among q [] = false
 among q (x ∷ l) = either (eqb q x) (among q l)
 
-unfoldable pub fairb : ℕ → List Event → ℕ → List ℕ → Bool
+unfoldable pub fairb : ℕ → List Entry → ℕ → List ℕ → Bool
 fairb o l t p =
     both (both (eqb (field o 2 2 p) (t % wireValues)) (every (λ u. leb u t) (numbersHeard l)))
     (both (leb t (sends l)) (every (λ q. either (leb t q) (among q (numbersHeard l))) (numbersAsked l)))
 
-unfoldable pub honestb : ℕ → List Event → Bool
+unfoldable pub honestb : ℕ → List Entry → Bool
 honestb o [] = true
 honestb o (sent has-reply ∷ l) = honestb o l
 honestb o (took t p f ∷ l) = both (fairb o l t p) (honestb o l)
 
 -- ---- A log that passes is honest.
 
-every-heard : (f : ℕ → Bool) (l : List Event) → every f (numbersHeard l) ≡ true → (u : ℕ) → Heard l u → f u ≡ true
+every-heard : (f : ℕ → Bool) (l : List Entry) → every f (numbersHeard l) ≡ true → (u : ℕ) → Heard l u → f u ≡ true
 unfolding every numbersHeard
 every-heard f [] e u h = absurd h
 every-heard f (sent has-reply ∷ l) e u h = every-heard f l e u h
 every-heard f (took t p g ∷ l) e u (inl h) = ap f h ∙ both-left _ _ e
 every-heard f (took t p g ∷ l) e u (inr h) = every-heard f l (both-right _ _ e) u h
 
-every-asked : (f : ℕ → Bool) (l : List Event) → every f (numbersAsked l) ≡ true → (u : ℕ) → Asked l u → f u ≡ true
+every-asked : (f : ℕ → Bool) (l : List Entry) → every f (numbersAsked l) ≡ true → (u : ℕ) → WithReply l u → f u ≡ true
 unfolding every numbersAsked
 every-asked f [] e u h = absurd h
 every-asked f (sent true ∷ l) e u (inl h) = ap f h ∙ both-left _ _ e
@@ -64,7 +64,7 @@ unfolding either
 either-cases true b e = inl refl
 either-cases false b e = inr e
 
-among-heard : (q : ℕ) (l : List Event) → among q (numbersHeard l) ≡ true → Heard l q
+among-heard : (q : ℕ) (l : List Entry) → among q (numbersHeard l) ≡ true → Heard l q
 unfolding among numbersHeard
 among-heard q [] e = apart e refl
 among-heard q (sent has-reply ∷ l) e = among-heard q l e
@@ -74,7 +74,7 @@ among-heard q (took t p f ∷ l) e = go (either-cases _ _ e) (among-heard q l)
     go (inl a) f = inl (eqb-true _ _ a)
     go (inr a) f = inr (f a)
 
-fair-by : (o : ℕ) (l : List Event) (t : ℕ) (p : List ℕ) → fairb o l t p ≡ true → Fair o l t p
+fair-by : (o : ℕ) (l : List Entry) (t : ℕ) (p : List ℕ) → fairb o l t p ≡ true → Fair o l t p
 unfolding fairb
 fair-by o l t p e =
     let a = both-left _ _ e in
@@ -90,7 +90,7 @@ fair-by o l t p e =
     go q less (inl a) = let z : t ≤ q = leb-true _ _ a in absurd (omega arith)
     go q less (inr a) = among-heard q l a
 
-pub honest-by : (o : ℕ) (l : List Event) → honestb o l ≡ true → Honest o l
+pub honest-by : (o : ℕ) (l : List Entry) → honestb o l ≡ true → Honest o l
 unfolding honestb
 honest-by o [] e = tt
 honest-by o (sent has-reply ∷ l) e = honest-by o l e

@@ -16,7 +16,7 @@ use Rattle.model.specs.Promise.{Done, Promise}
 use Rattle.model.specs.Reading.{Rooms, reads}
 use Rattle.model.specs.Sound.{soundb}
 use Rattle.model.specs.declared.Connection.{Connection}
-use Rattle.honest.specs.Run.{Event, unnumbered, Runs, Fair, Honest, Right, Filed, Bears, Holds, Hands}
+use Rattle.honest.specs.Run.{Entry, unnumbered, Runs, Fair, Honest, Right, Filed, Bears, Holds, Hands}
 use Rattle.honest.specs.Rules.{ruled-inv, true-range}
 use Rattle.honest.specs.Calls.{Taking, taking, lands, counted, runs-ruled, one-of}
 use Rattle.honest.specs.Server.{Packet, Serves, serves-runs, HonestServer, server-honest}
@@ -26,11 +26,11 @@ use Rattle.honest.specs.Lists.{runs-filed, filed-took, all-map, hands}
 -- ---- Over the model
 
 -- TRUE NUMBERS: the number under which the engine filed, or reckoned, each packet of the run is the true one.
-pub true-numbers : {c : Client} {log : List Event} → Runs c log → Honest (c .order) log → Right log
+pub true-numbers : {c : Client} {log : List Entry} → Runs c log → Honest (c .order) log → Right log
 true-numbers r h = ruled-inv (runs-ruled r) h .right
 
 -- A run with an honest server, and the packet p with the true number t that comes next.
-module _ {c : Client} {log : List Event} (r : Runs c log) (h : Honest (c .order) log) (t : ℕ) (p : List ℕ) (carries : unnumbered p ≡ false) (fair : Fair (c .order) log t p) where
+module _ {c : Client} {log : List Entry} (r : Runs c log) (h : Honest (c .order) log) (t : ℕ) (p : List ℕ) (carries : unnumbered p ≡ false) (fair : Fair (c .order) log t p) where
   -- Its number is t, and numbers do not end before it.
   pub next-number : packetNumber c p ≡ gives t
   unfolding packetNumber choose
@@ -61,35 +61,35 @@ module _ {c : Client} {log : List Event} (r : Runs c log) (h : Honest (c .order)
           }
 
 -- HELD: at any time each record that is held bears the true number of its packet.
-pub held-true : {c : Client} {log : List Event} → Runs c log → Honest (c .order) log → Holds (Bears log) c
+pub held-true : {c : Client} {log : List Entry} → Runs c log → Honest (c .order) log → Holds (Bears log) c
 held-true {c} {log} r h =
     let k = runs-filed r in
     let f = filed-took log (true-numbers r h) in
     (all-map f (c .replies) (k .0), all-map f (c .events) (k .1))
 
 -- HANDED OUT: and so does each that a call hands out.
-pub handed-true : {c : Client} {log : List Event} → Runs c log → Honest (c .order) log → (x : Call) → Hands (Bears log) (step c x .said)
+pub handed-true : {c : Client} {log : List Entry} → Runs c log → Honest (c .order) log → (x : Call) → Hands (Bears log) (step c x .said)
 handed-true {c} {log} r h x = hands (Bears log) c x (held-true r h)
 
 -- ---- Word for word
 
 -- With an honest server, whose packets come in order and a refused one again before a later one, every numbered packet that is taken in gets its true number.
-pub server-true : {all rest : List Packet} {c : Client} {log : List Event} → Serves all rest c log → HonestServer (c .order) all log → Right log
+pub server-true : {all rest : List Packet} {c : Client} {log : List Entry} → Serves all rest c log → HonestServer (c .order) all log → Right log
 server-true s h = true-numbers (serves-runs s) (server-honest _ s h)
 
 -- ---- For the public calls, over state and rooms
 
-pub public-true : {c : Connection} {r : Rooms} {log : List Event} → Public c r log → Honest (c .order) log → Right log
+pub public-true : {c : Connection} {r : Rooms} {log : List Entry} → Public c r log → Honest (c .order) log → Right log
 unfolding reads
 public-true k h = true-numbers (public-runs k) h
 
 -- what is held, as it is read
-pub public-held : {c : Connection} {r : Rooms} {log : List Event} → Public c r log → Honest (c .order) log → Holds (Bears log) (reads c r)
+pub public-held : {c : Connection} {r : Rooms} {log : List Entry} → Public c r log → Honest (c .order) log → Holds (Bears log) (reads c r)
 unfolding reads
 public-held k h = held-true (public-runs k) h
 
 -- A run of public calls with an honest server, and the call that brings its next packet.
-module _ {c : Connection} {r : Rooms} {log : List Event} (k : Public c r log) (h : Honest (c .order) log) (t : ℕ) (p : List ℕ) (carries : unnumbered p ≡ false) (fair : Fair (c .order) log t p)
+module _ {c : Connection} {r : Rooms} {log : List Entry} (k : Public c r log) (h : Honest (c .order) log) (t : ℕ) (p : List ℕ) (carries : unnumbered p ≡ false) (fair : Fair (c .order) log t p)
     (e : Answer (Done Filing)) (a : Answer (Filing × Connection)) (r' : Rooms) (promise : Promise (λ f. f) e (λ m. enqueuePacket m p) c r a r') where
   pub public-filed : (f : Filing) (s : Connection) → a ≡ gives (f, s) → Filed (reads c r) p t (f, reads s r')
   unfolding reads

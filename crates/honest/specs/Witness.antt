@@ -25,7 +25,7 @@ use Rattle.model.specs.declared.ReplyFdKind.the-variants.{NoReply, ReplyWithout
 use Rattle.model.specs.declared.DiscardMode.the-variants.{DiscardReply}
 use Rattle.model.specs.declared.Place.{Place}
 use Rattle.model.specs.declared.Place.the-variants.{Replies, Events, Dropped}
-use Rattle.honest.specs.Run.{Event, sent, took, noted, Runs, start, call, sends, Asked, Heard, Fair, Honest}
+use Rattle.honest.specs.Run.{Entry, sent, took, noted, Runs, start, call, sends, WithReply, Heard, Fair, Honest}
 use Rattle.honest.specs.Computing.{computing, packetOf, send-to, packet-to, poll-to}
 use Rattle.honest.specs.Server.{Packet, Serves, begins, offers, calls, left, carrying, HonestServer}
 use Rattle.honest.specs.Theorems.{next-number}
@@ -42,11 +42,11 @@ abbrev made : List Move → List Call
 made [] = []
 made (m ∷ ms) = m .call ∷ made ms
 
-abbrev logged : Client → List Event → List Move → List Event
+abbrev logged : Client → List Entry → List Move → List Entry
 logged c l [] = l
 logged c l (m ∷ ms) = logged (step c (m .call) .next) (noted c (m .call) (m .true-number) l) ms
 
-moves-run : (ms : List Move) (c : Client) (l : List Event) → Runs c l → Runs (run c (made ms) .end) (logged c l ms)
+moves-run : (ms : List Move) (c : Client) (l : List Entry) → Runs c l → Runs (run c (made ms) .end) (logged c l ms)
 unfolding run
 moves-run [] c l r = r
 moves-run (m ∷ ms) c l r = moves-run ms (step c (m .call) .next) (noted c (m .call) (m .true-number) l) (call (m .call) (m .true-number) r)
@@ -86,7 +86,7 @@ first = record { true-number = 0; bytes = packetOf 2 0 0 }
 abbrev second : Packet
 second = record { true-number = 1; bytes = packetOf 1 0 1 }
 
-abbrev servedLog : List Event
+abbrev servedLog : List Entry
 servedLog = took 1 (packetOf 1 0 1) (record { place = Replies; number = 1 }) ∷ took 0 (packetOf 2 0 0) (record { place = Events; number = 0 }) ∷ sent true ∷ []
 
 abbrev served : List Call
@@ -133,7 +133,7 @@ tookOne n = record { order = 108; most-requests = 5; most-bytes = 100; numbers =
 abbrev inReplies : ℕ → Filing
 inReplies n = record { place = Replies; number = n }
 
-pub rounds : ℕ → List Event
+pub rounds : ℕ → List Entry
 rounds zero = []
 rounds (suc n) = took (suc n) (replyTo (suc n)) (inReplies (suc n)) ∷ sent true ∷ rounds n
 
@@ -178,7 +178,7 @@ rounds-heard zero u h = absurd h
 rounds-heard (suc n) u (inl h) = omega arith
 rounds-heard (suc n) u (inr h) = omega (arith, rounds-heard n u h)
 
-rounds-asked : (n q : ℕ) → Asked (rounds n) q → Heard (rounds n) q
+rounds-asked : (n q : ℕ) → WithReply (rounds n) q → Heard (rounds n) q
 unfolding rounds
 rounds-asked zero q a = a
 rounds-asked (suc n) q (inl a) = inl (omega (arith, rounds-sends n))
@@ -242,13 +242,13 @@ pub far-says : run far (made farMoves) .said ≡ farSays
 unfolding computing
 far-says = refl
 
-abbrev farSent : List Event
+abbrev farSent : List Entry
 farSent = sent true ∷ sent true ∷ sent false ∷ sent true ∷ rounds wireValues
 
 abbrev filedIn : Place → ℕ → Filing
 filedIn place n = record { place = place; number = n }
 
-abbrev farLog : List Event
+abbrev farLog : List Entry
 farLog = took 65540 (packetOf 2 0 4) (filedIn Events 65540) ∷ took 65540 (packetOf 1 0 4) (filedIn Dropped 65540) ∷ took 65539 (packetOf 1 1 3) (filedIn Replies 65539) ∷ took 65538 (packetOf 0 3 2) (filedIn Replies 65538) ∷ took 65537 (packetOf 1 0 1) (filedIn Replies 65537) ∷ took 65536 (packetOf 2 0 0) (filedIn Events 65536) ∷ farSent
 
 far-logged : logged far (rounds wireValues) farMoves ≡ farLog
@@ -256,28 +256,28 @@ unfolding computing
 far-logged = refl
 
 pub far-witness : Runs (run far (made farMoves) .end) farLog
-far-witness = subst (λ (l : List Event). Runs (run far (made farMoves) .end) l) far-logged (moves-run farMoves far (rounds wireValues) far-run)
+far-witness = subst (λ (l : List Entry). Runs (run far (made farMoves) .end) l) far-logged (moves-run farMoves far (rounds wireValues) far-run)
 
 -- all that was heard is at most top, and of what was asked all up to top was heard
-record Upto (l : List Event) (top : ℕ) : Type 0 where
+record Upto (l : List Entry) (top : ℕ) : Type 0 where
   heard : (u : ℕ) → Heard l u → u ≤ top
-  answered : (q : ℕ) → Asked l q → q ≤ top → Heard l q
+  answered : (q : ℕ) → WithReply l q → q ≤ top → Heard l q
 
 rounds-upto : (n : ℕ) → Upto (rounds n) n
 rounds-upto n = record { heard = rounds-heard n; answered = λ q a less. rounds-asked n q a }
 
-sent-upto : (b : Bool) (l : List Event) (top : ℕ) → top ≤ sends l → Upto l top → Upto (sent b ∷ l) top
+sent-upto : (b : Bool) (l : List Entry) (top : ℕ) → top ≤ sends l → Upto l top → Upto (sent b ∷ l) top
 sent-upto true l top h k = record { heard = k .heard; answered = λ q a less. ⊎-elim (λ (e : q ≡ sends l + 1). absurd (omega arith)) (λ b. k .answered q b less) a }
 sent-upto false l top h k = record { heard = k .heard; answered = k .answered }
 
-took-upto : (l : List Event) (top t : ℕ) (p : List ℕ) (f : Filing) → top ≤ t → t ≤ top + 1 → Upto l top → Upto (took t p f ∷ l) t
+took-upto : (l : List Entry) (top t : ℕ) (p : List ℕ) (f : Filing) → top ≤ t → t ≤ top + 1 → Upto l top → Upto (took t p f ∷ l) t
 took-upto l top t p f h g k =
     record {
       heard = λ u a. ⊎-elim (λ (e : u ≡ t). omega arith) (λ b. omega (arith, k .heard u b)) a;
       answered = λ q a less. elim (decLe q top) [ yes y ↦ inr (k .answered q a y) | no n ↦ inl (omega arith) ];
     }
 
-upto-fair : (l : List Event) (top t : ℕ) (p : List ℕ) → top ≤ t → t ≤ top + 1 → t ≤ sends l → field 108 2 2 p ≡ t % wireValues → Upto l top → Fair 108 l t p
+upto-fair : (l : List Entry) (top t : ℕ) (p : List ℕ) → top ≤ t → t ≤ top + 1 → t ≤ sends l → field 108 2 2 p ≡ t % wireValues → Upto l top → Fair 108 l t p
 upto-fair l top t p h g s w k =
     record { wire = w; rises = λ u a. omega (arith, k .heard u a); known = s; answered = λ q a less. k .answered q a (omega arith) }
 

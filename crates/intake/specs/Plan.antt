@@ -16,7 +16,7 @@ use Rattle.held.specs.Reading.{used}
 use Rattle.descriptors.specs.Room as Slots
 use Rattle.model.specs.Model.{keymapNotify, codeOf, nobody, somebody, placeOf, claimed, isHeld}
 use Rattle.model.specs.Model as Model
-use Rattle.model.specs.Sound.{Numbers}
+use Rattle.model.specs.Sound.{Ranges}
 use Rattle.model.specs.declared.Connection.{Connection}
 use Rattle.model.specs.declared.Place.{Place}
 use Rattle.intake.specs.declared.Asked.{Asked}
@@ -53,7 +53,7 @@ pub record Fitting (c : Connection) : Type 0 where
 -- what the step needs of a sound state
 pub record Ready (c : Connection) (q s f : List ℕ) : Type 0 where
   pub some : 0 < capacity q
-  pub numbers : Numbers c
+  pub numbers : Ranges c
   pub order : c .window .start ≤ c .window .end
   pub within : c .window .end ≤ length s
   pub store : length s ≡ c .room

@@ -10,7 +10,7 @@ use Rattle.model.specs.Calls.{Call, send, enqueue-fds, enqueue, discard, poll, 
 use Rattle.model.specs.Reading.{Rooms}
 use Rattle.model.specs.Says.{Shown, none, packet}
 use Rattle.model.specs.declared.Connection.{Connection}
-use Rattle.honest.specs.Run.{Event}
+use Rattle.honest.specs.Run.{Entry}
 use Rattle.session.specs.Session.{Session, new, send-request, enqueue-packet, discard-reply, poll-for-reply-or-error, poll-check-for-reply-or-error, poll-for-reply, poll-for-event, take-closed-fds, send-requests, enqueue-packets, poll-for-events, prepare-check}
 use Rattle.session.specs.Session as Public
 
@@ -136,7 +136,7 @@ Neither (poll-event bytes) = Unit {0}
 Neither (take-closed places) = ⊥
 
 -- all that the session accepted
-unfoldable pub sessionAccepted : {c : Connection} {r : Rooms} {l : List Event} → Session c r l → List ℕ
+unfoldable pub sessionAccepted : {c : Connection} {r : Rooms} {l : List Entry} → Session c r l → List ℕ
 sessionAccepted (new o r c h) = []
 sessionAccepted (send-request kind a r' h k) = sessionAccepted k
 sessionAccepted (Public.enqueue-fds list a r' h k) = brought list a ++ sessionAccepted k
@@ -153,7 +153,7 @@ sessionAccepted (poll-for-events out marks a r' out' marks' h k) = sessionAccept
 sessionAccepted (prepare-check n a h k) = sessionAccepted k
 
 -- all that it handed out
-unfoldable pub sessionHanded : {c : Connection} {r : Rooms} {l : List Event} → Session c r l → List ℕ
+unfoldable pub sessionHanded : {c : Connection} {r : Rooms} {l : List Entry} → Session c r l → List ℕ
 sessionHanded (new o r c h) = []
 sessionHanded (send-request kind a r' h k) = sessionHanded k
 sessionHanded (Public.enqueue-fds list a r' h k) = sessionHanded k

@@ -28,7 +28,7 @@ use Rattle.sending.specs.Send.{same}
 use Rattle.polling.specs.Exact.{eventExact}
 use Rattle.connection.specs.Calls.{Sends, EnqueuesFds, Enqueues, Polls, Closes, SendsMany, EnqueuesMany, PollsEvents}
 use Rattle.connection.specs.Opening.{opens-fresh}
-use Rattle.honest.specs.Run.{Event}
+use Rattle.honest.specs.Run.{Entry}
 use Rattle.honest.specs.Public.{stateOf, Given, modelled, Came, gave, kept, came}
 use Rattle.session.specs.Session.{Session, new, send-request, enqueue-packet, discard-reply, poll-for-reply-or-error, poll-check-for-reply-or-error, poll-for-reply, poll-for-event, take-closed-fds, send-requests, enqueue-packets, poll-for-events, prepare-check}
 use Rattle.session.specs.Rows.{sends-row, events-row}
@@ -174,7 +174,7 @@ module _ (c : Connection) (r : Rooms) (S : Sound c r) (d : ℕ) where
   sends-within bytes a r' h =
       sends-row (λ c' r'' l. Within d (count d (within (reads c r))) c' r'') on c r [] S (record { is = refl }) bytes a r' h .is
     where
-      on : (c₁ : Connection) (r₁ : Rooms) (l : List Event) → Sound c₁ r₁ → Within d (count d (within (reads c r))) c₁ r₁ → (byte n : ℕ) (c₂ : Connection) (r₂ : Rooms) → Sends c₁ r₁ (kindOf byte) (gives (n, c₂)) r₂
+      on : (c₁ : Connection) (r₁ : Rooms) (l : List Entry) → Sound c₁ r₁ → Within d (count d (within (reads c r))) c₁ r₁ → (byte n : ℕ) (c₂ : Connection) (r₂ : Rooms) → Sends c₁ r₁ (kindOf byte) (gives (n, c₂)) r₂
           → Within d (count d (within (reads c r))) c₂ r₂
       on c₁ r₁ l T w byte n c₂ r₂ q = record { is = still-gave c₁ r₁ d (send (kindOf byte)) tt same _ n c₂ r₂ q ∙ w .is }
 
@@ -182,7 +182,7 @@ module _ (c : Connection) (r : Rooms) (S : Sound c r) (d : ℕ) where
   packets-within bytes b a r' h =
       feed-row (λ c' r'' l. Within d (count d (within (reads c r))) c' r'') on c r [] S (record { is = refl }) [] bytes b a r' h .is
     where
-      on : (c₁ : Connection) (r₁ : Rooms) (l : List Event) → Sound c₁ r₁ → Within d (count d (within (reads c r))) c₁ r₁ → (t : ℕ) (p : List ℕ) → getD p 1 0 < 256 → (f : Filing) (c₂ : Connection) (r₂ : Rooms)
+      on : (c₁ : Connection) (r₁ : Rooms) (l : List Entry) → Sound c₁ r₁ → Within d (count d (within (reads c r))) c₁ r₁ → (t : ℕ) (p : List ℕ) → getD p 1 0 < 256 → (f : Filing) (c₂ : Connection) (r₂ : Rooms)
           → Enqueues c₁ r₁ p (gives (f, c₂)) r₂ → Within d (count d (within (reads c r))) c₂ r₂
       on c₁ r₁ l T w t p u f c₂ r₂ q = record { is = still-gave c₁ r₁ d (enqueue p) tt (λ x. x) _ f c₂ r₂ q ∙ w .is }
 
@@ -201,7 +201,7 @@ none-within : (d o k s : ℕ) → count d (within (fresh o k s)) ≡ 0
 unfolding within descriptorsOf count
 none-within d o k s = refl
 
-pub session-balances : {c : Connection} {r : Rooms} {l : List Event} (k : Session c r l) (d : ℕ) → count d (sessionAccepted k) ≡ count d (within (reads c r)) + count d (sessionHanded k)
+pub session-balances : {c : Connection} {r : Rooms} {l : List Entry} (k : Session c r l) (d : ℕ) → count d (sessionAccepted k) ≡ count d (within (reads c r)) + count d (sessionHanded k)
 unfolding sessionAccepted sessionHanded count
 session-balances (new o r c h) d = omega (arith, ap (λ (y : Client). count d (within y)) (opens-fresh o r c h), none-within d o (capacity (r .requests)) (length (r .store)))
 session-balances (send-request {c = c} {r = r} kind a r' h k) d = omega (arith, session-balances k d, still-within c r d (send kind) tt same _ a r' h)

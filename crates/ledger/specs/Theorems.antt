@@ -136,7 +136,7 @@ module _ (c : Connection) (r : Rooms) (c' : Connection) (r' : Rooms) where
   poll-for-events-sound out marks v out' marks' h = Leaving.events-leave c r c' r' out marks v out' marks' h
 
 -- So state and rooms are sound at any time of a session: no call of it is refused by 9.
-pub session-sound : {c : Connection} {r : Rooms} {l : List Log.Event} → Session c r l → Sound c r
+pub session-sound : {c : Connection} {r : Rooms} {l : List Log.Entry} → Session c r l → Sound c r
 session-sound k = Session.session-sound k
 
 -- ---- 3. USED, AND NO ROOM
@@ -212,7 +212,7 @@ module _ (c : Connection) (r : Rooms) (d : ℕ) where
   poll-for-events-conserved S out marks a r' out' marks' h = Sessions.events-within c r S d out marks a r' out' marks' h
 
 -- Over a session, however long: what it accepted is inside or was found by the caller in its outputs.
-pub session-conserved : {c : Connection} {r : Rooms} {l : List Log.Event} (k : Session c r l) (d : ℕ) → count d (sessionAccepted k) ≡ count d (within (reads c r)) + count d (sessionHanded k)
+pub session-conserved : {c : Connection} {r : Rooms} {l : List Log.Entry} (k : Session c r l) (d : ℕ) → count d (sessionAccepted k) ≡ count d (within (reads c r)) + count d (sessionHanded k)
 session-conserved k d = Sessions.session-balances k d
 
 -- What is inside a sound state is what stands in its slots.

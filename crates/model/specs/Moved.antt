@@ -14,7 +14,7 @@ use Rattle.descriptors.specs.Theorems as Fds
 use Rattle.descriptors.specs.declared.Counts.{Counts}
 use Rattle.model.specs.Client.{Held, setReplies, setEvents, setWaiting, setClosing}
 use Rattle.model.specs.Reading.{Rooms, rooms, count, withDescriptors, eventOf, reads}
-use Rattle.model.specs.Sound.{Numbers, Sound}
+use Rattle.model.specs.Sound.{Ranges, Sound}
 use Rattle.model.specs.declared.Connection.{Connection}
 
 -- with this window and these counts
@@ -49,7 +49,7 @@ moved-read c r l d replies events wait toClose R E W C = λ i. record {
   closing = C i;
 }
 
-numbers-moved : (c : Connection) (w : Window) (n : Counts) → Numbers c → Numbers (movedState c w n)
+numbers-moved : (c : Connection) (w : Window) (n : Counts) → Ranges c → Ranges (movedState c w n)
 numbers-moved c w n N = record {
   store-least = N .store-least;
   store-most = N .store-most;

@@ -37,7 +37,7 @@ unfoldable pub numbersb : Connection → Bool
 numbersb c = both (limitsb c) (runb (c .first) (c .written) (c .capacity))
 
 -- the same, number by number
-pub record Numbers (c : Connection) : Type 0 where
+pub record Ranges (c : Connection) : Type 0 where
   pub store-least : leastStore ≤ c .room
   pub store-most : c .room ≤ mostStore
   pub written-most : c .written ≤ lastNumber
@@ -69,7 +69,7 @@ pub record Sound (c : Connection) (r : Rooms) : Type 0 where
   pub order : legal (c .order) ≡ true
   pub requests : sized (c .capacity) (r .requests) ≡ true
   pub store : length (r .store) ≡ c .room
-  pub numbers : Numbers c
+  pub numbers : Ranges c
   pub legal-bytes : legals (r .requests) (c .first) (count c) ≡ true
   pub slots : Slots.sound (slotsOf c r) ≡ true
   pub held : Store.soundb (c .read) (c .window) (r .store) ≡ true
@@ -80,7 +80,7 @@ pub limits-written : (c : Connection) → limitsb c ≡ true → c .written ≤ 
 unfolding limitsb
 limits-written c h = leb-true _ _ (both-left _ _ (both-right _ _ (both-right _ _ h)))
 
-pub limits-run : (c : Connection) → limitsb c ≡ true → runb (c .first) (c .written) (c .capacity) ≡ true → Numbers c
+pub limits-run : (c : Connection) → limitsb c ≡ true → runb (c .first) (c .written) (c .capacity) ≡ true → Ranges c
 unfolding limitsb runb
 limits-run c h k =
     let h₁ = both-right _ _ h in let h₂ = both-right _ _ (both-right _ _ h₁) in let k₁ = both-right _ _ k in
@@ -95,7 +95,7 @@ limits-run c h k =
       count-most = leb-true _ _ (both-right _ _ k₁);
     }
 
-pub numbers-limits : (c : Connection) → Numbers c → limitsb c ≡ true
+pub numbers-limits : (c : Connection) → Ranges c → limitsb c ≡ true
 unfolding limitsb
 numbers-limits c n =
     both-yes _ _ (le-leb leastStore (c .room) (n .store-least))
@@ -103,17 +103,17 @@ numbers-limits c n =
     (both-yes _ _ (le-leb (c .written) lastNumber (n .written-most))
     (both-yes _ _ (le-leb (c .expected) lastNumber (n .expected-most)) (le-leb (c .read) lastNumber (n .read-most)))))
 
-pub numbers-run : (c : Connection) → Numbers c → runb (c .first) (c .written) (c .capacity) ≡ true
+pub numbers-run : (c : Connection) → Ranges c → runb (c .first) (c .written) (c .capacity) ≡ true
 unfolding runb
 numbers-run c n =
     both-yes _ _ (le-leb 1 (c .first) (n .first-least))
     (both-yes _ _ (le-leb (c .first) (c .written + 1) (n .first-most)) (le-leb (count c) (c .capacity) (n .count-most)))
 
-numbers-is : (c : Connection) → numbersb c ≡ true → Numbers c
+numbers-is : (c : Connection) → numbersb c ≡ true → Ranges c
 unfolding numbersb
 numbers-is c h = limits-run c (both-left _ _ h) (both-right _ _ h)
 
-is-numbers : (c : Connection) → Numbers c → numbersb c ≡ true
+is-numbers : (c : Connection) → Ranges c → numbersb c ≡ true
 unfolding numbersb
 is-numbers c n = both-yes _ _ (numbers-limits c n) (numbers-run c n)
 
@@ -166,7 +166,7 @@ limits-last c l m w e =
     both-on (le-leb (c .expected) lastNumber e) ∙ both-on (le-leb (c .written) lastNumber w) ∙ both-on (le-leb (c .room) mostStore m) ∙ both-on (le-leb leastStore (c .room) l)
 
 -- what is left to test once all but the rooms was found
-pub rooms-left : (c : Connection) (r : Rooms) → legal (c .order) ≡ true → sized (c .capacity) (r .requests) ≡ true → length (r .store) ≡ c .room → Numbers c → Slots.sound (slotsOf c r) ≡ true
+pub rooms-left : (c : Connection) (r : Rooms) → legal (c .order) ≡ true → sized (c .capacity) (r .requests) ≡ true → length (r .store) ≡ c .room → Ranges c → Slots.sound (slotsOf c r) ≡ true
     → both (legals (r .requests) (c .first) (count c)) (heldb c (r .store)) ≡ soundb c r
 unfolding soundb both
 rooms-left c r o q l n s = simp (o, q, eq-eqb (length (r .store)) (c .room) l, is-numbers c n, s)

@@ -18,7 +18,7 @@ ghost use mathlib.Core.Path.{_≡_};
 ghost use Prim.Native.Nat.{_<_};
 ghost use Rattle.requests.specs.Room.{capacity};
 ghost use Rattle.model.specs.Model.{hasReply, joining};
-ghost use Rattle.model.specs.Sound.{Numbers};
+ghost use Rattle.model.specs.Sound.{Ranges};
 ghost use Rattle.descriptors.specs.Room as Slots;
 ghost use Rattle.sending.specs.Send.{SendStep, sentState};
 ghost use Rattle.sending.specs.Fds.{EnqueueFdsStep, CloseStep};
@@ -26,7 +26,7 @@ ghost use Rattle.sending.specs.Fds.{EnqueueFdsStep, CloseStep};
 // A request is sent. Refused by 3 and 6 as the rule of sending says, then by 5 where the room is
 // full.
 pub fn send_request(c: Connection, requests: &mut [u8], kind: ReplyFdKind) -> Sent
-    requires { ⌜ Numbers c × (0 < capacity (now requests)) ⌝ }
+    requires { ⌜ Ranges c × (0 < capacity (now requests)) ⌝ }
     ensures { λ r. ⌜ SendStep c kind (now (requests .entry)) r (now (requests .exit)) ⌝ }
 {
     let written = SequenceNumber(c.written);

@@ -16,7 +16,7 @@ use Rattle.model.specs.Batch.{many, onTurn, notes}
 use Rattle.model.specs.Feed.{modelTook}
 use Rattle.model.specs.declared.Place.the-variants.{Events}
 use Rattle.batch.specs.Feed.{stopAt, enqueuePackets}
-use Rattle.honest.specs.Run.{Event, took, noteTook}
+use Rattle.honest.specs.Run.{Entry, took, noteTook}
 use Rattle.session.specs.Noting.{notePacket, tookOf, noteFed}
 
 -- an event of 32 bytes: its code and its wire number
@@ -24,7 +24,7 @@ abbrev event : ℕ → ℕ → List ℕ
 event code wire = code ∷ 0 ∷ (bytesOf 108 2 wire ++ replicate 28 0)
 
 -- an event that was taken, with its true number and the engine's
-abbrev taken : ℕ → List ℕ → ℕ → Event
+abbrev taken : ℕ → List ℕ → ℕ → Entry
 taken t p n = took t p (record { place = Events; number = n })
 
 -- true numbers 70, 80 and 90 of a run of three events, of which that of code 11 carries no number; the engine reads 1 and 2 from the wire

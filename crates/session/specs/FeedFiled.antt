@@ -15,7 +15,7 @@ use Rattle.model.specs.Batch.{onward, onTurn, many, notes}
 use Rattle.model.specs.Feed.{Stopped, Took, modelTook}
 use Rattle.model.specs.declared.Connection.{Connection}
 use Rattle.batch.specs.Feed.{stopAt, enqueuePackets}
-use Rattle.honest.specs.Run.{Event, took, unnumbered, noteTook, noted, Runs, call, Fair, Honest, Filed}
+use Rattle.honest.specs.Run.{Entry, took, unnumbered, noteTook, noted, Runs, call, Fair, Honest, Filed}
 use Rattle.honest.specs.Calls.{taking, counted, uncounted}
 use Rattle.honest.specs.Public.{public-runs}
 use Rattle.honest.specs.Theorems.{next-filed}
@@ -39,7 +39,7 @@ abbrev vals : Stopped → Client → List (List ℕ) → List Took
 vals over m ps = many (λ c p. modelTook (length p) (enqueuePacket c p)) over m ps .values
 
 -- a log that is honest was honest before it grew
-noted-honest : (o t : ℕ) (p : List ℕ) (f : Filing) (l : List Event) → Honest o (noteTook t p (gives (f, tt {0})) l) → (unnumbered p ≡ false → Fair o l t p) × Honest o l
+noted-honest : (o t : ℕ) (p : List ℕ) (f : Filing) (l : List Entry) → Honest o (noteTook t p (gives (f, tt {0})) l) → (unnumbered p ≡ false → Fair o l t p) × Honest o l
 unfolding noteTook choose
 noted-honest o t p f l h = go (unnumbered p) h
   where
@@ -62,13 +62,13 @@ order-kept m p x e = go (unnumbered p) refl
     go false h = counted m p x (taking m p x e) h .order-is
 
 -- and is a step of the run
-taken-runs : {m : Client} {l : List Event} → Runs m l → (t : ℕ) (p : List ℕ) (x : Filing × Client) → gives x ≡ enqueuePacket m p → Runs (x .1) (noteTook t p (gives (x .0, tt {0})) l)
+taken-runs : {m : Client} {l : List Entry} → Runs m l → (t : ℕ) (p : List ℕ) (x : Filing × Client) → gives x ≡ enqueuePacket m p → Runs (x .1) (noteTook t p (gives (x .0, tt {0})) l)
 unfolding step noted noteTook
 taken-runs k t p x e = rw (sym e) at (call (enqueue p) t k)
 
 -- ---- THE PACKETS OF A RUN are filed under their true numbers.
 
-row-filed : {m : Client} {l : List Event} → Runs m l → (over : Stopped) (ts : List ℕ) (ps : List (List ℕ)) → Honest (m .order) (notes notePacket ps (vals over m ps) (noting ts l) .log) → AllFiled m ts ps
+row-filed : {m : Client} {l : List Entry} → Runs m l → (over : Stopped) (ts : List ℕ) (ps : List (List ℕ)) → Honest (m .order) (notes notePacket ps (vals over m ps) (noting ts l) .log) → AllFiled m ts ps
 unfolding many onTurn modelTook notes notePacket
 row-filed k over ts [] h = tt
 row-filed {m} {l} k over ts (p ∷ ps) h = go (enqueuePacket m p) refl (λ x r q. row-filed r over (rest ts) ps q) h
@@ -78,7 +78,7 @@ row-filed {m} {l} k over ts (p ∷ ps) h = go (enqueuePacket m p) refl (λ x r q
         → Honest (m .order) (notes notePacket (p ∷ ps) (onTurn (λ v s'. onward (v ∷ []) (many (λ c y. modelTook (length y) (enqueuePacket c y)) over s' ps)) (λ w. record { values = []; stopped = w; end = m }) (modelTook (length p) a) .values) (noting ts l) .log)
         → Files m (next ts) p (λ m'. AllFiled m' (rest ts) ps) a
     go (gives x) e on q =
-        let l' : List Event = noteTook (next ts) p (gives (x .0, tt {0})) l in
+        let l' : List Entry = noteTook (next ts) p (gives (x .0, tt {0})) l in
         let f = noted-honest (m .order) (next ts) p (x .0) l (row-honest (m .order) ps (vals over (x .1) ps) (noting (rest ts) l') q) in (
           λ carries. next-filed k (f .1) (next ts) p carries (f .0 carries) x e,
           on x (taken-runs k (next ts) p x e) (subst (λ (o : ℕ). Honest o (notes notePacket ps (vals over (x .1) ps) (noting (rest ts) l') .log)) (sym (order-kept m p x e)) q),
@@ -86,7 +86,7 @@ row-filed {m} {l} k over ts (p ∷ ps) h = go (enqueuePacket m p) refl (λ x r q
     go (refuses n) e on q = tt
 
 -- A session with an honest server, and the call that brings bytes with packets of the true numbers ts: each packet that is taken is filed under its own.
-pub session-fed-filed : {c : Connection} {r : Rooms} {l : List Event} → Session c r l → (ts bytes : List ℕ)
+pub session-fed-filed : {c : Connection} {r : Rooms} {l : List Entry} → Session c r l → (ts bytes : List ℕ)
     → Honest (c .order) (notes notePacket (cutPackets (c .order) bytes .packets) (tookOf (enqueuePackets (reads c r) bytes)) (noting ts l) .log) → AllFiled (reads c r) ts (cutPackets (c .order) bytes .packets)
 unfolding enqueuePackets tookOf reads
 session-fed-filed {c} k ts bytes h = row-filed (public-runs (session-public k)) (stopAt (c .order) (cutPackets (c .order) bytes .left)) ts (cutPackets (c .order) bytes .packets) h

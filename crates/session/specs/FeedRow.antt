@@ -18,13 +18,13 @@ use Rattle.model.specs.declared.Connection.{Connection}
 use Rattle.batch.specs.Feed.{stopAt, enqueuePackets, packetTurn, row, feedExact}
 use Rattle.batch.specs.FeedLaws.{Byte, packets-bytes, took-goes, feed-model}
 use Rattle.connection.specs.Calls.{Enqueues, EnqueuesMany}
-use Rattle.honest.specs.Run.{Event, noteTook}
+use Rattle.honest.specs.Run.{Entry, noteTook}
 use Rattle.honest.specs.Public.{stateOf}
 use Rattle.session.specs.Noting.{Noting, noting, next, notePacket, tookOf, noteFed}
 
 -- P goes with the state through each `enqueue_packet` that takes its packet, t being the packet's true number,
-module _ (P : Connection → Rooms → List Event → Type 1)
-    (carries : (c : Connection) (r : Rooms) (l : List Event) → Sound c r → P c r l → (t : ℕ) (p : List ℕ) → Byte p → (f : Filing) (c' : Connection) (r' : Rooms) → Enqueues c r p (gives (f, c')) r' → P c' r' (noteTook t p (gives (f, c')) l)) where
+module _ (P : Connection → Rooms → List Entry → Type 1)
+    (carries : (c : Connection) (r : Rooms) (l : List Entry) → Sound c r → P c r l → (t : ℕ) (p : List ℕ) → Byte p → (f : Filing) (c' : Connection) (r' : Rooms) → Enqueues c r p (gives (f, c')) r' → P c' r' (noteTook t p (gives (f, c')) l)) where
   record Taken (s : Site) (n : Noting) : Type 1 where
     pub sound : Sound (s .state) (s .left)
     pub held : P (s .state) (s .left) (n .log)
@@ -44,7 +44,7 @@ module _ (P : Connection → Rooms → List Event → Type 1)
       }
 
   -- and so through `enqueue_packets`, of which ts are the true numbers.
-  pub feed-row : (c : Connection) (r : Rooms) (l : List Event) → Sound c r → P c r l → (ts bytes : List ℕ) → ((i : ℕ) → getD bytes i 0 < 256) → (a : Answer (ShownFed × Connection)) (r' : Rooms) → EnqueuesMany c r bytes a r'
+  pub feed-row : (c : Connection) (r : Rooms) (l : List Entry) → Sound c r → P c r l → (ts bytes : List ℕ) → ((i : ℕ) → getD bytes i 0 < 256) → (a : Answer (ShownFed × Connection)) (r' : Rooms) → EnqueuesMany c r bytes a r'
       → P (stateOf a c) r' (noteFed ts (reads c r) bytes a l)
   unfolding answerOf roomsOf modelOf feedExact stateOf noteFed tookOf reads
   feed-row c r l S p ts bytes byte a r' h =

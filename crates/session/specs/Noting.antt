@@ -7,14 +7,14 @@ use Rattle.model.specs.Client.{Client}
 use Rattle.model.specs.Batch.{notes}
 use Rattle.model.specs.Feed.{Took, Feeding}
 use Rattle.batch.specs.Feed.{enqueuePackets}
-use Rattle.honest.specs.Run.{Event, noteTook}
+use Rattle.honest.specs.Run.{Entry, noteTook}
 
 -- the true numbers of the packets ahead, which are the server's and which no call sees; and the log so far
 pub record Noting : Type 0 where
   pub numbers : List ℕ
-  pub log : List Event
+  pub log : List Entry
 
-abbrev pub noting : List ℕ → List Event → Noting
+abbrev pub noting : List ℕ → List Entry → Noting
 noting ts l = record { numbers = ts; log = l }
 
 -- the next true number, and those behind it
@@ -36,6 +36,6 @@ tookOf (gives x) = x .0 .packets
 tookOf (refuses n) = []
 
 -- ts are the true numbers of the packets that the bytes are cut into
-unfoldable pub noteFed : {A : Type 0} → List ℕ → Client → List ℕ → Answer A → List Event → List Event
+unfoldable pub noteFed : {A : Type 0} → List ℕ → Client → List ℕ → Answer A → List Entry → List Entry
 noteFed ts m bytes (gives x) l = notes notePacket (cutPackets (m .order) bytes .packets) (tookOf (enqueuePackets m bytes)) (noting ts l) .log
 noteFed ts m bytes (refuses n) l = l

@@ -24,7 +24,7 @@ use Rattle.batch.specs.Send.{sendStep, sendsExact}
 use Rattle.batch.specs.Events.{eventStep, eventsExact}
 use Rattle.batch.specs.Theorems.{Any, all-any, send-gave, event-gave, handed-done}
 use Rattle.connection.specs.Calls.{Sends, SendsMany, PollsEvents}
-use Rattle.honest.specs.Run.{Event, sent}
+use Rattle.honest.specs.Run.{Entry, sent}
 use Rattle.honest.specs.Public.{stateOf}
 use Rattle.session.specs.Session.{sentAll, noteSends}
 
@@ -36,13 +36,13 @@ made f e m c r law S d g = promise-sound f e m c r law _ _ (is-sound c r S) (exa
 -- ---- `send_requests`
 
 -- P goes with the state through each `send_request` that is accepted,
-module _ (P : Connection → Rooms → List Event → Type 1)
-    (carries : (c : Connection) (r : Rooms) (l : List Event) → Sound c r → P c r l → (byte n : ℕ) (c' : Connection) (r' : Rooms) → Sends c r (kindOf byte) (gives (n, c')) r' → P c' r' (sent (hasReply (kindOf byte)) ∷ l)) where
-  record Sent (s : Site) (l : List Event) : Type 1 where
+module _ (P : Connection → Rooms → List Entry → Type 1)
+    (carries : (c : Connection) (r : Rooms) (l : List Entry) → Sound c r → P c r l → (byte n : ℕ) (c' : Connection) (r' : Rooms) → Sends c r (kindOf byte) (gives (n, c')) r' → P c' r' (sent (hasReply (kindOf byte)) ∷ l)) where
+  record Sent (s : Site) (l : List Entry) : Type 1 where
     pub sound : Sound (s .state) (s .left)
     pub held : P (s .state) (s .left) l
 
-  send-carries : (s : Site) (l : List Event) → Sent s l → (byte : ℕ) → Any byte → (n : ℕ) (s' : Site) → goes n s' ≡ sendStep s byte → Sent s' (sent (hasReply (kindOf byte)) ∷ l)
+  send-carries : (s : Site) (l : List Entry) → Sent s l → (byte : ℕ) → Any byte → (n : ℕ) (s' : Site) → goes n s' ≡ sendStep s byte → Sent s' (sent (hasReply (kindOf byte)) ∷ l)
   send-carries s l k byte u n s' e =
       let g = send-gave (s .state) (s .left) byte n s' e in
       record {
@@ -50,7 +50,7 @@ module _ (P : Connection → Rooms → List Event → Type 1)
         held = carries (s .state) (s .left) l (k .sound) (k .held) byte n (s' .state) (s' .left) (made same _ _ (s .state) (s .left) (λ S. send-model (s .state) (s .left) S (kindOf byte)) (k .sound) _ g);
       }
 
-  notes-sent : (bytes vs : List ℕ) (l : List Event) → notes (λ (b n : ℕ) (k : List Event). sent (hasReply (kindOf b)) ∷ k) bytes vs l ≡ sentAll (take (length vs) bytes) l
+  notes-sent : (bytes vs : List ℕ) (l : List Entry) → notes (λ (b n : ℕ) (k : List Entry). sent (hasReply (kindOf b)) ∷ k) bytes vs l ≡ sentAll (take (length vs) bytes) l
   unfolding notes sentAll
   notes-sent [] [] l = refl
   notes-sent [] (n ∷ vs) l = refl
@@ -58,12 +58,12 @@ module _ (P : Connection → Rooms → List Event → Type 1)
   notes-sent (b ∷ bytes) (n ∷ vs) l = notes-sent bytes vs (sent (hasReply (kindOf b)) ∷ l)
 
   -- and so through `send_requests`.
-  pub sends-row : (c : Connection) (r : Rooms) (l : List Event) → Sound c r → P c r l → (bytes : List ℕ) (a : Answer (ShownSendings × Connection)) (r' : Rooms) → SendsMany c r bytes a r' → P (stateOf a c) r' (noteSends bytes a l)
+  pub sends-row : (c : Connection) (r : Rooms) (l : List Entry) → Sound c r → P c r l → (bytes : List ℕ) (a : Answer (ShownSendings × Connection)) (r' : Rooms) → SendsMany c r bytes a r' → P (stateOf a c) r' (noteSends bytes a l)
   unfolding answerOf roomsOf sendsExact stateOf noteSends
   sends-row c r l S p bytes a r' h =
       let g : guarded c r (sendsExact c r bytes) ≡ sendsExact c r bytes = guarded-on c r (sendsExact c r bytes) (is-sound c r S) in
       let x : Many ℕ Stop Site = many sendStep ended (site c r) bytes in
-      let q : Sent (x .end) (notes (λ (b n : ℕ) (k : List Event). sent (hasReply (kindOf b)) ∷ k) bytes (x .values) l) = many-row sendStep Sent (λ b n k. sent (hasReply (kindOf b)) ∷ k) Any send-carries ended (site c r) bytes l (record { sound = S; held = p }) (all-any bytes) in
+      let q : Sent (x .end) (notes (λ (b n : ℕ) (k : List Entry). sent (hasReply (kindOf b)) ∷ k) bytes (x .values) l) = many-row sendStep Sent (λ b n k. sent (hasReply (kindOf b)) ∷ k) Any send-carries ended (site c r) bytes l (record { sound = S; held = p }) (all-any bytes) in
       let w : P (x .end .state) (x .end .left) (sentAll (take (length (x .values)) bytes) l) = subst (λ k. P (x .end .state) (x .end .left) k) (notes-sent bytes (x .values) l) (q .held) in
       subst (λ y. P (stateOf y c) r' (noteSends bytes y l)) (sym (h .exact .answers ∙ ap (answerOf shownSendings) g))
       (subst (λ y. P (x .end .state) y (sentAll (take (length (x .values)) bytes) l)) (sym (h .exact .leaves ∙ ap (λ y. roomsOf y r) g)) w)

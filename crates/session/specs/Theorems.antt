@@ -29,7 +29,7 @@ use Rattle.batch.specs.FeedLaws.{feed-sound}
 use Rattle.connection.specs.Calls.{Sends, Enqueues}
 use Rattle.connection.specs.Opening.{opens-fresh, opens-sound}
 use Rattle.connection.specs.Theorems.{refusal-leaves, state-sound}
-use Rattle.honest.specs.Run.{Event, sent, noteSent, noteTook, unnumbered, Fair, Honest, Right, Filed, Bears, Holds}
+use Rattle.honest.specs.Run.{Entry, sent, noteSent, noteTook, unnumbered, Fair, Honest, Right, Filed, Bears, Holds}
 use Rattle.honest.specs.Public.{stateOf, Public, opens, sends, takes, others}
 use Rattle.honest.specs.Theorems as Any
 use Rattle.session.specs.Session.{Session, new, send-request, enqueue-fds, enqueue-packet, discard-reply, poll-for-reply-or-error, poll-check-for-reply-or-error, poll-for-reply, poll-for-event, take-closed-fds, send-requests, enqueue-packets, poll-for-events, prepare-check}
@@ -45,7 +45,7 @@ module _ {A B : Type 0} (f : A → B) (e : Answer (Done A)) (m : Client → Answ
   keeps (refuses n) r' h = subst (λ (y : Rooms). Sound c y) (sym (refusal-leaves f e m c r n r' h)) S
 
 -- SOUND: state and rooms are sound at any time, so that no call of a session is refused by 9.
-pub session-sound : {c : Connection} {r : Rooms} {l : List Event} → Session c r l → Sound c r
+pub session-sound : {c : Connection} {r : Rooms} {l : List Entry} → Session c r l → Sound c r
 session-sound (new o r c h) = opens-sound o r c h
 session-sound (send-request {c = c} {r = r} kind a r' h k) = keeps same _ _ c r (λ S. Sending.send-sound c r S kind) (session-sound k) a r' h
 session-sound (enqueue-fds {c = c} {r = r} list a r' h k) = keeps same _ _ c r (λ S. Sending.enqueue-sound c r S list) (session-sound k) a r' h
@@ -64,20 +64,20 @@ session-sound (prepare-check n a h k) = session-sound k
 -- ---- True numbers
 
 -- a single call of a row
-sends-on : (c : Connection) (r : Rooms) (l : List Event) (byte n : ℕ) (c' : Connection) (r' : Rooms) → Sends c r (kindOf byte) (gives (n, c')) r' → Public c r l → Public c' r' (sent (hasReply (kindOf byte)) ∷ l)
+sends-on : (c : Connection) (r : Rooms) (l : List Entry) (byte n : ℕ) (c' : Connection) (r' : Rooms) → Sends c r (kindOf byte) (gives (n, c')) r' → Public c r l → Public c' r' (sent (hasReply (kindOf byte)) ∷ l)
 unfolding stateOf noteSent
 sends-on c r l byte n c' r' q p = sends (kindOf byte) _ (gives (n, c')) r' q p
 
-packets-on : (c : Connection) (r : Rooms) (l : List Event) (t : ℕ) (p : List ℕ) (f : Filing) (c' : Connection) (r' : Rooms) → Enqueues c r p (gives (f, c')) r' → Public c r l → Public c' r' (noteTook t p (gives (f, c')) l)
+packets-on : (c : Connection) (r : Rooms) (l : List Entry) (t : ℕ) (p : List ℕ) (f : Filing) (c' : Connection) (r' : Rooms) → Enqueues c r p (gives (f, c')) r' → Public c r l → Public c' r' (noteTook t p (gives (f, c')) l)
 unfolding stateOf
 packets-on c r l t p f c' r' q k = takes t p _ (gives (f, c')) r' q k
 
-events-on : (c : Connection) (r : Rooms) (l : List Event) (bytes : ℕ) (h : Held) (c' : Connection) (r' : Rooms)
+events-on : (c : Connection) (r : Rooms) (l : List Entry) (bytes : ℕ) (h : Held) (c' : Connection) (r' : Rooms)
     → Promise shownEvent (eventExact c r bytes) (λ m. pollForEvent m bytes) c r (gives (shownEvent (packet h), c')) r' → Public c r l → Public c' r' l
 unfolding stateOf
 events-on c r l bytes h c' r' q p = others (Calls.poll-event bytes) tt shownEvent _ (gives (shownEvent (packet h), c')) r' q p
 
-pub session-public : {c : Connection} {r : Rooms} {l : List Event} → Session c r l → Public c r l
+pub session-public : {c : Connection} {r : Rooms} {l : List Entry} → Session c r l → Public c r l
 session-public (new o r c h) = opens o _ _ (opens-fresh o r c h)
 session-public (send-request kind a r' h k) = sends kind _ a r' h (session-public k)
 session-public (enqueue-fds list a r' h k) = others (Calls.enqueue-fds list) tt same _ a r' h (session-public k)
@@ -97,15 +97,15 @@ session-public (poll-for-events {c = c} {r = r} {l = l} out marks a r' out' mark
 session-public (prepare-check n a h k) = session-public k
 
 -- TRUE NUMBERS: with an honest server the number of each packet taken in is its true one, however long the session is.
-pub session-true : {c : Connection} {r : Rooms} {l : List Event} → Session c r l → Honest (c .order) l → Right l
+pub session-true : {c : Connection} {r : Rooms} {l : List Entry} → Session c r l → Honest (c .order) l → Right l
 session-true k h = Any.public-true (session-public k) h
 
 -- HELD: at any time each record that is held bears the true number of its packet.
-pub session-held : {c : Connection} {r : Rooms} {l : List Event} → Session c r l → Honest (c .order) l → Holds (Bears l) (reads c r)
+pub session-held : {c : Connection} {r : Rooms} {l : List Entry} → Session c r l → Honest (c .order) l → Holds (Bears l) (reads c r)
 session-held k h = Any.public-held (session-public k) h
 
 -- A session with an honest server, and the call that brings its next packet.
-module _ {c : Connection} {r : Rooms} {l : List Event} (k : Session c r l) (h : Honest (c .order) l) (t : ℕ) (p : List ℕ) (carries : unnumbered p ≡ false) (fair : Fair (c .order) l t p)
+module _ {c : Connection} {r : Rooms} {l : List Entry} (k : Session c r l) (h : Honest (c .order) l) (t : ℕ) (p : List ℕ) (carries : unnumbered p ≡ false) (fair : Fair (c .order) l t p)
     (a : Answer (Filing × Connection)) (r' : Rooms) (enqueues : Enqueues c r p a r') where
   -- FILED: where it is taken in, it is the last of its list under its true number, or if dropped was reckoned by it.
   pub session-filed : (f : Filing) (s : Connection) → a ≡ gives (f, s) → Filed (reads c r) p t (f, reads s r')

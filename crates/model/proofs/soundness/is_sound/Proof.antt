@@ -4,7 +4,7 @@ use native.Mathlib.Omega.{arith}
 use borrow.Author.Tests.{not-true, not-false}
 use Rattle.octets.specs.Logic.{apart}
 use Rattle.requests.specs.Theorems.{sized-is}
-use Rattle.model.specs.Sound.{Numbers, heldb, not-sound, limits-written, limits-run, numbers-limits, numbers-run, rooms-left}
+use Rattle.model.specs.Sound.{Ranges, heldb, not-sound, limits-written, limits-run, numbers-limits, numbers-run, rooms-left}
 use borrow.Author.Needs.{needs}
 use Rattle.model.proofs.soundness.is_sound.Statement.{statement}
 use Rattle.model.proofs.soundness.is_sound.Tie as tie
@@ -43,7 +43,7 @@ returns-6 : tie.Need-returns-6
 returns-6 c = not-sound _ _ (λ S. apart (S .slots) (sym (c .before .sound .ensures) ∙ not-true _ (c .if6 .taken)))
 
 -- the numbers, once both halves are tested
-numbers : (c : tie.Else5) → Numbers (c .before .before .before .before .before .before .before .before .before .before .before .before .before .args .c)
+numbers : (c : tie.Else5) → Ranges (c .before .before .before .before .before .before .before .before .before .before .before .before .before .args .c)
 numbers c = limits-run _ (sym (c .before .before .before .limits .ensures) ∙ not-false _ (c .before .before .if4 .left)) (sym (c .before .run .ensures) ∙ not-false _ (c .if5 .left))
 
 add-count : tie.Need-add-count
