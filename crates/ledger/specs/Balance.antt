@@ -84,10 +84,9 @@ count-of-number d n (h ∷ l) = go (eqb (h .number) n) (count-of-number d n l)
 -- in whatever turn
 count-order : (d k : ℕ) (l : List Held) → count d (descriptorsOf (closingOrder k l)) ≡ count d (descriptorsOf l)
 unfolding closingOrder
-count-order d k [] = refl
-count-order d k (h ∷ l) =
-    let i : ℕ = k % length (h ∷ l) in
-    omega (arith, count-of-append d (drop i (h ∷ l)) (take i (h ∷ l)), count-of-append d (take i (h ∷ l)) (drop i (h ∷ l)), ap (λ (y : List Held). count d (descriptorsOf y)) (take-append-drop i (h ∷ l)))
+count-order d k l =
+    let i : ℕ = k % length l in
+    omega (arith, count-of-append d (drop i l) (take i l), count-of-append d (take i l) (drop i l), ap (λ (y : List Held). count d (descriptorsOf y)) (take-append-drop i l))
 
 -- the one that is found and those that stay
 abbrev CountFound : ℕ → ℕ → Found → Type 0

@@ -220,8 +220,7 @@ errorsOf (h ∷ l) = choose (isError h) (asEvent h ∷ errorsOf l) (errorsOf l)
 
 -- The Rust's `retain` closes what it removes from record k mod r on and then round, of r removed records with k kept behind them.
 unfoldable pub closingOrder : ℕ → List Held → List Held
-closingOrder k [] = []
-closingOrder k (h ∷ l) = drop (k % length (h ∷ l)) (h ∷ l) ++ take (k % length (h ∷ l)) (h ∷ l)
+closingOrder k l = drop (k % length l) l ++ take (k % length l) l
 
 -- "then removes all held packets of that number; under DiscardReply the errors among them become events in their order"
 abbrev pub discarding : DiscardMode → ℕ → Client → Client

@@ -2,7 +2,7 @@
 use mathlib.Core.Path.{_≡_, refl, sym, ap, _∙_, subst}
 use mathlib.Core.Bool.{Bool, true, false}
 use mathlib.Core.List.{List, [], _∷_, _++_, map, append-nil}
-use Prim.Native.Nat.{ℕ, zero, suc, _+_, _-_, _≤_, _%_}
+use Prim.Native.Nat.{ℕ, _+_, _-_, _≤_, _%_}
 use native.Mathlib.Omega.{arith}
 use lib.Dec.{leb, eqb}
 use lib.ListN.{length, take, drop, getD, set, take-append-drop}
@@ -50,16 +50,6 @@ errors-read (h ∷ a) fds = go (eqb (getD (h .packet) 0 0) errorCode) (errors-re
         → map eventOf (choose t (Record.asEvent h ∷ errorsIn a) (errorsIn a)) ≡ choose t (Model.asEvent (heldWith h (take (h .fds) fds)) ∷ errorsOf (withDescriptors a (drop (h .fds) fds))) (errorsOf (withDescriptors a (drop (h .fds) fds)))
     go true e = ap (λ (l : List Client.Held). Model.asEvent (heldWith h (take (h .fds) fds)) ∷ l) e
     go false e = e
-
--- a row from record k mod r on and then round
-closing-order : (k : ℕ) (w : List Client.Held) → closingOrder k w ≡ drop (k % length w) w ++ take (k % length w) w
-unfolding closingOrder
-closing-order k [] = nil (k % 0)
-  where
-    nil : (n : ℕ) → _≡_ {A = List Client.Held} [] (drop n [] ++ take n [])
-    nil zero = refl
-    nil (suc n) = refl
-closing-order k (h ∷ l) = refl
 
 module _ (c : Connection) (r : Rooms) (S : Sound c r) (n : ℕ) (m : DiscardMode) where
   abbrev rs : List Record.Held
@@ -146,13 +136,14 @@ module _ (c : Connection) (r : Rooms) (S : Sound c r) (n : ℕ) where
 
   round-order : descriptorsOf (drop (turnAt DiscardMode.DiscardReplyAndError n (repliesOf c r)) (w c r S n DiscardMode.DiscardReplyAndError) ++ take (turnAt DiscardMode.DiscardReplyAndError n (repliesOf c r)) (w c r S n DiscardMode.DiscardReplyAndError))
       ≡ descriptorsOf (closingOrder (length (above n read-replies)) (ofNumber n read-replies))
+  unfolding closingOrder
   round-order =
       let o = repliesOf c r in
       let f = Slots.holding (slotsOf c r) in
       let R = rising c r S n DiscardMode.DiscardReplyAndError in
       let x = w c r S n DiscardMode.DiscardReplyAndError in
       ap descriptorsOf
-      (sym ((λ k. closingOrder (above-read n 0 o f R k) (of-read n 0 o f R k)) ∙ closing-order (length (higher n o)) x
+      (sym ((λ k. closingOrder (above-read n 0 o f R k) (of-read n 0 o f R k))
       ∙ ap (λ (j : ℕ). drop (length (higher n o) % j) x ++ take (length (higher n o) % j) x) (length-with (own n o) (drop (fdsBelow n o) f))))
 
   -- the whole, as it is read
