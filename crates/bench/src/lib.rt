@@ -18,11 +18,6 @@ ghost use Rattle.bench.specs.Answers.{Does, answer, windowOf};
 // The answer of a walk that finds the store unsound.
 const UNSOUND: usize = 18446744073709551615;
 
-// The fewest and the most bytes of a packet.
-const LEAST_PACKET: usize = 32;
-
-const MOST_PACKET: usize = 65536;
-
 // All of src over dst from index at on.
 #[no_mangle]
 pub extern "C" fn bench_copy(dst: &mut [u8], at: usize, src: &[u8]) -> bool
@@ -105,10 +100,10 @@ pub extern "C" fn bench_append(
     let Walked::Sound(_) = held::walk(store, w, last) else {
         return false;
     };
-    if packet.len() < LEAST_PACKET {
+    if packet.len() < held::LEAST_PACKET {
         return false;
     }
-    if MOST_PACKET < packet.len() {
+    if held::MOST_PACKET < packet.len() {
         return false;
     }
     if store.len() - (w.end - w.start) < held::HEADER + packet.len() {

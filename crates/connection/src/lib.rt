@@ -327,5 +327,5 @@ fn in_range(capacity: usize, room: usize) -> bool
     if room < model::LEAST_STORE {
         return false;
     }
-    room <= model::MOST_STORE
+    room <= held::MOST_STORE
 }

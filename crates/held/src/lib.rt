@@ -17,6 +17,8 @@ pub use find::find_event;
 pub use find::find_reply;
 pub use head::EVENT;
 pub use head::HEADER;
+pub use head::LEAST_PACKET;
+pub use head::MOST_PACKET;
 pub use head::REPLY;
 pub use head::count_at;
 pub use head::kind_at;
@@ -30,6 +32,7 @@ pub use moves::first_byte;
 pub use moves::remove;
 pub use moves::stays;
 pub use moves::take;
+pub use soundness::MOST_STORE;
 pub use soundness::walk;
 
 // Where the records are in the store; used is end - start.

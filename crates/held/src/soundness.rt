@@ -12,11 +12,11 @@ use crate::Window;
 use crate::head;
 
 // The most bytes of a store.
-const MOST_STORE: usize = 16777216;
+pub const MOST_STORE: usize = 16777216;
 
 // The window lies in the store and reads as records that fit, the last ending at its end; the
-// numbers of replies never fall, and no number held is above the last read. Then the answer is the number of
-// descriptors that the replies have in all.
+// numbers of replies never fall, and no number held is above the last read. Then the answer is the
+// number of descriptors that the replies have in all.
 pub fn walk(store: &[u8], window: Window, last: u64) -> Walked
     ensures { λ r. ⌜ r ≡ walked last window (now (store .entry)) ⌝ }
 {

@@ -31,11 +31,6 @@ ghost use Rattle.model.specs.Model.{errorUnder, errorPlace, replyUnder, replyPl
 ghost use Rattle.intake.specs.Plan.{saysAsked, saysPlan, Ready, Fitting, packetNumberIn, raisedTo, firstAfter, askedIn, overRoom, planBy, planOf};
 ghost use Rattle.intake.specs.Exact.{numberedState, MayFile, FileDone, EnqueueStep};
 
-// The fewest and the most bytes of a packet.
-const LEAST_PACKET: usize = 32;
-
-const MOST_PACKET: usize = 65536;
-
 // The codes that matter: an error's, a reply's, and that of KeymapNotify, which carries no number.
 const ERROR: u8 = 0;
 
@@ -226,10 +221,10 @@ fn plan_of(c: Connection, requests: &[u8], packet: &[u8]) -> Plan
     requires { ⌜ (0 < capacity (now requests)) × Fitting c ⌝ }
     ensures { λ r. ⌜ saysPlan r ≡ planOf c (now (requests .entry)) (now (packet .entry)) ⌝ }
 {
-    if packet.len() < LEAST_PACKET {
+    if packet.len() < held::LEAST_PACKET {
         return Plan::Stop(Refusal::ShortPacket);
     }
-    if MOST_PACKET < packet.len() {
+    if held::MOST_PACKET < packet.len() {
         return Plan::Stop(Refusal::LongPacket);
     }
     match number_of(c, packet) {

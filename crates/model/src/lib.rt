@@ -13,7 +13,6 @@ use held::Window;
 use refusal::Refusal;
 use sequence::SequenceNumber;
 pub use soundness::LEAST_STORE;
-pub use soundness::MOST_STORE;
 pub use soundness::is_sound;
 
 // Whether a request has a reply, and whether the reply has descriptors.

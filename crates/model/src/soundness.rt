@@ -14,10 +14,8 @@ ghost use Rattle.requests.specs.Room.{capacity, legals};
 ghost use Rattle.model.specs.Reading.{rooms};
 ghost use Rattle.model.specs.Sound.{soundb, holdsb, limitsb, runb, windowOf};
 
-// The fewest and the most bytes of a packet store.
+// The fewest bytes of a packet store; the most are the walk's own.
 pub const LEAST_STORE: usize = 48;
-
-pub const MOST_STORE: usize = 16777216;
 
 pub fn is_sound(c: Connection, requests: &[u8], store: &[u8], slots: &[u32]) -> bool
     ensures { λ r. ⌜ r ≡ soundb c (rooms (now (requests .entry)) (now (store .entry)) (now (slots .entry))) ⌝ }
@@ -62,7 +60,7 @@ fn limits(c: Connection) -> bool
     if c.room < LEAST_STORE {
         return false;
     }
-    if MOST_STORE < c.room {
+    if held::MOST_STORE < c.room {
         return false;
     }
     if sequence::LAST_NUMBER < c.written {

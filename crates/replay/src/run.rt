@@ -132,7 +132,7 @@ fn opened(
 ) -> State {
     let s = op.b as usize;
     if store.len() < s {
-        if s <= model::MOST_STORE {
+        if s <= held::MOST_STORE {
             return bad(state, number, bytes);
         }
     }
