@@ -55,7 +55,7 @@ module _ (o : ℕ) (r : Rooms) (f : length (r .slots) ≡ mostDescriptors) (g : 
 
   -- and sound, in one of the two orders
   pub fresh-sound : legal o ≡ true → Sound (freshState o (capacity (r .requests)) (length (r .store))) r
-  unfolding roomy capacity Store.only Store.fdsIn
+  unfolding roomy Store.only Store.fdsIn
   fresh-sound h =
       let a : 1 ≤ capacity (r .requests) = leb-true _ _ (both-left _ _ (both-left _ _ g)) in
       let b : capacity (r .requests) ≤ mostRequests = leb-true _ _ (both-right _ _ (both-left _ _ g)) in
