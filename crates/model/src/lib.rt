@@ -37,9 +37,9 @@ pub enum Place {
     Dropped,
 }
 
-// A connection's state, all but the rooms that are lent with it: byte order, the lengths of the
-// request room and of the packet store, the three numbers, the first outstanding number, where the
-// held packets lie in the store, and how many descriptors are where.
+// A connection's state, all but the rooms that are lent with it: byte order, how many requests the
+// request room takes, the length of the packet store, the three numbers, the first outstanding
+// number, where the held packets lie in the store, and how many descriptors are where.
 pub struct Connection {
     pub order: u8,
     pub capacity: usize,
