@@ -9,12 +9,11 @@ use lib.Seq.{length-take-le}
 use lib.Dec.{eqb}
 use borrow.Author.Tests.{eqb-true}
 use Rattle.octets.specs.Logic.{choose, both-right}
-use Rattle.octets.specs.Put.{cut}
+use Rattle.octets.specs.Put.{cut, cut-take}
 use Rattle.refusal.specs.Answer.{refuses, refuse}
 use Rattle.connect.specs.Handshake.{aim, soundb, Progress, waits, complete, filledTo}
 use Rattle.connect.specs.Sound.{is-sound}
 use Rattle.connect.specs.AimLaws.{aim-held}
-use Rattle.connect.specs.Extra.{cut-take}
 use Rattle.connect.specs.Feeding.{stateOf, isComplete, isReply, reply-when, Fed}
 use Rattle.connect.specs.Setup.{readReply, setup, textAt}
 use Rattle.connect.specs.SetupLaws.{Within, within-reply}

@@ -1,4 +1,3 @@
-pub mod Extra
 pub mod Pad
 pub mod Request
 pub mod Handshake

@@ -5,9 +5,8 @@ use Prim.Native.Nat.{ℕ, _+_, _%_, _≤_}
 use native.Mathlib.Omega.{arith}
 use lib.ListN.{length, getD, length-append}
 use Rattle.octets.specs.Bytes.{bytesOf, numberIn, length-bytesOf, number-bytes}
-use Rattle.octets.specs.Put.{cut}
+use Rattle.octets.specs.Put.{cut, cut-parts}
 use Rattle.octets.specs.Field.{field}
-use Rattle.connect.specs.Extra.{cut-parts}
 use Rattle.connect.specs.Pad.{pad, zeros, padded, length-padded, pad-four}
 use Rattle.connect.specs.Request.{majorVersion, minorVersion, nameAt, mostText, head, setupRequest, size, length-head, length-request}
 

@@ -6,9 +6,8 @@ use Prim.Native.Nat.{ℕ, _≤_}
 use lib.Dec.{leb}
 use lib.ListN.{length}
 use borrow.Author.Tests.{leb-true, eqb-true, le-leb, eq-eqb, not-false}
-use Rattle.octets.specs.Logic.{both-left, both-right, both-yes}
+use Rattle.octets.specs.Logic.{both-left, both-right, both-yes, both-on}
 use Rattle.octets.specs.Bytes.{legal}
-use Rattle.connect.specs.Extra.{both-rest}
 use Rattle.connect.specs.Handshake.{head, mostBuffer, aim, room, soundb}
 use Rattle.connect.specs.declared.handshake.Connect.{Connect}
 
@@ -47,10 +46,10 @@ pub sound-rest : (c : Connect) (s : List ℕ) → head ≤ length s → length s
     → leb (c .filled) (c .target) ≡ soundb c s
 unfolding soundb room
 sound-rest c s h k l e f =
-    both-rest _ _ (le-leb (c .target) (length s) f)
-    ∙ both-rest _ _ (eq-eqb (c .target) _ e)
-    ∙ both-rest _ _ (sym l)
-    ∙ both-rest _ _ (both-yes _ _ (le-leb head (length s) h) (le-leb (length s) mostBuffer k))
+    both-on (le-leb (c .target) (length s) f)
+    ∙ both-on (eq-eqb (c .target) _ e)
+    ∙ both-on (sym l)
+    ∙ both-on (both-yes _ _ (le-leb head (length s) h) (le-leb (length s) mostBuffer k))
 
 -- what a call's test tells
 pub sound-seen : (c : Connect) (s : List ℕ) (b : Bool) → b ≡ soundb c s → not b ≡ false → Sound c s

@@ -5,15 +5,10 @@ use native.Mathlib.Nat.{zero-add}
 use native.Mathlib.Omega.{arith}
 use mathlib.Core.List.{List, [], _++_, append-assoc}
 use lib.ListN.{length, take, drop, length-append, length-drop, take-append-drop}
-use lib.Seq.{take-at, drop-at, drop-drop, length-take-le}
-use Rattle.octets.specs.Put.{put, cut, put-parts, length-put, length-cut}
+use lib.Seq.{take-at, drop-drop, length-take-le}
+use Rattle.octets.specs.Put.{put, cut, put-parts, length-put, length-cut, cut-parts}
 use Rattle.descriptors.specs.Room.{total, Room, room, closing, holding, waiting, Lists, heldRun, enqueue, hold, closeRun, closeWaiting, closeHeld, removeRun, handOut, takeClosed}
 use Rattle.descriptors.specs.declared.Counts.{Counts}
-
--- the middle of three parts
-cut-parts : (a x b : List ℕ) (at n : ℕ) → length a ≡ at → length x ≡ n → cut at n (a ++ (x ++ b)) ≡ x
-unfolding cut
-cut-parts a x b at n e f = ap (take n) (drop-at a (x ++ b) at e) ∙ take-at x b n f
 
 -- what stands as three parts is read as them
 pub read : (s c h w r : List ℕ) (k : Counts) → s ≡ c ++ (h ++ (w ++ r)) → length c ≡ k .closed → length h ≡ k .held → length w ≡ k .waiting → Lists (room s k) c h w

@@ -14,7 +14,7 @@ use Rattle.descriptors.specs.Counting.{count-append, count-split}
 use Rattle.model.specs.Client.{Held, Client, setReplies, setEvents, setWaiting, setClosing, descriptorsOf}
 use Rattle.model.specs.Model as Model
 use Rattle.model.specs.Model.{fresh, sendRequest, enqueueFds, takeClosed, close, asEvent, errorCode, replyCode, codeOf, numbered, Asked, askedOf, errorPlace, replyPlace, replyUnder, placeOf, claimed, wantsDescriptors, Filing, takeIn, enqueuePacket, withMode, ofNumber, notOf, above, closingOrder, discarding, discardReply, Found, at, behind, find, Taken, takenBy, pollForReplyOrError, checkedBy, pollCheck, repliedBy, pollForReply, eventBy, pollForEvent}
-use Rattle.model.specs.Calls.{Call, send, enqueue-fds, enqueue, discard, poll, check, poll-reply, prepare, poll-event, take-closed, Said, done, closed, refused, step, outcome, run}
+use Rattle.model.specs.Calls.{Call, send, enqueue-fds, enqueue, discard, poll, check, poll-reply, prepare, poll-event, take-closed, Said, done, closed, refused, step, outcome, run, saysTaken, saysPoll}
 use Rattle.model.specs.declared.ReplyFdKind.{ReplyFdKind}
 use Rattle.model.specs.declared.DiscardMode.{DiscardMode}
 use Rattle.model.specs.declared.DiscardMode.the-variants as DiscardMode
@@ -22,7 +22,7 @@ use Rattle.model.specs.declared.Place.{Place}
 use Rattle.model.specs.declared.Place.the-variants as Place
 use Rattle.requests.specs.declared.Mode.{Mode}
 use Rattle.requests.specs.declared.Mode.the-variants as Mode
-use Rattle.ledger.specs.Saying.{saysTaken, saysPoll, by-refuse, by-choose, by-pass}
+use Rattle.ledger.specs.Saying.{by-refuse, by-choose, by-pass}
 use Rattle.ledger.specs.Descriptors.{within, unlessRefused, accepted, tookWith, closedBy, handedOut, Balances, acceptedIn, handedIn}
 
 -- how often one is inside, list by list

@@ -1,12 +1,11 @@
 -- A state is sound exactly where it encodes one whose parts are in range, and it is read as that one. Assumes nothing.
-use mathlib.Core.Bool.{Bool, true, false}
+use mathlib.Core.Bool.{true}
 use mathlib.Core.List.{List, [], _∷_, _++_, map}
 use mathlib.Core.Logic.{_↔_}
 use mathlib.Core.Path.{_≡_, refl, sym, ap, _∙_, subst}
 use Prim.Native.Nat.{ℕ, _+_, _≤_}
 use native.Mathlib.Decide.{ℕ-discrete}
 use native.Mathlib.Omega.{arith}
-use lib.Dec.{eqb}
 use lib.ListN.{length, take, drop, length-take, length-drop, length-append}
 use lib.Seq.{take-append-le, drop-append-le, take-length, drop-length, length-take-le}
 use Rattle.octets.specs.Logic.{choose}
@@ -15,7 +14,7 @@ use Rattle.requests.specs.Room as Requests
 use Rattle.requests.specs.Room.{outstanding, legals}
 use Rattle.requests.specs.Theorems.{sized-is, legals-exactly, encoded-read as requests-read}
 use Rattle.held.specs.Head as Record
-use Rattle.held.specs.Head.{Fits, mostFds}
+use Rattle.held.specs.Head.{Fits, mostFds, mostFds-byte, fits-reply, fits-event}
 use Rattle.held.specs.Reading as Store
 use Rattle.held.specs.Rows.{only-is, only-other, all-only}
 use Rattle.held.specs.Soundness.{Fine, Holds, holds}
@@ -26,7 +25,7 @@ use Rattle.descriptors.specs.Theorems as Fds
 use Rattle.model.specs.Client.{Held, Client, first, descriptorsOf}
 use Rattle.model.specs.Reading.{Rooms, count, withDescriptors, eventOf, slotsOf, reads}
 use Rattle.model.specs.ReadingLaws.{length-out, first-read, used-read, descriptors-read, length-wait, length-close, inside-read}
-use Rattle.model.specs.Sound.{Sound, soundb, sound-is, is-sound}
+use Rattle.model.specs.Sound.{Sound, soundb, sound-is, is-sound, slots-there}
 use Rattle.model.specs.declared.Connection.{Connection}
 use Rattle.model.specs.Batch.{Each}
 use Rattle.ledger.specs.Encoding.{ReplyFits, EventFits, NeverFall, InRange, replyRow, eventRow, Mixed, none, a-reply, an-event, Encodes}
@@ -87,11 +86,10 @@ read-events last (h ∷ es) q =
 -- ---- an encoding of what is in range is sound
 
 reply-row-fits : (last : ℕ) → last ≤ lastNumber → (h : Held) → ReplyFits last h → Fits (replyRow h)
-unfolding mostFds choose
-reply-row-fits last l h f = record { number = omega arith; least = f .least; most = f .most; kind = omega arith; count = omega arith }
+reply-row-fits last l h f = fits-reply (h .number) (length (h .descriptors)) (h .packet) (omega (arith, f .known)) (omega (arith, f .descriptors)) (f .least) (f .most)
 
 event-row-fits : (last : ℕ) → last ≤ lastNumber → (h : Held) → EventFits last h → Fits (eventRow h)
-event-row-fits last l h f = record { number = omega arith; least = f .least; most = f .most; kind = omega arith; count = omega arith }
+event-row-fits last l h f = fits-event (h .number) (h .packet) (omega (arith, f .known)) (f .least) (f .most)
 
 module _ (m : Client) (c : Connection) (r : Rooms) (E : Encodes m c r) (I : InRange m) where
   counted : count c ≡ length (m .outstanding)
@@ -214,20 +212,12 @@ mixing (h ∷ rows) fds f l = elim (ℕ-discrete (h .kind) Record.reply) [ yes e
         mix-event h rows fds (omega (arith, f .0 .kind)) (f .0 .count) (k (omega arith))
 
 -- each list is in range
-fds-most : (kind : ℕ) → mostFds kind ≤ 255
-unfolding mostFds choose
-fds-most kind = go (eqb kind Record.reply)
-  where
-    go : (b : Bool) → choose b 255 0 ≤ 255
-    go true = omega arith
-    go false = omega arith
-
 module _ (last : ℕ) where
   replies-fit : (l : List Record.Held) (fds : List ℕ) → Store.All Fits l → Store.All (Store.Known last) l → Each (ReplyFits last) (withDescriptors l fds)
   unfolding Store.All withDescriptors
   replies-fit [] fds f k = tt
   replies-fit (h ∷ l) fds f k = (
-    record { least = f .0 .least; most = f .0 .most; known = k .0; descriptors = omega (arith, f .0 .count, fds-most (h .kind), length-take (h .fds) fds) },
+    record { least = f .0 .least; most = f .0 .most; known = k .0; descriptors = omega (arith, f .0 .count, mostFds-byte (h .kind), length-take (h .fds) fds) },
     replies-fit l (drop (h .fds) fds) (f .1) (k .1),
   )
 
@@ -247,9 +237,6 @@ module _ (c : Connection) (r : Rooms) (S : Sound c r) where
 
   stands : Store.Sound (c .read) (c .window) (r .store)
   stands = Stores.sound-exactly (c .read) (c .window) (r .store) .0 (S .held)
-
-  slots-sound : Slots.Sound (slotsOf c r)
-  slots-sound = Fds.sound-is (slotsOf c r) .0 (S .slots)
 
   pub sound-range : InRange (reads c r)
   unfolding reads
@@ -271,14 +258,14 @@ module _ (c : Connection) (r : Rooms) (S : Sound c r) where
         events = events-fit (c .read) (Store.only Record.event kept) (all-only Fits Record.event kept (stands .readable .fit)) (all-only (Store.Known (c .read)) Record.event kept (stands .known));
         never-fall = never-falls 0 (Store.only Record.reply kept) (Slots.holding (slotsOf c r)) (stands .rising);
         used-most = omega (arith, used-read c r S, stands .readable .within, S .store);
-        descriptors-most = omega (arith, inside-read c r S, slots-sound .most);
+        descriptors-most = omega (arith, inside-read c r S, slots-there c r S .most);
       }
 
   pub sound-encodes : Encodes (reads c r) c r
   unfolding reads
   sound-encodes =
       let z = sized-is (c .capacity) (r .requests) .0 (S .requests) in
-      let fit : Slots.total (c .counts) ≤ length (r .slots) = omega (arith, slots-sound .long, slots-sound .most) in
+      let fit : Slots.total (c .counts) ≤ length (r .slots) = omega (arith, slots-there c r S .long, slots-there c r S .most) in
       let d = descriptors-read c r S in
       record {
         order = refl;
@@ -290,14 +277,14 @@ module _ (c : Connection) (r : Rooms) (S : Sound c r) where
         first-is = sym (first-read c r S);
         requests-long = z .holds;
         store-long = S .store;
-        slots-long = slots-sound .long;
+        slots-long = slots-there c r S .long;
         requests = subst (λ (n : ℕ). Requests.Encodes (r .requests) n (outstanding (r .requests) (c .first) (count c))) (sym (first-read c r S)) (legals-exactly (r .requests) (c .first) (count c) .0 (S .legal-bytes));
         rows = kept;
-        mixed = mixing kept (Slots.holding (slotsOf c r)) (stands .readable .fit) (omega (arith, S .descriptors, Fds.length-holding (slotsOf c r) slots-sound));
+        mixed = mixing kept (Slots.holding (slotsOf c r)) (stands .readable .fit) (omega (arith, S .descriptors, Fds.length-holding (slotsOf c r) (slots-there c r S)));
         window-order = stands .readable .order;
         window-within = stands .readable .within;
         store = stands .readable .bytes;
-        counts = sym (λ i. Slots.counted (length-close c r S i) ((ap length d ∙ Fds.length-holding (slotsOf c r) slots-sound) i) (length-wait c r S i));
+        counts = sym (λ i. Slots.counted (length-close c r S i) ((ap length d ∙ Fds.length-holding (slotsOf c r) (slots-there c r S)) i) (length-wait c r S i));
         rest = Parts.rest (slotsOf c r);
         slots = Parts.parts (slotsOf c r) fit ∙ ap (λ (l : List ℕ). Slots.closing (slotsOf c r) ++ (l ++ (Slots.waiting (slotsOf c r) ++ Parts.rest (slotsOf c r)))) (sym d);
       }

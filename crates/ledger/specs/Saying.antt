@@ -7,21 +7,9 @@ use native.Mathlib.Omega.{arith}
 use Rattle.octets.specs.Logic.{choose}
 use Rattle.refusal.specs.Answer.{Answer, gives, refuses, refuse, pass}
 use Rattle.model.specs.Client.{Client}
-use Rattle.model.specs.Model.{Filing, Taken, none, packet, PollReply, tryAgain, noReply, reply, sendRequest, enqueueFds, takeClosed, enqueuePacket, discardReply, pollForReplyOrError, pollCheck, pollForReply, pollForEvent}
-use Rattle.model.specs.Calls.{Call, send, enqueue-fds, enqueue, discard, poll, check, poll-reply, prepare, poll-event, take-closed, Said, number, done, filed, nothing, took, again, absent, closed, refused, Step, step, outcome}
+use Rattle.model.specs.Model.{Taken, none, packet, PollReply, tryAgain, noReply, reply, sendRequest, enqueueFds, takeClosed, enqueuePacket, discardReply, pollForReplyOrError, pollCheck, pollForReply, pollForEvent}
+use Rattle.model.specs.Calls.{Call, send, enqueue-fds, enqueue, discard, poll, check, poll-reply, prepare, poll-event, take-closed, Said, number, done, closed, refused, Step, saysFiling, saysTaken, saysPoll, step, outcome}
 use Rattle.honest.specs.Public.{modelled}
-
-abbrev pub saysFiling : Filing → Said
-saysFiling f = filed (f .place) (f .number)
-
-abbrev pub saysTaken : Taken → Said
-saysTaken none = nothing
-saysTaken (packet h) = took h
-
-abbrev pub saysPoll : PollReply → Said
-saysPoll tryAgain = again
-saysPoll noReply = absent
-saysPoll (reply h) = took h
 
 -- What is true of a step where the call is refused, and of each step that it can come to, is true of what it comes to.
 module _ (P : Step → Type 0) {A : Type 0} (f : A → Said) (c : Client) (keeps : (n : ℕ) → P (record { said = refused n; next = c })) where

@@ -12,11 +12,11 @@ use Rattle.held.specs.Head.{headerSize}
 use Rattle.model.specs.Client.{Held, Client, setWaiting, costs, used}
 use Rattle.model.specs.Model as Model
 use Rattle.model.specs.Model.{sendRequest, enqueueFds, takeClosed, codeOf, numbered, askedOf, placeOf, claimed, isHeld, takeIn, enqueuePacket, asEvent, Found, at, find, takenBy, pollForReplyOrError, checkedBy, pollCheck, repliedBy, pollForReply, eventBy, pollForEvent}
-use Rattle.model.specs.Calls.{Call, send, enqueue-fds, enqueue, discard, poll, check, poll-reply, prepare, poll-event, take-closed, Said, number, done, closed, refused, Step, step, outcome}
+use Rattle.model.specs.Calls.{Call, send, enqueue-fds, enqueue, discard, poll, check, poll-reply, prepare, poll-event, take-closed, Said, number, done, closed, refused, Step, step, outcome, saysFiling, saysTaken, saysPoll}
 use Rattle.model.specs.declared.Place.{Place}
 use Rattle.model.specs.declared.Place.the-variants as Place
 use Rattle.ledger.specs.Room.{costOf, added, givenBack, NoDiscard}
-use Rattle.ledger.specs.Saying.{saysFiling, saysTaken, saysPoll, by-refuse, by-choose, by-pass}
+use Rattle.ledger.specs.Saying.{by-refuse, by-choose, by-pass}
 use Rattle.ledger.specs.Moving.{costs-append, costs-one, CostsFound, costs-find}
 
 -- after the call and with what it gives back, as much is used as before and with what it adds

@@ -45,14 +45,14 @@ abbrev pub outcome : {A : Type 0} → (A → Said) → Client → Answer (A × C
 outcome f c (gives x) = record { said = f (x .0); next = x .1 }
 outcome f c (refuses n) = record { said = refused n; next = c }
 
-abbrev saysFiling : Filing → Said
+abbrev pub saysFiling : Filing → Said
 saysFiling f = filed (f .place) (f .number)
 
-abbrev saysTaken : Taken → Said
+abbrev pub saysTaken : Taken → Said
 saysTaken none = nothing
 saysTaken (packet h) = took h
 
-abbrev saysPoll : PollReply → Said
+abbrev pub saysPoll : PollReply → Said
 saysPoll tryAgain = again
 saysPoll noReply = absent
 saysPoll (reply h) = took h

@@ -13,7 +13,7 @@ use Rattle.descriptors.specs.Room as Slots
 use Rattle.descriptors.specs.Theorems as Fds
 use Rattle.model.specs.Client.{first, costs, used, descriptorsOf, inside}
 use Rattle.model.specs.Reading.{Rooms, count, withDescriptors, eventOf, slotsOf, reads}
-use Rattle.model.specs.Sound.{Sound}
+use Rattle.model.specs.Sound.{Sound, slots-there}
 use Rattle.model.specs.declared.Connection.{Connection}
 
 -- ---- records with their descriptors
@@ -60,9 +60,6 @@ costs-events (h ∷ a) = ap (λ (n : ℕ). Record.headerSize + length (h .packet
 -- ---- of a sound state
 
 module _ (c : Connection) (r : Rooms) (S : Sound c r) where
-  slots-sound : Slots.Sound (slotsOf c r)
-  slots-sound = Fds.sound-is (slotsOf c r) .0 (S .slots)
-
   -- as many requests are outstanding as are counted, and the first has the number that is kept
   pub length-out : length (reads c r .outstanding) ≡ count c
   unfolding reads
@@ -85,21 +82,21 @@ module _ (c : Connection) (r : Rooms) (S : Sound c r) where
   pub descriptors-read : descriptorsOf (reads c r .replies) ≡ Slots.holding (slotsOf c r)
   unfolding reads
   descriptors-read =
-      let l : length (Slots.holding (slotsOf c r)) ≡ c .counts .held = Fds.length-holding (slotsOf c r) slots-sound in
+      let l : length (Slots.holding (slotsOf c r)) ≡ c .counts .held = Fds.length-holding (slotsOf c r) (slots-there c r S) in
       descriptors-with (Store.replies (c .window) (r .store)) (Slots.holding (slotsOf c r))
       ∙ lib.Seq.take-all (Store.fdsIn (Store.replies (c .window) (r .store))) (Slots.holding (slotsOf c r)) (omega (arith, S .descriptors))
 
   -- as many wait, and are to be closed, as are counted
   pub length-wait : length (reads c r .waiting) ≡ c .counts .waiting
   unfolding reads
-  length-wait = Fds.length-waiting (slotsOf c r) slots-sound
+  length-wait = Fds.length-waiting (slotsOf c r) (slots-there c r S)
 
   pub length-close : length (reads c r .closing) ≡ c .counts .closed
   unfolding reads
-  length-close = Fds.length-closing (slotsOf c r) slots-sound
+  length-close = Fds.length-closing (slotsOf c r) (slots-there c r S)
 
   -- and as many are inside
   pub inside-read : inside (reads c r) ≡ Slots.total (c .counts)
   inside-read =
-      let b : length (descriptorsOf (reads c r .replies)) ≡ c .counts .held = ap length descriptors-read ∙ Fds.length-holding (slotsOf c r) slots-sound in
+      let b : length (descriptorsOf (reads c r .replies)) ≡ c .counts .held = ap length descriptors-read ∙ Fds.length-holding (slotsOf c r) (slots-there c r S) in
       omega (arith, length-wait, length-close)

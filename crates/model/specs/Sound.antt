@@ -7,7 +7,7 @@ use lib.Dec.{leb, eqb}
 use lib.ListN.{length}
 use borrow.Author.Tests.{leb-true, eqb-true, le-leb, eq-eqb, not-true, not-false}
 use native.Mathlib.Omega.{arith}
-use Rattle.octets.specs.Logic.{choose, both, both-left, both-right, both-yes}
+use Rattle.octets.specs.Logic.{choose, both, both-left, both-right, both-yes, both-on}
 use Rattle.octets.specs.Bytes.{legal}
 use Rattle.sequence.specs.Numbering.{lastNumber}
 use Rattle.requests.specs.Room.{sized, capacity, legals}
@@ -155,10 +155,6 @@ not-sound c r h = go (soundb c r) refl
 
 abbrev pub windowOf : ℕ → ℕ → Window
 windowOf start end = record { start = start; end = end }
-
-both-on : {a b : Bool} → a ≡ true → b ≡ both a b
-unfolding both
-both-on {b = b} e = ap (λ (k : Bool). both k b) (sym e)
 
 pub limits-last : (c : Connection) → leastStore ≤ c .room → c .room ≤ mostStore → c .written ≤ lastNumber → c .expected ≤ lastNumber → leb (c .read) lastNumber ≡ limitsb c
 unfolding limitsb

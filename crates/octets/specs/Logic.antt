@@ -1,6 +1,6 @@
 -- The connectives that definitions above use. They stay shut until a proof opens them, so that a law about one finds its arguments.
 -- Assumes nothing.
-use mathlib.Core.Path.{_≡_, refl}
+use mathlib.Core.Path.{_≡_, refl, sym, ap}
 use mathlib.Core.Bool.{Bool, true, false}
 use native.Mathlib.Omega.{arith}
 use Prim.Native.Nat.{ℕ}
@@ -38,6 +38,11 @@ pub both-yes : (a b : Bool) → a ≡ true → b ≡ true → both a b ≡ true
 unfolding both
 both-yes true b p q = q
 both-yes false b p q = p
+
+-- Where the first holds, the second decides.
+pub both-on : {a b : Bool} → a ≡ true → b ≡ both a b
+unfolding both
+both-on {b = b} e = ap (λ (k : Bool). both k b) (sym e)
 
 pub either-left : (a b : Bool) → either a b ≡ false → a ≡ false
 unfolding either

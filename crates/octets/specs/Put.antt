@@ -194,6 +194,16 @@ unfolding cut
 cut-append at n s t h =
     ap (λ (l : List ℕ). take n l) (drop-append-le at s t (omega arith)) ∙ take-append-le n (drop at s) t (omega (arith, length-drop at s))
 
+-- the middle of three parts
+pub cut-parts : (a x c : List ℕ) (at n : ℕ) → length a ≡ at → length x ≡ n → cut at n (a ++ (x ++ c)) ≡ x
+unfolding cut
+cut-parts a x c at n e f = ap (λ (l : List ℕ). take n l) (drop-at a (x ++ c) at e) ∙ take-at x c n f
+
+-- a part between two ends
+pub part-cut : (s : List ℕ) (a n : ℕ) → take (a + n - a) (drop a s) ≡ cut a n s
+unfolding cut
+part-cut s a n = let e : a + n - a ≡ n = omega arith in rw e
+
 -- a part of a cut
 pub cut-cut : (s : List ℕ) (at m a n : ℕ) → a + n ≤ m → cut a n (cut at m s) ≡ cut (at + a) n s
 unfolding cut
@@ -202,6 +212,11 @@ cut-cut s at m a n h =
     ∙ ap (λ (l : List ℕ). drop a l) (take-take (a + n) m (drop at s) h)
     ∙ sym (take-drop a n (drop at s))
     ∙ ap (λ (l : List ℕ). take n l) (drop-drop a at s)
+
+-- within the first n
+pub cut-take : (s : List ℕ) (n a m : ℕ) → a + m ≤ n → cut a m (take n s) ≡ cut a m s
+unfolding cut
+cut-take s n a m h = cut-cut s 0 n a m h ∙ ap (λ (k : ℕ). cut k m s) (zero-add a)
 
 pub take-cut : (s : List ℕ) (at m k : ℕ) → k ≤ m → take k (cut at m s) ≡ cut at k s
 unfolding cut

@@ -1,12 +1,12 @@
 -- Rows of numbers read as states, and states put into rows. Assumes nothing.
-use mathlib.Core.Path.{_≡_, sym, ap, _∙_}
+use mathlib.Core.Path.{_≡_, _∙_}
 use mathlib.Core.Bool.{Bool, true, false}
 use mathlib.Core.List.{List}
 use Prim.Native.Nat.{ℕ, _+_, _<_}
 use lib.Dec.{eqb, ltb}
 use borrow.Author.Tests.{eqb-true, eq-eqb, ltb-true, lt-ltb}
 use lib.ListN.{length, getD, set}
-use Rattle.octets.specs.Logic.{both, choose, both-left, both-right}
+use Rattle.octets.specs.Logic.{both, choose, both-left, both-right, both-on}
 use Rattle.model.specs.declared.Connection.{Connection}
 use Rattle.packet_reader.specs.declared.PacketReader.{PacketReader}
 use Rattle.connect.specs.declared.handshake.Connect.{Connect}
@@ -113,10 +113,6 @@ abbrev pub idsRow : List ℕ → IdAllocator → List ℕ
 idsRow s a = row s (a .next) (a .last) (a .step)
 
 -- ---- laws
-
-both-on : {a b : Bool} → a ≡ true → b ≡ both a b
-unfolding both
-both-on {b = b} e = ap (λ (k : Bool). both k b) (sym e)
 
 -- what is known of rows that are states
 pub fits-long : (s : List ℕ) → fits s ≡ true → (length s ≡ connectionSlots) × (getD s 0 0 < 256)

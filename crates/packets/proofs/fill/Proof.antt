@@ -1,5 +1,4 @@
 -- `packets::fill` meets its contract. Assumes nothing.
-use lib.ListN.{length, take, length-take}
 use lib.Seq.{length-take-le}
 use native.Mathlib.Omega.{arith}
 use mathlib.Core.Path.{sym, ap, _∙_}

@@ -1,5 +1,5 @@
 -- `connect::reply::part` meets its contract. Assumes nothing.
-use Rattle.connect.specs.Extra.{part-cut}
+use Rattle.octets.specs.Put.{part-cut}
 use mathlib.Core.Path.{refl}
 use borrow.Author.Needs.{needs}
 use Rattle.connect.proofs.reply.part.Statement.{statement}
