@@ -25,7 +25,7 @@ use Rattle.model.specs.Calls.{Call, send, enqueue, poll, check, prepare, poll-e
 use Rattle.model.specs.declared.DiscardMode.the-variants.{DiscardReply, DiscardReplyAndError}
 use Rattle.model.specs.declared.ReplyFdKind.the-variants.{NoReply}
 use Rattle.model.specs.declared.Place.the-variants.{Replies, Events, Dropped}
-use Rattle.honest.specs.Run.{All}
+use Rattle.model.specs.Batch.{Each}
 use Rattle.ledger.specs.Encoding.{ReplyFits, EventFits, NeverFall, InRange}
 use Rattle.ledger.specs.State.{Needed, withOrder, withK, withS, withWritten, withExpected, withRead, withOutstanding, withDescribed, withMode, withDiscard, withReplies, withEvents, withNumber, withPacket, withHeld, withTurn, withWaiting, withClosing}
 
@@ -53,7 +53,7 @@ empty : (l : List ℕ) → leb (length l) 0 ≡ true → l ≡ []
 empty [] h = refl
 empty (x ∷ l) h = absurd (let z = leb-true (length (x ∷ l)) 0 h in omega arith)
 
-replies-in : (last : ℕ) (l : List Held) → each last 255 l ≡ true → All (ReplyFits last) l
+replies-in : (last : ℕ) (l : List Held) → each last 255 l ≡ true → Each (ReplyFits last) l
 unfolding each holds
 replies-in last [] h = tt
 replies-in last (x ∷ l) h =
@@ -62,7 +62,7 @@ replies-in last (x ∷ l) h =
     let b = both-right _ _ a in
     (record { least = leb-true _ _ (both-left _ _ z); most = leb-true _ _ (both-left _ _ a); known = leb-true _ _ (both-left _ _ b); descriptors = leb-true _ _ (both-right _ _ b) }, replies-in last l (both-right _ _ h))
 
-events-in : (last : ℕ) (l : List Held) → each last 0 l ≡ true → All (EventFits last) l
+events-in : (last : ℕ) (l : List Held) → each last 0 l ≡ true → Each (EventFits last) l
 unfolding each holds
 events-in last [] h = tt
 events-in last (x ∷ l) h =

@@ -102,7 +102,7 @@ module _ (c : Connection) (r : Rooms) (d : Connection) (q : Rooms) (k : Alike c 
   send-request-same kind a b r' q' h i = promise-same same (λ m. sendRequest m kind) (λ c r. sendExact c r kind) (λ c r S. Sending.send-sound c r S kind) c r d q k a b r' q' h i
 
   pub enqueue-fds-same : (list : List ℕ) (a b : Answer (Unit × Connection)) (r' q' : Rooms) → EnqueuesFds c r list a r' → EnqueuesFds d q list b q' → Same c a r' d b q'
-  enqueue-fds-same list a b r' q' h i = promise-same same (λ m. enqueueFds m list) (λ c r. Fds.enqueueExact c r list) (λ c r S. Sending.enqueue-sound c r S list) c r d q k a b r' q' h i
+  enqueue-fds-same list a b r' q' h i = promise-same same (λ m. enqueueFds m list) (λ c r. Fds.enqueueFdsExact c r list) (λ c r S. Sending.enqueue-sound c r S list) c r d q k a b r' q' h i
 
   pub enqueue-packet-same : (p : List ℕ) → getD p 1 0 < 256 → (a b : Answer (Filing × Connection)) (r' q' : Rooms) → Enqueues c r p a r' → Enqueues d q p b q' → Same c a r' d b q'
   enqueue-packet-same p w a b r' q' h i = promise-same shown (λ m. enqueuePacket m p) (λ c r. enqueueExact c r p) (λ c r S. Intake.enqueue-sound c r S p w) c r d q k a b r' q' h i
