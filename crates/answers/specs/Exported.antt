@@ -8,9 +8,9 @@ use Rattle.octets.specs.Logic.{apart}
 use Rattle.refusal.specs.Answer.{Answer, gives, refuses}
 
 -- the number that an export answers: 0, or that of the refusal
-abbrev pub codeOf : {A : Type 0} → Answer A → ℕ
-codeOf (gives x) = 0
-codeOf (refuses n) = n
+abbrev pub returned : {A : Type 0} → Answer A → ℕ
+returned (gives x) = 0
+returned (refuses n) = n
 
 -- what is behind the lent numbers at exit: what is shown of the values given, and after a refusal what was there
 abbrev pub shownOf : {A : Type 0} → (A → List ℕ) → Answer A → List ℕ → List ℕ
@@ -21,7 +21,7 @@ shownOf show (refuses n) v = v
 pub record Exported {A : Type 0} (P : Answer A → Type 0) (show : A → List ℕ) (v v' : List ℕ) (code : ℕ) : Type 0 where
   pub answer : Answer A
   pub promise : P answer
-  pub number : code ≡ codeOf answer
+  pub number : code ≡ returned answer
   pub values : v' ≡ shownOf show answer v
 
 -- One that keeps a state in a row of numbers: a refusal leaves the row, otherwise the state handed back is put there.
@@ -35,11 +35,11 @@ pub data When {A : Type 0} (b : Bool) (same : Type 0) (P : Answer A → Type 0) 
   off : b ≡ false → same → When b same P (refuses 9)
 
 -- An export that goes by the case of an enum.
-pub exported-at : {E A : Type 0} {P : Answer A → Type 0} {show : A → List ℕ} {v v' : List ℕ} {code : ℕ} (says : E → Answer A) {e k : E} → e ≡ k → P (says e) → code ≡ codeOf (says k)
+pub exported-at : {E A : Type 0} {P : Answer A → Type 0} {show : A → List ℕ} {v v' : List ℕ} {code : ℕ} (says : E → Answer A) {e k : E} → e ≡ k → P (says e) → code ≡ returned (says k)
     → v' ≡ shownOf show (says k) v → Exported P show v v' code
 exported-at {P = P} says {k = k} q p c s = record { answer = says k; promise = subst (λ (x : _). P (says x)) q p; number = c; values = s }
 
-pub kept-at : {E A : Type 0} {P : Answer A → Type 0} {show put : A → List ℕ} {v v' s s' : List ℕ} {code : ℕ} (says : E → Answer A) {e k : E} → e ≡ k → P (says e) → code ≡ codeOf (says k)
+pub kept-at : {E A : Type 0} {P : Answer A → Type 0} {show put : A → List ℕ} {v v' s s' : List ℕ} {code : ℕ} (says : E → Answer A) {e k : E} → e ≡ k → P (says e) → code ≡ returned (says k)
     → v' ≡ shownOf show (says k) v → s' ≡ shownOf put (says k) s → Kept P show put v v' s s' code
 unfolding exported-at
 kept-at {P = P} says {k = k} q p c w t = record { exported = exported-at {P = P} says {k = k} q p c w; state = t }
@@ -55,18 +55,18 @@ pub kept-off : {A : Type 0} {P : Answer A → Type 0} {show put : A → List ℕ
 kept-off p = record { exported = record { answer = refuses 9; promise = p; number = refl; values = refl }; state = refl }
 
 -- An export whose answer is given.
-pub kept-by : {A : Type 0} {P : Answer A → Type 0} {show put : A → List ℕ} {v v' s s' : List ℕ} {code : ℕ} (a : Answer A) → P a → code ≡ codeOf a → v' ≡ shownOf show a v → s' ≡ shownOf put a s
+pub kept-by : {A : Type 0} {P : Answer A → Type 0} {show put : A → List ℕ} {v v' s s' : List ℕ} {code : ℕ} (a : Answer A) → P a → code ≡ returned a → v' ≡ shownOf show a v → s' ≡ shownOf put a s
     → Kept P show put v v' s s' code
 kept-by a p c w t = record { exported = record { answer = a; promise = p; number = c; values = w }; state = t }
 
-pub exported-by : {A : Type 0} {P : Answer A → Type 0} {show : A → List ℕ} {v v' : List ℕ} {code : ℕ} (a : Answer A) → P a → code ≡ codeOf a → v' ≡ shownOf show a v → Exported P show v v' code
+pub exported-by : {A : Type 0} {P : Answer A → Type 0} {show : A → List ℕ} {v v' : List ℕ} {code : ℕ} (a : Answer A) → P a → code ≡ returned a → v' ≡ shownOf show a v → Exported P show v v' code
 exported-by a p c w = record { answer = a; promise = p; number = c; values = w }
 
 -- Two outcomes of an export, where what the one and the other promise allow one answer: equal are the number returned and the numbers shown,
 pub exported-one : {A : Type 0} {P Q : Answer A → Type 0} {show : A → List ℕ} {v u w : List ℕ} {i j : ℕ} → Exported P show v u i → Exported Q show v w j → ((a b : Answer A) → P a → Q b → a ≡ b) → (i ≡ j) × (u ≡ w)
 exported-one {A} {show = show} {v = v} x y one =
     let e : x .answer ≡ y .answer = one (x .answer) (y .answer) (x .promise) (y .promise) in
-    (x .number ∙ ap (λ (a : Answer A). codeOf a) e ∙ sym (y .number), x .values ∙ ap (λ (a : Answer A). shownOf show a v) e ∙ sym (y .values))
+    (x .number ∙ ap (λ (a : Answer A). returned a) e ∙ sym (y .number), x .values ∙ ap (λ (a : Answer A). shownOf show a v) e ∙ sym (y .values))
 
 -- and the row.
 pub kept-one : {A : Type 0} {P Q : Answer A → Type 0} {show put : A → List ℕ} {v u w s t z : List ℕ} {i j : ℕ} → Kept P show put v u s t i → Kept Q show put v w s z j → ((a b : Answer A) → P a → Q b → a ≡ b)

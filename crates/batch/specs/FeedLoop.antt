@@ -15,11 +15,11 @@ use Rattle.packet_reader.specs.CutLaws.{aim-least}
 use Rattle.packet_reader.specs.Front.{Front, frontOf, saysBegins, tells-whole, packets-none}
 use Rattle.packet_reader.specs.declared.Begins.{Begins}
 use Rattle.packet_reader.specs.declared.Begins.the-variants as Begins
-use Rattle.intake.specs.Exact.{enqueueExact, shown, EnqueueStep}
+use Rattle.intake.specs.Exact.{enqueueExact, EnqueueStep}
 use Rattle.intake.specs.Theorems.{enqueue-sound}
 use Rattle.model.specs.Model.{Filing}
 use Rattle.model.specs.Reading.{Rooms, rooms}
-use Rattle.model.specs.Promise.{Done, answerOf, roomsOf}
+use Rattle.model.specs.Promise.{Done, answerOf, roomsOf, same}
 use Rattle.model.specs.Says.{saysEnqueued}
 use Rattle.model.specs.Sound.{Sound}
 use Rattle.model.specs.Batch.{Turn, goes, stops, onward, Site, site, exactMany}
@@ -39,12 +39,12 @@ use Rattle.batch.specs.FeedLaws.{Goes, turn-goes, turn-stops, stop-nothi
 
 -- ---- a packet
 
-pub took-on : (n : ℕ) (e : Answer (Done Filing)) (r r' : Rooms) (v : Filing) (c : Connection) → gives (v, c) ≡ answerOf shown e → r' ≡ roomsOf e r → TurnIs (exactTook n e) r (Turned.On n c) r'
+pub took-on : (n : ℕ) (e : Answer (Done Filing)) (r r' : Rooms) (v : Filing) (c : Connection) → gives (v, c) ≡ answerOf same e → r' ≡ roomsOf e r → TurnIs (exactTook n e) r (Turned.On n c) r'
 unfolding answerOf roomsOf exactTook shownTurn leftBy
 took-on n (gives d) r r' v c a l = record { answers = ap (λ (x : Filing × Connection). on n (x .1)) (gives-same a); leaves = l }
 took-on n (refuses k) r r' v c a l = absurd (let z : _≡_ {A = ℕ} 0 1 = cc in omega arith)
 
-took-off : (n : ℕ) (e : Answer (Done Filing)) (r r' : Rooms) (x : Refusal) → refuses (numberOf x) ≡ answerOf shown e → r' ≡ roomsOf e r → TurnIs (exactTook n e) r (Turned.Halted (Halt.Refused x)) r'
+took-off : (n : ℕ) (e : Answer (Done Filing)) (r r' : Rooms) (x : Refusal) → refuses (numberOf x) ≡ answerOf same e → r' ≡ roomsOf e r → TurnIs (exactTook n e) r (Turned.Halted (Halt.Refused x)) r'
 unfolding answerOf roomsOf exactTook shownTurn leftBy
 took-off n (gives d) r r' x a l = absurd (let z : _≡_ {A = ℕ} 0 1 = cc in omega arith)
 took-off n (refuses k) r r' x a l = let z : numberOf x ≡ k = cc in record { answers = ap (λ (m : ℕ). halted (refused m)) z; leaves = l }

@@ -8,13 +8,13 @@ use lib.Seq.{length-take-le}
 use Rattle.sequence.specs.declared.SequenceNumber.{SequenceNumber}
 use Rattle.packet_reader.specs.Frame.{fixed, hasLength}
 use Rattle.packet_reader.specs.Front.{Front, whole, front-fixed}
-use Rattle.intake.specs.Exact.{enqueueExact, shown}
+use Rattle.intake.specs.Exact.{enqueueExact}
 use Rattle.intake.specs.Event.{Writable, PlainEvent, IsPlain, PlainStep, ready-writable}
 use Rattle.intake.specs.Theorems.{ready}
 use Rattle.intake.specs.declared.event.Plain.{Plain}
 use Rattle.intake.specs.declared.event.Plain.the-variants as Plain
 use Rattle.model.specs.Reading.{rooms}
-use Rattle.model.specs.Promise.{answerOf, roomsOf}
+use Rattle.model.specs.Promise.{answerOf, roomsOf, same}
 use Rattle.model.specs.Sound.{Sound}
 use Rattle.model.specs.Batch.{site}
 use Rattle.model.specs.declared.Connection.{Connection}
@@ -50,7 +50,7 @@ plain-turn c s b n a s' A S =
       turn = λ o q f.
           subst (λ (y : Front). TurnIs (turnBy (site c (rooms q s f)) b y) (rooms q s f) (Turned.On fixed a) (rooms q s' f)) (front-fixed o b (A .there) (A .short))
           (subst (λ (k : ℕ). TurnIs (turnBy (site c (rooms q s f)) b (whole fixed)) (rooms q s f) (Turned.On k a) (rooms q s' f)) l
-          (took-on (length (take fixed b)) (enqueueExact c (rooms q s f) (take fixed b)) (rooms q s f) (rooms q s' f) _ a (ap (answerOf shown) (S .exact q f)) (ap (λ y. roomsOf y (rooms q s f)) (S .exact q f))));
+          (took-on (length (take fixed b)) (enqueueExact c (rooms q s f) (take fixed b)) (rooms q s f) (rooms q s' f) _ a (ap (answerOf same) (S .exact q f)) (ap (λ y. roomsOf y (rooms q s f)) (S .exact q f))));
     }
 
 pub ahead-event : (c : Connection) (s b : List ℕ) (x : Plain) (n : SequenceNumber) → IsAhead c s b x → x ≡ Plain.Event n → EventAhead c s b (n .0)

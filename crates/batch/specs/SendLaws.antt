@@ -11,7 +11,7 @@ use Rattle.octets.specs.Logic.{choose}
 use Rattle.refusal.specs.Answer.{gives}
 use Rattle.requests.specs.Room.{capacity}
 use Rattle.model.specs.Reading.{Rooms, rooms, reads}
-use Rattle.model.specs.Promise.{answerOf, roomsOf}
+use Rattle.model.specs.Promise.{answerOf, roomsOf, same}
 use Rattle.model.specs.Sound.{Ranges, room-there}
 use Rattle.model.specs.Batch.{goes, stops, onward, many, ended, refused, meaningless, Site, site, exactTurn, exactMany}
 use Rattle.model.specs.BatchLaws.{exact-gave, exact-stayed, row-goes, row-stops, row-ends}
@@ -28,7 +28,7 @@ use Rattle.model.specs.declared.SentMany.{SentMany}
 use Rattle.model.specs.declared.Stop.the-variants as Stop
 use Rattle.sequence.specs.declared.SequenceNumber.{SequenceNumber}
 use Rattle.model.specs.declared.Stop as Declared
-use Rattle.sending.specs.Send.{same, sendExact, SendStep}
+use Rattle.sending.specs.Send.{sendExact, SendStep}
 use Rattle.sending.specs.Theorems.{send-sound}
 use Rattle.batch.specs.Send.{sendStep, sendsExact, answered, Ready, SendsStep}
 

@@ -8,7 +8,7 @@ use Rattle.octets.specs.Bytes.{bytesOf, numberIn, length-bytesOf, number-bytes}
 use Rattle.octets.specs.Put.{cut, cut-parts}
 use Rattle.octets.specs.Field.{field}
 use Rattle.connect.specs.Pad.{pad, zeros, padded, length-padded, pad-four}
-use Rattle.connect.specs.Request.{majorVersion, minorVersion, nameAt, mostText, head, setupRequest, size, length-head, length-request}
+use Rattle.connect.specs.Request.{majorVersion, minorVersion, nameAt, mostText, opening, setupRequest, size, length-head, length-request}
 
 -- what stands in the bytes r of a request
 pub record ReadsBack (o : ℕ) (name «data» r : List ℕ) : Type 0 where
@@ -51,7 +51,7 @@ module _ (o : ℕ) (m d : List ℕ) (h : length m ≤ mostText) (k : length d �
   T = zeros 2 ++ (padded m ++ padded d)
 
   parts : setupRequest o m d ≡ A ++ (M ++ (W ++ (N ++ (D ++ T))))
-  unfolding setupRequest head A M W N D T
+  unfolding setupRequest opening A M W N D T
   parts = simp append-assoc
 
   pub reads-back : ReadsBack o m d (setupRequest o m d)
@@ -60,7 +60,7 @@ module _ (o : ℕ) (m d : List ℕ) (h : length m ≤ mostText) (k : length d �
       let lm : length M ≡ 2 = length-bytesOf o 2 majorVersion in
       let lw : length W ≡ 2 = length-bytesOf o 2 minorVersion in
       let ln : length N ≡ 2 = length-bytesOf o 2 (length m) in
-      let H : List ℕ = head o (length m) (length d) in
+      let H : List ℕ = opening o (length m) (length d) in
       let lh : length H ≡ nameAt = length-head o (length m) (length d) in
       let Z : List ℕ = zeros (pad (length m)) in
       let e₁ = parts ∙ sym (append-assoc A M (W ++ (N ++ (D ++ T)))) in

@@ -48,16 +48,16 @@ abbrev pub mostText : ℕ
 mostText = 65535
 
 -- what stands before the name, for a name of n bytes and data of d
-unfoldable pub head : ℕ → ℕ → ℕ → List ℕ
-head o n d =
+unfoldable pub opening : ℕ → ℕ → ℕ → List ℕ
+opening o n d =
     o ∷ 0 ∷ (bytesOf o 2 majorVersion ++ (bytesOf o 2 minorVersion ++ (bytesOf o 2 n ++ (bytesOf o 2 d ++ zeros 2))))
 
 unfoldable pub setupRequest : ℕ → List ℕ → List ℕ → List ℕ
-setupRequest o name «data» = head o (length name) (length «data») ++ (padded name ++ padded «data»)
+setupRequest o name «data» = opening o (length name) (length «data») ++ (padded name ++ padded «data»)
 
 -- 13, 16 for a name of n bytes or data of d, 8 where the output is too small; otherwise the bytes that are needed
-unfoldable pub room : ℕ → ℕ → ℕ → ℕ → ℕ → Answer ℕ
-room o n d have need =
+unfoldable pub roomFor : ℕ → ℕ → ℕ → ℕ → ℕ → Answer ℕ
+roomFor o n d have need =
     refuse (not (legal o)) 13
     (refuse (either (ltb mostText n) (ltb mostText d)) 16
     (refuse (ltb have need) 8
@@ -65,7 +65,7 @@ room o n d have need =
 
 -- A call that writes the request: its answer, and the output that it leaves.
 pub record Writes (o : ℕ) (name «data» before : List ℕ) (a : Answer ℕ) (left : List ℕ) : Type 0 where
-  pub answers : a ≡ room o (length name) (length «data») (length before) (length (setupRequest o name «data»))
+  pub answers : a ≡ roomFor o (length name) (length «data») (length before) (length (setupRequest o name «data»))
   pub left-is : left ≡ leaves a (setupRequest o name «data») before
 
 -- what the enum `Written` says
@@ -79,8 +79,8 @@ saysWritten (Written.Refused r) = refuses (numberOf r)
 unfoldable pub size : ℕ → ℕ → ℕ
 size n d = nameAt + (n + pad n) + (d + pad d)
 
-pub length-head : (o n d : ℕ) → length (head o n d) ≡ nameAt
-unfolding head zeros
+pub length-head : (o n d : ℕ) → length (opening o n d) ≡ nameAt
+unfolding opening zeros
 length-head o n d = simp (length-append, length-bytesOf)
 
 pub length-request : (o : ℕ) (m d : List ℕ) → length (setupRequest o m d) ≡ size (length m) (length d)
@@ -89,8 +89,8 @@ length-request o m d = simp (length-append, length-head, length-padded) (omega a
 
 -- the head is written field by field,
 pub put-head : (o n d : ℕ) (s s₀ s₁ s₂ s₃ s₄ s₅ : List ℕ) → nameAt ≤ length s → s₀ ≡ put s 0 (o ∷ 0 ∷ []) → s₁ ≡ putField o s₀ 2 2 majorVersion → s₂ ≡ putField o s₁ 4 2 minorVersion
-    → s₃ ≡ putField o s₂ 6 2 n → s₄ ≡ putField o s₃ 8 2 d → s₅ ≡ put s₄ 10 (zeros 2) → s₅ ≡ put s 0 (head o n d)
-unfolding putField head
+    → s₃ ≡ putField o s₂ 6 2 n → s₄ ≡ putField o s₃ 8 2 d → s₅ ≡ put s₄ 10 (zeros 2) → s₅ ≡ put s 0 (opening o n d)
+unfolding putField opening
 put-head o n d s s₀ s₁ s₂ s₃ s₄ s₅ h p q r t u v =
     let A : List ℕ = o ∷ 0 ∷ [] in
     let M : List ℕ = bytesOf o 2 majorVersion in
@@ -113,11 +113,11 @@ put-head o n d s s₀ s₁ s₂ s₃ s₄ s₅ h p q r t u v =
     put-more s s₄ s₅ 10 ((((A ++ M) ++ W) ++ N) ++ D) (zeros 2) l₄ (omega arith) e₄ v ∙ ap (put s 0) (simp append-assoc)
 
 -- and the request part by part.
-pub put-request : (o : ℕ) (m d s s₁ s₂ s₃ : List ℕ) (at : ℕ) → size (length m) (length d) ≤ length s → at ≡ nameAt + length m + pad (length m) → s₁ ≡ put s 0 (head o (length m) (length d))
+pub put-request : (o : ℕ) (m d s s₁ s₂ s₃ : List ℕ) (at : ℕ) → size (length m) (length d) ≤ length s → at ≡ nameAt + length m + pad (length m) → s₁ ≡ put s 0 (opening o (length m) (length d))
     → s₂ ≡ put s₁ nameAt (padded m) → s₃ ≡ put s₂ at (padded d) → s₃ ≡ put s 0 (setupRequest o m d)
 unfolding setupRequest size
 put-request o m d s s₁ s₂ s₃ at h e p q r =
-    let H : List ℕ = head o (length m) (length d) in
+    let H : List ℕ = opening o (length m) (length d) in
     let lh : length H ≡ nameAt = length-head o (length m) (length d) in
     let lm : length (padded m) ≡ length m + pad (length m) = length-padded m in
     let ld : length (padded d) ≡ length d + pad (length d) = length-padded d in
@@ -131,8 +131,8 @@ pub record Ready (n d have need : ℕ) : Type 0 where
   pub data-fits : d ≤ mostText
   pub out-fits : need ≤ have
 
-pub room-there : (o n d have need : ℕ) {k : ℕ} → gives k ≡ room o n d have need → Ready n d have need
-unfolding room
+pub room-there : (o n d have need : ℕ) {k : ℕ} → gives k ≡ roomFor o n d have need → Ready n d have need
+unfolding roomFor
 room-there o n d have need e =
     let f = gives-rest _ _ _ e in let g = gives-rest _ _ _ f in
     record {
@@ -142,12 +142,12 @@ room-there o n d have need e =
     }
 
 -- The request is written where there was room, and nothing is where there was none.
-pub writes-given : (o : ℕ) (m d before left : List ℕ) (n : ℕ) → gives n ≡ room o (length m) (length d) (length before) (size (length m) (length d)) → left ≡ put before 0 (setupRequest o m d)
+pub writes-given : (o : ℕ) (m d before left : List ℕ) (n : ℕ) → gives n ≡ roomFor o (length m) (length d) (length before) (size (length m) (length d)) → left ≡ put before 0 (setupRequest o m d)
     → Writes o m d before (gives n) left
-writes-given o m d before left n e p = record { answers = e ∙ ap (room o (length m) (length d) (length before)) (sym (length-request o m d)); left-is = p }
+writes-given o m d before left n e p = record { answers = e ∙ ap (roomFor o (length m) (length d) (length before)) (sym (length-request o m d)); left-is = p }
 
-pub writes-refused : (o : ℕ) (m d before : List ℕ) (n : ℕ) → refuses n ≡ room o (length m) (length d) (length before) (size (length m) (length d)) → Writes o m d before (refuses n) before
-writes-refused o m d before n e = record { answers = e ∙ ap (room o (length m) (length d) (length before)) (sym (length-request o m d)); left-is = refl }
+pub writes-refused : (o : ℕ) (m d before : List ℕ) (n : ℕ) → refuses n ≡ roomFor o (length m) (length d) (length before) (size (length m) (length d)) → Writes o m d before (refuses n) before
+writes-refused o m d before n e = record { answers = e ∙ ap (roomFor o (length m) (length d) (length before)) (sym (length-request o m d)); left-is = refl }
 
 -- Two answers that say the same are equal.
 back : Answer ℕ → Written

@@ -158,8 +158,8 @@ abbrev reply : ℕ → ℕ → List ℕ
 reply status units = status ∷ 0 ∷ 0 ∷ 0 ∷ 0 ∷ 0 ∷ units ∷ 0 ∷ []
 
 -- "setup request 13, 16, 8"
-pub request-order : (Request.room 0 65536 0 0 12 ≡ refuses 13) × (Request.room 108 65536 0 0 12 ≡ refuses 16) × (Request.room 108 0 65536 0 12 ≡ refuses 16) × (Request.room 108 65535 65535 0 12 ≡ refuses 8)
-unfolding Request.room legal refuse either
+pub request-order : (Request.roomFor 0 65536 0 0 12 ≡ refuses 13) × (Request.roomFor 108 65536 0 0 12 ≡ refuses 16) × (Request.roomFor 108 0 65536 0 12 ≡ refuses 16) × (Request.roomFor 108 65535 65535 0 12 ≡ refuses 8)
+unfolding Request.roomFor legal refuse either
 request-order = (refl, refl, refl, refl)
 
 -- "advance 9, 7, 2"; "setup reading 9, 15, 14"; "elsewhere 9, then by number"

@@ -5,7 +5,7 @@ ghost use mathlib.Core.List.{[], _∷_};
 ghost use lib.ListN.{length};
 ghost use Rattle.octets.specs.Put.{put};
 ghost use Rattle.connect.specs.Pad.{pad as Pad·pad, zeros, padded};
-ghost use Rattle.connect.specs.Request.{head, setupRequest, size as Request·size, nameAt, mostText, room, saysWritten, Writes, Ready};
+ghost use Rattle.connect.specs.Request.{opening, setupRequest, size as Request·size, nameAt, mostText, roomFor, saysWritten, Writes, Ready};
 use refusal::Refusal;
 
 // The version of the protocol that the client speaks.
@@ -41,7 +41,7 @@ pub fn setup_request(order: u8, name: &[u8], data: &[u8], out: &mut [u8]) -> Wri
 }
 
 fn room_for(order: u8, name: usize, data: usize, have: usize) -> Written
-    ensures { λ r. ⌜ saysWritten r ≡ room order name «data» have (Request·size name «data») ⌝ }
+    ensures { λ r. ⌜ saysWritten r ≡ roomFor order name «data» have (Request·size name «data») ⌝ }
 {
     if !octets::is_legal(order) {
         return Written::Refused(Refusal::BadOrder);
@@ -85,7 +85,7 @@ fn put_request(order: u8, name: &[u8], data: &[u8], out: &mut [u8])
 
 fn put_head(order: u8, name: u16, data: u16, out: &mut [u8])
     requires { ⌜ nameAt ≤ length (now out) ⌝ }
-    ensures { λ _. ⌜ now (out .exit) ≡ put (now (out .entry)) 0 (head order name «data») ⌝ }
+    ensures { λ _. ⌜ now (out .exit) ≡ put (now (out .entry)) 0 (opening order name «data») ⌝ }
 {
     put_order(order, out);
     octets::put_u16(order, out, 2, MAJOR_VERSION);

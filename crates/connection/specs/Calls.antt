@@ -12,7 +12,7 @@ use Rattle.requests.specs.Room.{capacity}
 use Rattle.model.specs.Client.{Client}
 use Rattle.model.specs.Model.{roomy, new, sendRequest, enqueueFds, takeClosed, Filing, enqueuePacket, discardReply, pollForReplyOrError, pollCheck, pollForReply, prepareCheck, pollForEvent}
 use Rattle.model.specs.Reading.{Rooms, reads}
-use Rattle.model.specs.Promise.{Done, Exact, Promise, outputOf, modelOf, guarded}
+use Rattle.model.specs.Promise.{Done, Exact, Promise, outputOf, modelOf, guarded, same}
 use Rattle.model.specs.Says.{Shown, shownTaken, ShownEvent, shownEvent, ShownPoll, shownPoll, bytesOfTaken, descriptorsOfTaken, bytesOfPoll}
 use Rattle.model.specs.SendRequests.{ShownSendings, shownSendings, sendRequests}
 use Rattle.model.specs.Feed.{ShownFed, shownFed}
@@ -20,10 +20,10 @@ use Rattle.model.specs.PollForEvents.{ShownHandings, shownHandings, packetsOfHa
 use Rattle.model.specs.declared.Connection.{Connection}
 use Rattle.model.specs.declared.ReplyFdKind.{ReplyFdKind}
 use Rattle.model.specs.declared.DiscardMode.{DiscardMode}
-use Rattle.sending.specs.Send.{same, sendExact}
+use Rattle.sending.specs.Send.{sendExact}
 use Rattle.sending.specs.Fds as Fds
 use Rattle.sending.specs.Fds.{closeExact}
-use Rattle.intake.specs.Exact.{enqueueExact, shown}
+use Rattle.intake.specs.Exact.{enqueueExact}
 use Rattle.polling.specs.Discard.{discardExact}
 use Rattle.polling.specs.Exact.{eventExact, takenExact, checkedExact, repliedExact}
 use Rattle.batch.specs.Send.{sendsExact}
@@ -70,7 +70,7 @@ abbrev pub EnqueuesFds : Connection → Rooms → List ℕ → Answer (Unit × C
 EnqueuesFds c r list = Promise same (Fds.enqueueFdsExact c r list) (λ m. enqueueFds m list) c r
 
 abbrev pub Enqueues : Connection → Rooms → List ℕ → Answer (Filing × Connection) → Rooms → Type 0
-Enqueues c r p = Promise shown (enqueueExact c r p) (λ m. enqueuePacket m p) c r
+Enqueues c r p = Promise same (enqueueExact c r p) (λ m. enqueuePacket m p) c r
 
 abbrev pub Discards : Connection → Rooms → ℕ → DiscardMode → Answer (Unit × Connection) → Rooms → Type 0
 Discards c r n mode = Promise same (gives (discardExact c r n mode)) (λ m. discardReply m n mode) c r

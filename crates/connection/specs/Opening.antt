@@ -21,10 +21,9 @@ use Rattle.descriptors.specs.Room.{mostDescriptors}
 use Rattle.model.specs.Client.{Client}
 use Rattle.model.specs.Model.{leastStore, roomy, fresh, new}
 use Rattle.model.specs.Reading.{Rooms, reads, withDescriptors, eventOf, slotsOf}
-use Rattle.model.specs.Promise.{Done, answerOf, roomsOf, modelOf, exact-refused, exact-given, model-refuse}
+use Rattle.model.specs.Promise.{Done, answerOf, roomsOf, modelOf, exact-refused, exact-given, model-refuse, same}
 use Rattle.model.specs.Sound.{Sound}
 use Rattle.model.specs.declared.Connection.{Connection}
-use Rattle.sending.specs.Send.{same}
 use Rattle.connection.specs.Calls.{freshState, openExact, opened, Opens}
 
 module _ (o : ℕ) (r : Rooms) (f : length (r .slots) ≡ mostDescriptors) (g : roomy (capacity (r .requests)) (length (r .store)) ≡ true) where

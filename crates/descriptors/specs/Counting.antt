@@ -4,19 +4,8 @@ use mathlib.Core.List.{List, [], _∷_, _++_}
 use Prim.Native.Nat.{ℕ, _+_, _≤_}
 use native.Mathlib.Omega.{arith}
 use lib.ListN.{length, take, drop, take-append-drop}
-use borrow.Author.Tests.{eq-eqb, ne-eqb}
-use Rattle.octets.specs.Logic.{choose}
 use Rattle.descriptors.specs.Room.{total, Room, closing, holding, waiting, Lists, heldRun, inside, count}
 use Rattle.descriptors.specs.Parts.{held-split}
-
--- one more for the descriptor itself, none for another
-pub count-same : (x y : ℕ) (l : List ℕ) → x ≡ y → count x (y ∷ l) ≡ count x l + 1
-unfolding count choose
-count-same x y l e = simp (eq-eqb x y e) (omega arith)
-
-pub count-other : (x y : ℕ) (l : List ℕ) → (x ≡ y → ⊥) → count x (y ∷ l) ≡ count x l
-unfolding count choose
-count-other x y l e = simp (ne-eqb x y e) (omega arith)
 
 pub count-append : (x : ℕ) (a b : List ℕ) → count x (a ++ b) ≡ count x a + count x b
 unfolding count

@@ -152,11 +152,6 @@ module _ (P : Held → Type 0) where
   all-left [] b p = tt
   all-left (h ∷ a) b p = (p .0, all-left a b (p .1))
 
-  pub all-right : (a b : List Held) → All P (a ++ b) → All P b
-  unfolding All
-  all-right [] b p = p
-  all-right (h ∷ a) b p = all-right a b (p .1)
-
   -- the one in the middle, and the others
   pub all-here : (a : List Held) (h : Held) (b : List Held) → All P (a ++ (h ∷ b)) → P h
   unfolding All

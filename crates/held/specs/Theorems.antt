@@ -16,7 +16,7 @@ use Rattle.held.specs.Rows.{only-append, only-is, only-other, costs-appe
 use Rattle.held.specs.Soundness.{sound-is, sound-so, sound-fine, Fine, fine-later, Holds, holds, used-costs}
 use Rattle.held.specs.Walk.{walked}
 use Rattle.held.specs.Find.{foundReply, foundEvent}
-use Rattle.held.specs.Moves.{Left, left, Room, Within, appended, removed, handed, demoted}
+use Rattle.held.specs.Moves.{Left, left, Within, appended, removed, handed, demoted}
 use Rattle.held.specs.Shows.{place-within}
 use Rattle.held.specs.Lies.{Lies, lies-others, FindsReply, FindsEvent, finds-reply, finds-event}
 use Rattle.held.specs.Keeps.{Kept, kept-appended, between, fits-it, stands-it, kept-removed, kept-demoted}
@@ -71,10 +71,6 @@ pub record Appended (w : Window) (s : List ℕ) (h : Held) (l : Left) : Type 0 w
   pub long : length (l .store) ≡ length s
 
 module _ (last : ℕ) (w : Window) (s : List ℕ) (S : Sound last w s) (h : Held) (f : Fits h) (r : used w + cost h ≤ length s) where
-  -- A packet finds room exactly where used and its cost fit the store.
-  pub append-room : Room w s (length (h .packet))
-  append-room = record { order = S .readable .order; within = S .readable .within; most = f .most; room = r }
-
   -- A record that fits, of a number at or above the last read, is appended; its number is then the last read.
   pub append-law : last ≤ h .number → Appended w s h (appended w s h)
   unfolding only costs

@@ -9,7 +9,7 @@ use lib.ListN.{length, replicate, length-replicate, replicate-append-replicate}
 use borrow.Author.Tests.{lt-leb}
 use Rattle.refusal.specs.Answer.{gives}
 use Rattle.sequence.specs.Numbering.{lastNumber}
-use Rattle.model.specs.Client.{Client}
+use Rattle.model.specs.Client.{Client, setNumbers, setOutstanding}
 use Rattle.model.specs.Model.{fresh, joining, sendRequest, Filing}
 use Rattle.model.specs.Calls.{send, enqueue, step}
 use Rattle.model.specs.declared.ReplyFdKind.the-variants.{NoReply, ReplyWithoutFds}
@@ -71,7 +71,7 @@ known-needed =
 -- ---- n requests with a reply, all outstanding, and not one packet
 
 abbrev asked : ℕ → Client
-asked n = record { order = 108; most-requests = 65536; most-bytes = 48; numbers = record { written = n; expected = n; read = 0 }; outstanding = replicate n (joining ReplyWithoutFds); replies = []; events = []; waiting = []; closing = [] }
+asked n = setOutstanding (setNumbers (fresh 108 65536 48) (record { written = n; expected = n; read = 0 })) (replicate n (joining ReplyWithoutFds))
 
 asks : ℕ → List Entry
 asks zero = []

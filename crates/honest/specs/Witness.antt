@@ -16,7 +16,7 @@ use Rattle.octets.specs.Field.{field}
 use Rattle.refusal.specs.Answer.{gives, refuse, pass}
 use Rattle.sequence.specs.Numbering.{lastNumber, wireValues}
 use Rattle.requests.specs.declared.Request.{Request}
-use Rattle.model.specs.Client.{Client, costs}
+use Rattle.model.specs.Client.{Client, costs, setNumbers, setOutstanding, setReplies}
 use Rattle.model.specs.Model as Model
 use Rattle.model.specs.Model.{fresh, joining, sendRequest, Filing, somebody, packetNumber, enqueuePacket, packet, pollForReplyOrError}
 use Rattle.model.specs.Calls.{Call, send, enqueue-fds, enqueue, discard, poll, check, poll-reply, prepare, poll-event, take-closed, Said, number, done, filed, absent, answer, closed, refused, step, run}
@@ -117,18 +117,18 @@ last = joining ReplyWithoutFds
 
 -- the state between rounds: the request that was answered last is still outstanding
 abbrev between : ℕ → List Request → Client
-between n rest = record { order = 108; most-requests = 5; most-bytes = 100; numbers = record { written = n; expected = n; read = n }; outstanding = rest; replies = []; events = []; waiting = []; closing = [] }
+between n rest = setOutstanding (setNumbers (fresh 108 5 100) (record { written = n; expected = n; read = n })) rest
 
 -- the same once the next request went out, and once its reply came
 abbrev sentOne : ℕ → List Request → Client
-sentOne n rest = record { order = 108; most-requests = 5; most-bytes = 100; numbers = record { written = n + 1; expected = n + 1; read = n }; outstanding = rest ++ (last ∷ []); replies = []; events = []; waiting = []; closing = [] }
+sentOne n rest = setOutstanding (setNumbers (fresh 108 5 100) (record { written = n + 1; expected = n + 1; read = n })) (rest ++ (last ∷ []))
 
 -- the reply to request t
 abbrev replyTo : ℕ → List ℕ
 replyTo t = packetOf 1 0 (t % wireValues)
 
 abbrev tookOne : ℕ → Client
-tookOne n = record { order = 108; most-requests = 5; most-bytes = 100; numbers = record { written = n; expected = n; read = n }; outstanding = last ∷ []; replies = record { number = n; packet = replyTo n; descriptors = [] } ∷ []; events = []; waiting = []; closing = [] }
+tookOne n = setReplies (between n (last ∷ [])) (record { number = n; packet = replyTo n; descriptors = [] } ∷ [])
 
 abbrev inReplies : ℕ → Filing
 inReplies n = record { place = Replies; number = n }

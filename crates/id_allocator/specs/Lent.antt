@@ -10,7 +10,7 @@ use Rattle.id_allocator.specs.declared.lent.NextId.the-variants as NextI
 use Rattle.id_allocator.specs.declared.lent.Updated.{Updated}
 use Rattle.id_allocator.specs.declared.lent.Updated.the-variants as Updated
 use Rattle.id_allocator.specs.Ids.{generated, updated}
-use Rattle.id_allocator.specs.Runs.{idOf, leaves}
+use Rattle.id_allocator.specs.Runs.{idOf, nextOf}
 
 -- ---- what the cases of the two answer enums say
 
@@ -41,7 +41,7 @@ takenUp a (refuses n) = a
 -- `generate_id`: the id or the refusal that the call by value answers for a, and b is the allocator that it leaves.
 pub record Generates (a : IdAllocator) (r : NextId) (b : IdAllocator) : Type 0 where
   pub answer : saysNext r ≡ idOf (generated a)
-  pub exit : b ≡ leaves a (generated a)
+  pub exit : b ≡ nextOf a (generated a)
 
 -- `update_xid_range`: done or the refusal that the call by value answers for a, and b is the allocator from there on.
 pub record Updates (a : IdAllocator) (start count : ℕ) (r : Updated) (b : IdAllocator) : Type 0 where

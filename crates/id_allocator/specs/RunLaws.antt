@@ -9,7 +9,7 @@ use borrow.Author.Tests.{lt-ltb, le-ltb}
 use Rattle.refusal.specs.Answer.{gives, refuses, refuse}
 use Rattle.id_allocator.specs.declared.IdAllocator.{IdAllocator}
 use Rattle.id_allocator.specs.Ids.{Sound, generated, onward}
-use Rattle.id_allocator.specs.Runs.{leaves, after, idOf, call, Run}
+use Rattle.id_allocator.specs.Runs.{nextOf, afterCalls, idOf, call, Run}
 use Rattle.id_allocator.specs.SoundLaws.{sound-yes, sound-with}
 
 -- A sound allocator gives its next id as long as that is not past the last,
@@ -32,23 +32,23 @@ module _ (a : IdAllocator) (s : Sound a) where
   moved-sound i = sound-with a s (a .next + i * a .step) (a .last) (s .last-below)
 
   -- After i calls the allocator is i steps on, as long as each had an id,
-  after-ids : (i : ℕ) → a .next + i * a .step ≤ a .last + a .step → after i a ≡ moved a i
-  unfolding after
+  after-ids : (i : ℕ) → a .next + i * a .step ≤ a .last + a .step → afterCalls i a ≡ moved a i
+  unfolding afterCalls
   after-ids zero h =
       let e : a .next ≡ a .next + 0 * a .step = omega arith in λ k. record { next = e k; last = a .last; step = a .step }
   after-ids (suc i) h =
       let m = suc-mul i (a .step) in let e : a .next + i * a .step + a .step ≡ a .next + suc i * a .step = omega arith in
-      ap (λ (b : IdAllocator). leaves b (generated b)) (after-ids i (omega arith))
-      ∙ ap (leaves (moved a i)) (gives-next (moved a i) (moved-sound i (omega arith)) (omega arith))
+      ap (λ (b : IdAllocator). nextOf b (generated b)) (after-ids i (omega arith))
+      ∙ ap (nextOf (moved a i)) (gives-next (moved a i) (moved-sound i (omega arith)) (omega arith))
       ∙ (λ k. record { next = e k; last = a .last; step = a .step })
 
   -- and stays where it is past the last id.
-  after-end : (i d : ℕ) → a .next + i * a .step ≤ a .last + a .step → a .last < a .next + i * a .step → after (i + d) a ≡ moved a i
-  unfolding after
-  after-end i zero h l = let e : i + 0 ≡ i = omega arith in ap (λ (n : ℕ). after n a) e ∙ after-ids i h
+  after-end : (i d : ℕ) → a .next + i * a .step ≤ a .last + a .step → a .last < a .next + i * a .step → afterCalls (i + d) a ≡ moved a i
+  unfolding afterCalls
+  after-end i zero h l = let e : i + 0 ≡ i = omega arith in ap (λ (n : ℕ). afterCalls n a) e ∙ after-ids i h
   after-end i (suc d) h l =
-      ap (λ (n : ℕ). after n a) (add-suc i d) ∙ ap (λ (b : IdAllocator). leaves b (generated b)) (after-end i d h l)
-      ∙ ap (leaves (moved a i)) (gives-none (moved a i) (moved-sound i h) l)
+      ap (λ (n : ℕ). afterCalls n a) (add-suc i d) ∙ ap (λ (b : IdAllocator). nextOf b (generated b)) (after-end i d h l)
+      ∙ ap (nextOf (moved a i)) (gives-none (moved a i) (moved-sound i h) l)
 
   -- Where the last id is c steps on, calls 0 to c give an id,
   pub call-id : (c : ℕ) → a .last ≡ a .next + c * a .step → (i : ℕ) → i ≤ c → call i a ≡ gives (a .next + i * a .step)
@@ -62,7 +62,7 @@ module _ (a : IdAllocator) (s : Sound a) where
   unfolding call
   call-end c e i l =
       let m = suc-mul c (a .step) in let q = pow-pos (s .power) in let d : i ≡ suc c + (i - suc c) = omega arith in
-      ap (λ (n : ℕ). idOf (generated (after n a))) d ∙ ap (λ (b : IdAllocator). idOf (generated b)) (after-end (suc c) (i - suc c) (omega arith) (omega arith))
+      ap (λ (n : ℕ). idOf (generated (afterCalls n a))) d ∙ ap (λ (b : IdAllocator). idOf (generated b)) (after-end (suc c) (i - suc c) (omega arith) (omega arith))
       ∙ ap idOf (gives-none (moved a (suc c)) (moved-sound (suc c) (omega arith)) (omega arith))
 
 -- The ids of a run rise.

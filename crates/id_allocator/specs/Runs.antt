@@ -7,14 +7,14 @@ use Rattle.id_allocator.specs.declared.IdAllocator.{IdAllocator}
 use Rattle.id_allocator.specs.Ids.{generated}
 
 -- The allocator that a call leaves: 01, Refusal numbers, a refusal leaves everything as found.
-abbrev pub leaves : IdAllocator → Answer (ℕ × IdAllocator) → IdAllocator
-leaves a (gives p) = p .1
-leaves a (refuses n) = a
+abbrev pub nextOf : IdAllocator → Answer (ℕ × IdAllocator) → IdAllocator
+nextOf a (gives p) = p .1
+nextOf a (refuses n) = a
 
 -- The allocator after n calls.
-unfoldable pub after : ℕ → IdAllocator → IdAllocator
-after zero a = a
-after (suc n) a = let b = after n a in leaves b (generated b)
+unfoldable pub afterCalls : ℕ → IdAllocator → IdAllocator
+afterCalls zero a = a
+afterCalls (suc n) a = let b = afterCalls n a in nextOf b (generated b)
 
 -- The id that a call gives, or the number of its refusal.
 abbrev pub idOf : Answer (ℕ × IdAllocator) → Answer ℕ
@@ -23,7 +23,7 @@ idOf (refuses n) = refuses n
 
 -- What call i answers: the one after i calls, so the first is call 0.
 unfoldable pub call : ℕ → IdAllocator → Answer ℕ
-call i a = idOf (generated (after i a))
+call i a = idOf (generated (afterCalls i a))
 
 -- The calls give first, first + step, .., first + (count - 1) × step in this order, and from then on refuse by 11.
 pub record Run (a : IdAllocator) (first step count : ℕ) : Type 0 where

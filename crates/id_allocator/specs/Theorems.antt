@@ -19,7 +19,7 @@ use Rattle.id_allocator.specs.declared.lent.NextId.the-variants as NextI
 use Rattle.id_allocator.specs.declared.lent.Updated.{Updated}
 use Rattle.id_allocator.specs.declared.lent.Updated.the-variants as Updated
 use Rattle.id_allocator.specs.Ids.{bits, limit, Sound, sound, lowestBit, Lowest, fresh, ranged, newIds, generated, updated, saysIds, saysGenerated}
-use Rattle.id_allocator.specs.Runs.{after, call, idOf, leaves, Run, contiguous, EveryId}
+use Rattle.id_allocator.specs.Runs.{afterCalls, call, idOf, nextOf, Run, contiguous, EveryId}
 use Rattle.id_allocator.specs.Lent.{saysNext, saysUpdated, takenUp, Generates, Updates}
 use Rattle.id_allocator.specs.LowestLaws.{lowest-of, lowest-is}
 use Rattle.id_allocator.specs.SoundLaws.{sound-of, sound-yes, fresh-sound, sound-with, new-of, generated-of, updated-of}
@@ -134,7 +134,7 @@ updates-one r s p q = (
 pub generates-sound : {a b : IdAllocator} {r : NextId} → Sound a → Generates a r b → Sound b
 generates-sound {a} s p = subst Sound (sym (p .exit)) (go (generated a) refl)
   where
-    go : (x : Answer (ℕ × IdAllocator)) → generated a ≡ x → Sound (leaves a x)
+    go : (x : Answer (ℕ × IdAllocator)) → generated a ≡ x → Sound (nextOf a x)
     go (gives q) e = generate-sound a e
     go (refuses n) e = s
 
@@ -146,10 +146,10 @@ updates-sound {a} {start = start} {count = count} s p = subst Sound (sym (p .exi
     go (refuses n) e = s
 
 -- Lent calls in a row, call i from state i to the next: they find and leave the allocators that calls by value hand on,
-pub lent-state : (state : ℕ → IdAllocator) (said : ℕ → NextId) → ((i : ℕ) → Generates (state i) (said i) (state (suc i))) → (i : ℕ) → state i ≡ after i (state 0)
-unfolding after
+pub lent-state : (state : ℕ → IdAllocator) (said : ℕ → NextId) → ((i : ℕ) → Generates (state i) (said i) (state (suc i))) → (i : ℕ) → state i ≡ afterCalls i (state 0)
+unfolding afterCalls
 lent-state state said each zero = refl
-lent-state state said each (suc i) = each i .exit ∙ ap (λ (a : IdAllocator). leaves a (generated a)) (lent-state state said each i)
+lent-state state said each (suc i) = each i .exit ∙ ap (λ (a : IdAllocator). nextOf a (generated a)) (lent-state state said each i)
 
 -- and give the same ids and refusals. So what `Run` and `EveryId` say of calls in a row, they say of lent calls.
 pub lent-call : (state : ℕ → IdAllocator) (said : ℕ → NextId) → ((i : ℕ) → Generates (state i) (said i) (state (suc i))) → (i : ℕ) → saysNext (said i) ≡ call i (state 0)

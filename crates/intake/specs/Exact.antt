@@ -10,7 +10,7 @@ use Rattle.descriptors.specs.Room as Slots
 use Rattle.model.specs.Model.{codeOf, isHeld, Filing}
 use Rattle.model.specs.Reading.{Rooms, rooms, slotsOf}
 use Rattle.model.specs.Moved.{movedState}
-use Rattle.model.specs.Promise.{Done, Exact}
+use Rattle.model.specs.Promise.{Done, Exact, same}
 use Rattle.model.specs.Says.{saysEnqueued}
 use Rattle.model.specs.declared.Connection.{Connection}
 use Rattle.model.specs.declared.Enqueued.{Enqueued}
@@ -70,10 +70,6 @@ carriedOut c r p t = filedAs (t .place) (numberedState c (codeOf p) (t .number))
 unfoldable pub enqueueExact : Connection → Rooms → List ℕ → Answer (Done Filing)
 enqueueExact c r p = pass (planOf c (r .requests) p) (λ t. gives (carriedOut c r p t))
 
--- where a packet was filed, shown as it is
-abbrev pub shown : Filing → Filing
-shown f = f
-
 -- THE STEP is exact.
 pub record EnqueueStep (c : Connection) (q s f p : List ℕ) (a : Enqueued) (s' f' : List ℕ) : Type 0 where
-  pub exact : Exact shown (enqueueExact c (rooms q s f) p) (rooms q s f) (saysEnqueued a) (rooms q s' f')
+  pub exact : Exact same (enqueueExact c (rooms q s f) p) (rooms q s f) (saysEnqueued a) (rooms q s' f')

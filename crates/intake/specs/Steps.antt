@@ -15,7 +15,7 @@ use Rattle.descriptors.specs.Room as Slots
 use Rattle.descriptors.specs.declared.Counts.{Counts}
 use Rattle.model.specs.Model.{codeOf}
 use Rattle.model.specs.Reading.{rooms}
-use Rattle.model.specs.Promise.{exact-refused, exact-given}
+use Rattle.model.specs.Promise.{exact-refused, exact-given, same}
 use Rattle.model.specs.declared.Connection.{Connection}
 use Rattle.model.specs.declared.Enqueued.the-variants as Enqueued
 use Rattle.model.specs.declared.Place.{Place}
@@ -24,7 +24,7 @@ use Rattle.intake.specs.declared.Plan.{Plan}
 use Rattle.intake.specs.declared.Plan.the-variants as Plan
 use Rattle.intake.specs.Plan.{saysPlan, Ready, planOf}
 use Rattle.model.specs.Moved.{movedState}
-use Rattle.intake.specs.Exact.{numberedState, filing, filedAs, MayFile, FileDone, carriedOut, enqueueExact, shown, EnqueueStep}
+use Rattle.intake.specs.Exact.{numberedState, filing, filedAs, MayFile, FileDone, carriedOut, enqueueExact, EnqueueStep}
 use Rattle.intake.specs.Planned.{Planned, planned}
 
 -- ---- filing
@@ -73,7 +73,7 @@ module _ (c : Connection) (q s f p : List ℕ) (x : Plan) (e : saysPlan x ≡ pl
   pub step-stop : (r : Refusal) → x ≡ Plan.Stop r → EnqueueStep c q s f p (Enqueued.Refused r) s f
   unfolding enqueueExact pass
   step-stop r g = record {
-    exact = exact-refused shown (enqueueExact c (rooms q s f) p) (rooms q s f) (numberOf r) (ap (λ z. pass z (λ t. gives (carriedOut c (rooms q s f) p t))) (ap saysPlan (sym g) ∙ e));
+    exact = exact-refused same (enqueueExact c (rooms q s f) p) (rooms q s f) (numberOf r) (ap (λ z. pass z (λ t. gives (carriedOut c (rooms q s f) p t))) (ap saysPlan (sym g) ∙ e));
   }
 
   module _ (place : Place) (n : SequenceNumber) (k : ℕ) (g : x ≡ Plan.File place n k) where
@@ -100,6 +100,6 @@ module _ (c : Connection) (q s f p : List ℕ) (x : Plan) (e : saysPlan x ≡ pl
           let z : record { value = filing place (n .0); state = a; left = rooms q s' f' } ≡ filedAs place (numberedState c (codeOf p) (n .0)) (rooms q s f) k p =
           (λ i. record { value = filing place (sym N i .read); state = a; left = rooms q s' f' }) ∙ d .done q ∙ ap (λ (y : Connection). filedAs place y (rooms q s f) k p) N in
           record {
-            exact = exact-given shown (enqueueExact c (rooms q s f) p) (rooms q s f) (record { value = filing place (n .0); state = a; left = rooms q s' f' })
+            exact = exact-given same (enqueueExact c (rooms q s f) p) (rooms q s f) (record { value = filing place (n .0); state = a; left = rooms q s' f' })
                 (ap gives z ∙ ap (λ y. pass y (λ t. gives (carriedOut c (rooms q s f) p t))) (ap saysPlan (sym g) ∙ e));
           }

@@ -66,7 +66,7 @@ reply-never nobody e = let z : _≡_ {A = ℕ} 0 1 = cc in omega arith
 reply-never (somebody r) e = never-event (r .mode) e
 
 -- an event claims nothing.
-event-claims : (p : List ℕ) (a : Model.Asked) → placeOf (codeOf p) a ≡ Place.Events → claimed p a ≡ 0
+pub event-claims : (p : List ℕ) (a : Model.Asked) → placeOf (codeOf p) a ≡ Place.Events → claimed p a ≡ 0
 unfolding claimed placeOf choose both
 event-claims p a = go (eqb (codeOf p) errorCode) refl (eqb (codeOf p) replyCode) refl
   where

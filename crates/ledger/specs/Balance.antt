@@ -5,23 +5,21 @@ use mathlib.Core.Path.{_≡_, refl, ap, _∙_}
 use Prim.Native.Nat.{ℕ, _+_, _%_}
 use native.Mathlib.Omega.{arith}
 use lib.Dec.{ltb, eqb}
-use lib.ListN.{length, take, drop, getD, take-append-drop}
-use borrow.Author.Tests.{eqb-true}
-use Rattle.octets.specs.Logic.{choose, both}
+use lib.ListN.{length, take, drop, take-append-drop}
+use Rattle.octets.specs.Logic.{choose}
 use Rattle.refusal.specs.Answer.{Answer, refuse, pass}
 use Rattle.descriptors.specs.Room.{count}
 use Rattle.descriptors.specs.Counting.{count-append, count-split}
 use Rattle.model.specs.Client.{Held, Client, setReplies, setEvents, setWaiting, setClosing, descriptorsOf}
 use Rattle.model.specs.Model as Model
-use Rattle.model.specs.Model.{fresh, sendRequest, enqueueFds, takeClosed, close, asEvent, errorCode, replyCode, codeOf, numbered, Asked, askedOf, errorPlace, replyPlace, replyUnder, placeOf, claimed, wantsDescriptors, Filing, takeIn, enqueuePacket, withMode, ofNumber, notOf, above, closingOrder, discarding, discardReply, Found, at, behind, find, Taken, takenBy, pollForReplyOrError, checkedBy, pollCheck, repliedBy, pollForReply, eventBy, pollForEvent}
+use Rattle.model.specs.Model.{fresh, sendRequest, enqueueFds, takeClosed, close, asEvent, codeOf, numbered, askedOf, placeOf, claimed, Filing, takeIn, enqueuePacket, withMode, ofNumber, notOf, above, closingOrder, discarding, discardReply, Found, at, behind, find, Taken, takenBy, pollForReplyOrError, checkedBy, pollCheck, repliedBy, pollForReply, eventBy, pollForEvent}
 use Rattle.model.specs.Calls.{Call, send, enqueue-fds, enqueue, discard, poll, check, poll-reply, prepare, poll-event, take-closed, Said, done, closed, refused, step, outcome, run, saysTaken, saysPoll}
 use Rattle.model.specs.declared.ReplyFdKind.{ReplyFdKind}
 use Rattle.model.specs.declared.DiscardMode.{DiscardMode}
 use Rattle.model.specs.declared.DiscardMode.the-variants as DiscardMode
 use Rattle.model.specs.declared.Place.{Place}
 use Rattle.model.specs.declared.Place.the-variants as Place
-use Rattle.requests.specs.declared.Mode.{Mode}
-use Rattle.requests.specs.declared.Mode.the-variants as Mode
+use Rattle.intake.specs.Theorems.{event-claims}
 use Rattle.ledger.specs.Saying.{by-refuse, by-choose, by-pass}
 use Rattle.ledger.specs.Descriptors.{within, unlessRefused, accepted, tookWith, closedBy, handedOut, Balances, acceptedIn, handedIn}
 
@@ -195,30 +193,6 @@ balances-discard f c n m d = ap (λ (k : ℕ). k + count d []) (discarding-withi
 
 -- ---- intake
 
--- a reply is never filed with the events,
-reply-no-event : (a : Asked) → replyPlace a ≡ Place.Events → ⊥
-reply-no-event Model.nobody e = let z : _≡_ {A = ℕ} 0 1 = cc in omega arith
-reply-no-event (Model.somebody r) e = go (r .mode) e
-  where
-    go : (m : Mode) → replyUnder m ≡ Place.Events → ⊥
-    go Mode.Keep q = let z : _≡_ {A = ℕ} 0 1 = cc in omega arith
-    go Mode.DiscardReply q = let z : _≡_ {A = ℕ} 0 1 = cc in omega arith
-    go Mode.DiscardReplyAndError q = let z : _≡_ {A = ℕ} 0 1 = cc in omega arith
-
--- so an event claims no descriptor
-event-claims-none : (p : List ℕ) (a : Asked) → placeOf (codeOf p) a ≡ Place.Events → claimed p a ≡ 0
-unfolding placeOf claimed choose both
-event-claims-none p a e = go (eqb (codeOf p) errorCode) (eqb (codeOf p) replyCode) refl refl e
-  where
-    go : (x y : Bool) → eqb (codeOf p) errorCode ≡ x → eqb (codeOf p) replyCode ≡ y → choose x (errorPlace a) (choose y (replyPlace a) Place.Events) ≡ Place.Events
-        → choose (both y (wantsDescriptors a)) (getD p 1 0) 0 ≡ 0
-    go x false u v q = refl
-    go true true u v q =
-        let i : codeOf p ≡ errorCode = eqb-true _ _ u in
-        let j : codeOf p ≡ replyCode = eqb-true _ _ v in
-        let z : ⊥ = omega arith in absurd z
-    go false true u v q = absurd (reply-no-event a q)
-
 -- the first k that wait leave the queue, for the replies or the close list
 module _ (c : Client) (p : List ℕ) (n k : ℕ) where
   abbrev record-of : Held
@@ -245,7 +219,7 @@ balances-packet f c p =
     (λ n.
     balances-refuse f c (enqueue p) _ 4 _
     (balances-refuse f c (enqueue p) _ 5 _
-    (λ d. ap (λ (k : ℕ). k + count d []) (within-filed c p n (claimed p (askedOf c n)) (placeOf (codeOf p) (askedOf c n)) d (event-claims-none p (askedOf c n))))))))
+    (λ d. ap (λ (k : ℕ). k + count d []) (within-filed c p n (claimed p (askedOf c n)) (placeOf (codeOf p) (askedOf c n)) d (event-claims p (askedOf c n))))))))
 
 -- ---- every call, and a row of them
 

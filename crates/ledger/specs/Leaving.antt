@@ -5,7 +5,7 @@ use Prim.Native.Nat.{ℕ, _<_}
 use lib.ListN.{length, getD}
 use Rattle.refusal.specs.Answer.{gives, gives-same}
 use Rattle.model.specs.Model.{Filing}
-use Rattle.model.specs.Promise.{Done}
+use Rattle.model.specs.Promise.{Done, same}
 use Rattle.model.specs.Reading.{Rooms}
 use Rattle.model.specs.Says.{Shown, shownTaken, ShownEvent, shownEvent, ShownPoll, shownPoll}
 use Rattle.model.specs.Sound.{Sound}
@@ -15,7 +15,6 @@ use Rattle.model.specs.Feed.{ShownFed, shownFed}
 use Rattle.model.specs.declared.Connection.{Connection}
 use Rattle.model.specs.declared.DiscardMode.{DiscardMode}
 use Rattle.model.specs.declared.ReplyFdKind.{ReplyFdKind}
-use Rattle.sending.specs.Send.{same}
 use Rattle.sending.specs.Theorems as Sending
 use Rattle.intake.specs.Theorems as Intake
 use Rattle.polling.specs.DiscardTheorems.{discard-leaves}

@@ -27,7 +27,7 @@ use Rattle.model.specs.declared.ReplyFdKind.the-variants.{NoReply}
 use Rattle.model.specs.declared.Place.the-variants.{Replies, Events, Dropped}
 use Rattle.model.specs.Batch.{Each}
 use Rattle.ledger.specs.Encoding.{ReplyFits, EventFits, NeverFall, InRange}
-use Rattle.ledger.specs.State.{Needed, withOrder, withK, withS, withWritten, withExpected, withRead, withOutstanding, withDescribed, withMode, withDiscard, withReplies, withEvents, withNumber, withPacket, withHeld, withTurn, withWaiting, withClosing}
+use Rattle.ledger.specs.State.{Needed, withOrder, withK, withS, withWritten, withExpected, withRead, withOutstanding, withDescribed, withRequestMode, withDiscard, withReplies, withEvents, withNumber, withPacket, withHeld, withTurn, withWaiting, withClosing}
 
 -- ---- the ranges as a test
 
@@ -155,7 +155,7 @@ module _ (h k : Held) where
 
 -- In the order of the table. K and S by what has room; the numbers by what is said; requests by where a packet is filed; the rest by what is handed out.
 pub each-needed :
-    Needed withOrder × Needed withK × Needed withS × Needed withWritten × Needed withExpected × Needed withRead × Needed withOutstanding × Needed withDescribed × Needed withMode × Needed withDiscard × Needed withReplies × Needed withEvents × Needed withNumber × Needed withPacket × Needed withHeld × Needed withTurn × Needed withWaiting × Needed withClosing
+    Needed withOrder × Needed withK × Needed withS × Needed withWritten × Needed withExpected × Needed withRead × Needed withOutstanding × Needed withDescribed × Needed withRequestMode × Needed withDiscard × Needed withReplies × Needed withEvents × Needed withNumber × Needed withPacket × Needed withHeld × Needed withTurn × Needed withWaiting × Needed withClosing
 unfolding ranged each holds falls legal run step Model.sendRequest Model.enqueuePacket Model.takeClosed Model.pollForReplyOrError Model.pollCheck Model.prepareCheck Model.pollForEvent Model.find pass refuse sending mustSync both either choose Model.packetNumber inRange full field numberIn cut turned bytesOf lowBytes lowNumber Model.numbered Model.askedOf Model.headOf Model.placeOf Model.claimed Model.takeIn costs descriptorsOf
 each-needed = (
   needed withOrder 108 66 (enqueue event ∷ []) (filed Events 1 ∷ []) (filed Events 256 ∷ []) refl refl refl refl (λ e. let z : _≡_ {A = ℕ} 1 256 = cc in omega arith),
@@ -166,7 +166,7 @@ each-needed = (
   needed withRead 0 1 (check 0 32 ∷ []) (again ∷ []) (absent ∷ []) refl refl refl refl (λ e. let z : _≡_ {A = ℕ} 0 1 = cc in omega arith),
   needed withOutstanding [] (joining NoReply ∷ []) (enqueue error ∷ []) (filed Events 1 ∷ []) (filed Replies 1 ∷ []) refl refl refl refl (λ e. let z : _≡_ {A = ℕ} 0 1 = cc in omega arith),
   needed withDescribed true false (enqueue reply ∷ poll 1 32 1 ∷ []) (filed Replies 1 ∷ took (held reply (7 ∷ [])) ∷ []) (filed Replies 1 ∷ took (held reply []) ∷ []) refl refl refl refl (λ e. filed-apart (held reply (7 ∷ [])) (held reply []) (λ l. let z : _≡_ {A = ℕ} 0 1 = cc in omega arith) e),
-  needed withMode Mode.Keep Mode.DiscardReply (enqueue error ∷ []) (filed Replies 1 ∷ []) (filed Events 1 ∷ []) refl refl refl refl (λ e. let z : _≡_ {A = ℕ} 0 1 = cc in omega arith),
+  needed withRequestMode Mode.Keep Mode.DiscardReply (enqueue error ∷ []) (filed Replies 1 ∷ []) (filed Events 1 ∷ []) refl refl refl refl (λ e. let z : _≡_ {A = ℕ} 0 1 = cc in omega arith),
   needed withDiscard DiscardReply DiscardReplyAndError (enqueue error ∷ []) (filed Events 1 ∷ []) (filed Dropped 1 ∷ []) refl refl refl refl (λ e. let z : _≡_ {A = ℕ} 0 1 = cc in omega arith),
   needed withReplies [] (held reply [] ∷ []) (poll 1 32 0 ∷ []) (nothing ∷ []) (took (held reply []) ∷ []) refl refl refl refl (λ e. let z : _≡_ {A = ℕ} 0 1 = cc in omega arith),
   needed withEvents [] (held event [] ∷ []) (poll-event 32 ∷ []) (nothing ∷ []) (took (held event []) ∷ []) refl refl refl refl (λ e. let z : _≡_ {A = ℕ} 0 1 = cc in omega arith),

@@ -12,16 +12,15 @@ use Rattle.requests.specs.Room.{capacity}
 use Rattle.requests.specs.declared.Request.{Request}
 use Rattle.sequence.specs.Numbering.{lastNumber}
 use Rattle.sequence.specs.Sending.{syncSpan, mustSync}
-use Rattle.model.specs.Client.{Client}
+use Rattle.model.specs.Client.{Client, setNumbers, setOutstanding}
 use Rattle.model.specs.Model.{fresh, hasReply, joining, sendRequest}
 use Rattle.model.specs.Calls.{Call, send, Said, number, refused, Step, step, Ran, run}
-use Rattle.model.specs.Promise.{guarded-on}
+use Rattle.model.specs.Promise.{guarded-on, same}
 use Rattle.model.specs.Reading.{Rooms, reads}
 use Rattle.model.specs.Sound.{Sound, is-sound}
 use Rattle.model.specs.declared.Connection.{Connection}
 use Rattle.model.specs.declared.ReplyFdKind.{ReplyFdKind}
 use Rattle.model.specs.declared.ReplyFdKind.the-variants as ReplyFdKind
-use Rattle.sending.specs.Send.{same}
 use Rattle.connection.specs.Calls.{Opens, Sends}
 use Rattle.connection.specs.Opening.{opens-fresh, opens-sound}
 use Rattle.connection.specs.Theorems.{refusal-leaves}
@@ -39,17 +38,7 @@ run-append c (x ∷ xs) ys = ap (λ (l : List Said). step c x .said ∷ l) (run-
 
 -- the client with these numbers and requests, nothing read and nothing held
 abbrev pub clientAfter : ℕ → ℕ → ℕ → ℕ → List Request → Client
-clientAfter o s w e out = record {
-  order = o;
-  most-requests = mostSends;
-  most-bytes = s;
-  numbers = record { written = w; expected = e; read = 0 };
-  outstanding = out;
-  replies = [];
-  events = [];
-  waiting = [];
-  closing = [];
-}
+clientAfter o s w e out = setOutstanding (setNumbers (fresh o mostSends s) (record { written = w; expected = e; read = 0 })) out
 
 module _ (o s w e : ℕ) (out : List Request) (kind : ReplyFdKind) (ends : w < lastNumber) where
   -- a send passes,

@@ -15,7 +15,7 @@ use Rattle.model.specs.Client.{Held, Client, descriptorsOf}
 use Rattle.model.specs.Model.{fresh, Taken, Filing, enqueueFds, pollForReplyOrError, pollForEvent}
 use Rattle.model.specs.Model as Model
 use Rattle.model.specs.Calls.{Call, send, enqueue-fds, enqueue, discard, poll, check, poll-reply, prepare, poll-event, take-closed, step}
-use Rattle.model.specs.Promise.{Done, answerOf, roomsOf, outputOf, modelOf, guarded, Promise}
+use Rattle.model.specs.Promise.{Done, answerOf, roomsOf, outputOf, modelOf, guarded, Promise, same}
 use Rattle.model.specs.Reading.{Rooms, slotsOf, reads}
 use Rattle.model.specs.ReadingLaws.{descriptors-read}
 use Rattle.model.specs.Says.{Shown, shownTaken, shownEvent, shownPoll, descriptorsOfTaken}
@@ -24,7 +24,6 @@ use Rattle.model.specs.SendRequests.{kindOf, ShownSendings}
 use Rattle.model.specs.PollForEvents.{ShownHandings}
 use Rattle.model.specs.Feed.{ShownFed}
 use Rattle.model.specs.declared.Connection.{Connection}
-use Rattle.sending.specs.Send.{same}
 use Rattle.polling.specs.Exact.{eventExact}
 use Rattle.connection.specs.Calls.{Sends, EnqueuesFds, Enqueues, Polls, Closes, SendsMany, EnqueuesMany, PollsEvents}
 use Rattle.connection.specs.Opening.{opens-fresh}

@@ -190,11 +190,11 @@ withOutstanding l = client 108 4 500 (at 1 1 1) l [] [] (7 ∷ []) []
 abbrev pub withDescribed : Bool → Client
 withDescribed b = client 108 4 500 (at 1 1 1) (asked b Mode.Keep) [] [] (7 ∷ []) []
 
-abbrev pub withMode : Mode → Client
-withMode m = client 108 4 500 (at 1 1 1) (asked true m) [] [] (7 ∷ []) []
+abbrev pub withRequestMode : Mode → Client
+withRequestMode m = client 108 4 500 (at 1 1 1) (asked true m) [] [] (7 ∷ []) []
 
 abbrev pub withDiscard : DiscardMode → Client
-withDiscard m = withMode (modeOf m)
+withDiscard m = withRequestMode (modeOf m)
 
 abbrev pub withReplies : List Held → Client
 withReplies l = client 108 4 500 (at 1 1 1) (asked true Mode.Keep) l [] (7 ∷ []) []

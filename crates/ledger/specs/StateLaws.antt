@@ -10,7 +10,7 @@ use Rattle.requests.specs.Room.{capacity}
 use Rattle.descriptors.specs.Room.{mostDescriptors}
 use Rattle.model.specs.Client.{Client}
 use Rattle.model.specs.Model.{fresh, new, Filing, Taken, sendRequest, enqueueFds, takeClosed, enqueuePacket, discardReply, pollForReplyOrError, pollCheck, pollForReply, prepareCheck, pollForEvent}
-use Rattle.model.specs.Promise.{Done, answerOf, roomsOf, outputOf, modelOf, guarded, guarded-on, Promise}
+use Rattle.model.specs.Promise.{Done, answerOf, roomsOf, outputOf, modelOf, guarded, guarded-on, Promise, same}
 use Rattle.model.specs.Reading.{Rooms, reads}
 use Rattle.model.specs.Says.{Shown, shownTaken, ShownEvent, shownEvent, ShownPoll, shownPoll, bytesOfTaken, descriptorsOfTaken, bytesOfPoll}
 use Rattle.model.specs.Sound.{Sound, is-sound}
@@ -20,11 +20,11 @@ use Rattle.model.specs.Feed.{ShownFed, shownFed}
 use Rattle.model.specs.declared.Connection.{Connection}
 use Rattle.model.specs.declared.DiscardMode.{DiscardMode}
 use Rattle.model.specs.declared.ReplyFdKind.{ReplyFdKind}
-use Rattle.sending.specs.Send.{same, sendExact}
+use Rattle.sending.specs.Send.{sendExact}
 use Rattle.sending.specs.Fds as Fds
 use Rattle.sending.specs.Fds.{closeExact}
 use Rattle.sending.specs.Theorems as Sending
-use Rattle.intake.specs.Exact.{enqueueExact, shown}
+use Rattle.intake.specs.Exact.{enqueueExact}
 use Rattle.intake.specs.Theorems as Intake
 use Rattle.polling.specs.Discard.{discardExact}
 use Rattle.polling.specs.DiscardTheorems.{discard-leaves}
@@ -105,7 +105,7 @@ module _ (c : Connection) (r : Rooms) (d : Connection) (q : Rooms) (k : Alike c 
   enqueue-fds-same list a b r' q' h i = promise-same same (λ m. enqueueFds m list) (λ c r. Fds.enqueueFdsExact c r list) (λ c r S. Sending.enqueue-sound c r S list) c r d q k a b r' q' h i
 
   pub enqueue-packet-same : (p : List ℕ) → getD p 1 0 < 256 → (a b : Answer (Filing × Connection)) (r' q' : Rooms) → Enqueues c r p a r' → Enqueues d q p b q' → Same c a r' d b q'
-  enqueue-packet-same p w a b r' q' h i = promise-same shown (λ m. enqueuePacket m p) (λ c r. enqueueExact c r p) (λ c r S. Intake.enqueue-sound c r S p w) c r d q k a b r' q' h i
+  enqueue-packet-same p w a b r' q' h i = promise-same same (λ m. enqueuePacket m p) (λ c r. enqueueExact c r p) (λ c r S. Intake.enqueue-sound c r S p w) c r d q k a b r' q' h i
 
   pub discard-reply-same : (n : ℕ) (mode : DiscardMode) (a b : Answer (Unit × Connection)) (r' q' : Rooms) → Discards c r n mode a r' → Discards d q n mode b q' → Same c a r' d b q'
   discard-reply-same n mode a b r' q' h i =

@@ -13,7 +13,7 @@ use Rattle.descriptors.specs.Room as Slots
 use Rattle.model.specs.Client.{Held, Client, used, costs}
 use Rattle.model.specs.Model.{fresh, hasReply, Filing, isError, at, find}
 use Rattle.model.specs.Calls.{Call, send, enqueue-fds, enqueue, discard, poll-reply, Said, number, done, absent, refused, step, run}
-use Rattle.model.specs.Promise.{Done, Promise}
+use Rattle.model.specs.Promise.{Done, Promise, same}
 use Rattle.model.specs.Reading.{Rooms, slotsOf, reads}
 use Rattle.model.specs.ReadingLaws.{used-read}
 use Rattle.model.specs.Says.{Shown, ShownEvent, ShownPoll, saysNext, saysSent, saysEnqueued, saysPolled, saysPollReply, saysEvent, saysClosed, saysPrepared}
@@ -37,7 +37,6 @@ use Rattle.model.specs.declared.Prepared.{Prepared}
 use Rattle.model.specs.declared.SentMany.{SentMany}
 use Rattle.model.specs.declared.Events.{Events}
 use Rattle.model.specs.declared.Fed.{Fed}
-use Rattle.sending.specs.Send.{same}
 use Rattle.batch.specs.Feed.{enqueuePackets}
 use Rattle.connection.specs.Calls.{Opens, Hands, Sends, EnqueuesFds, Enqueues, Discards, Polls, Checks, PollsReply, PollsEvent, Closes, Prepares, SendsMany, EnqueuesMany, PollsEvents}
 use Rattle.connection.specs.Opening as Opening
@@ -51,7 +50,7 @@ use Rattle.ledger.specs.Descriptors.{within, accepted, handedOut, accept
 use Rattle.ledger.specs.Room.{filled, kept, SendShort, PacketShort, NoRoom, added, givenBack, NoDiscard}
 use Rattle.ledger.specs.Sends.{mostSends, withoutReply, numbersFrom, sendsOf, allNoRoom, SendsRow}
 use Rattle.ledger.specs.Encoding.{InRange, Encodes}
-use Rattle.ledger.specs.State.{told, asRead, shownBy, writtenBy, Alike, Same, Ask, AllHeard, Row, Needed, withOrder, withK, withS, withWritten, withExpected, withRead, withOutstanding, withDescribed, withMode, withDiscard, withReplies, withEvents, withNumber, withPacket, withHeld, withTurn, withWaiting, withClosing}
+use Rattle.ledger.specs.State.{told, asRead, shownBy, writtenBy, Alike, Same, Ask, AllHeard, Row, Needed, withOrder, withK, withS, withWritten, withExpected, withRead, withOutstanding, withDescribed, withRequestMode, withDiscard, withReplies, withEvents, withNumber, withPacket, withHeld, withTurn, withWaiting, withClosing}
 use Rattle.ledger.specs.EncodingLaws as EncodingLaws
 use Rattle.ledger.specs.Balance as Balance
 use Rattle.ledger.specs.Sessions as Sessions
@@ -433,5 +432,5 @@ sessions-same o r q k s c d h i xs hs gs c' r' d' q' l m = StateLaws.rows-same (
 
 -- NOTHING SUPERFLUOUS: of each part there are two values in range, all else the same, and calls that answer differently: byte order, K, S, the last number written, the next reply expected, the last read, the outstanding requests, of one whether it has descriptors, whether it has a mode and which, replies, events, of a held record its number, its packet and a reply's descriptors, of two their order, the descriptors that wait, and those to be closed.
 pub each-needed :
-    Needed withOrder × Needed withK × Needed withS × Needed withWritten × Needed withExpected × Needed withRead × Needed withOutstanding × Needed withDescribed × Needed withMode × Needed withDiscard × Needed withReplies × Needed withEvents × Needed withNumber × Needed withPacket × Needed withHeld × Needed withTurn × Needed withWaiting × Needed withClosing
+    Needed withOrder × Needed withK × Needed withS × Needed withWritten × Needed withExpected × Needed withRead × Needed withOutstanding × Needed withDescribed × Needed withRequestMode × Needed withDiscard × Needed withReplies × Needed withEvents × Needed withNumber × Needed withPacket × Needed withHeld × Needed withTurn × Needed withWaiting × Needed withClosing
 each-needed = Part.each-needed

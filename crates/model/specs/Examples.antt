@@ -14,7 +14,7 @@ use Rattle.refusal.specs.Answer.{Answer, gives, refuses, refuse, pass}
 use Rattle.sequence.specs.Numbering.{full, inRange}
 use Rattle.sequence.specs.Sending.{sending, mustSync}
 use Rattle.requests.specs.Room.{underMode}
-use Rattle.model.specs.Client.{Held, Client, costs, descriptorsOf}
+use Rattle.model.specs.Client.{Held, Client, costs, descriptorsOf, setNumbers, setOutstanding, setEvents}
 use Rattle.model.specs.Model as Model
 use Rattle.model.specs.Calls.{Call, send, enqueue-fds, enqueue, discard, poll, check, poll-reply, prepare, poll-event, take-closed, Said, number, done, filed, nothing, took, again, absent, answer, closed, refused, step, run}
 use Rattle.model.specs.Batch as Batch
@@ -36,11 +36,11 @@ kept n p fds = record { number = n; packet = p; descriptors = fds }
 
 -- a state with these numbers and nothing else
 abbrev numbersAt : ℕ → ℕ → ℕ → Client
-numbersAt w e r = record { order = 108; most-requests = 4; most-bytes = 500; numbers = record { written = w; expected = e; read = r }; outstanding = []; replies = []; events = []; waiting = []; closing = [] }
+numbersAt w e r = setNumbers (Model.fresh 108 4 500) (record { written = w; expected = e; read = r })
 
 -- the same with as many requests outstanding as there is room for
 abbrev fullAt : ℕ → ℕ → ℕ → Client
-fullAt w e r = record { order = 108; most-requests = 1; most-bytes = 500; numbers = record { written = w; expected = e; read = r }; outstanding = Model.joining NoReply ∷ []; replies = []; events = []; waiting = []; closing = [] }
+fullAt w e r = setOutstanding (setNumbers (Model.fresh 108 1 500) (record { written = w; expected = e; read = r })) (Model.joining NoReply ∷ [])
 
 -- a row: a state, the calls made from there, each with what it says
 pub record Row : Type 0 where
@@ -230,7 +230,7 @@ sends = (refl, refl, refl, refl)
 
 -- two events, of numbers 5 and 6
 abbrev twoEvents : Client
-twoEvents = record { order = 108; most-requests = 4; most-bytes = 500; numbers = record { written = 9; expected = 0; read = 6 }; outstanding = []; replies = []; events = kept 5 (pk 2 0 5) [] ∷ kept 6 (pk 3 0 6) [] ∷ []; waiting = []; closing = [] }
+twoEvents = setEvents (numbersAt 9 0 6) (kept 5 (pk 2 0 5) [] ∷ kept 6 (pk 3 0 6) [] ∷ [])
 
 abbrev handings : Client → ℕ → ℕ → Answer Handings
 handings c room marks = said (λ x. x) (pollForEvents c room marks)

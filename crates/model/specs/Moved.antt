@@ -1,4 +1,4 @@
--- THE STATE WITH OTHER HELD PACKETS AND OTHER DESCRIPTORS, as steps leave it that move records or slots: how it is read, and that it is sound. Assumes nothing.
+-- THE STATE WITH SOME NUMBERS ANEW, as steps leave it. With other held packets and other descriptors: how it is read, and that it is sound. Assumes nothing.
 use mathlib.Core.Path.{_≡_, _∙_}
 use mathlib.Core.Bool.{true}
 use mathlib.Core.List.{List, map}
@@ -30,6 +30,22 @@ movedState c w n = record {
   window = w;
   counts = n;
 }
+
+-- and once a request was sent: its number, and the next reply expected
+abbrev pub sentState : Connection → ℕ → ℕ → Connection
+sentState c number expected = record {
+  order = c .order;
+  capacity = c .capacity;
+  room = c .room;
+  written = number;
+  expected = expected;
+  read = c .read;
+  first = c .first;
+  window = c .window;
+  counts = c .counts;
+}
+
+-- ---- moved
 
 -- as it is read
 pub moved-read : (c : Connection) (r : Rooms) (l : Left) (d : Slots.Room) (replies events : List Held) (wait toClose : List ℕ)

@@ -42,6 +42,10 @@ modelOf (refuses n) = refuses n
 unfoldable pub guarded : {A : Type 0} → Connection → Rooms → Answer A → Answer A
 guarded c r e = refuse (not (soundb c r)) 9 e
 
+-- what is given, shown as it is
+abbrev pub same : {A : Type 0} → A → A
+same x = x
+
 -- EXACT: answer and rooms at exit are those of the outcome e.
 pub record Exact {A B : Type 0} (f : A → B) (e : Answer (Done A)) (r : Rooms) (a : Answer (B × Connection)) (r' : Rooms) : Type 0 where
   pub answers : a ≡ answerOf f e

@@ -50,20 +50,10 @@ unfolding putMode
 mode-put room n m = refl
 
 module _ (room : List ℕ) (n : ℕ) (r : Request) where
-  -- Setting a request leaves the room's capacity,
-  pub capacity-put : capacity (putRequest room n r) ≡ capacity room
-  unfolding capacity putRequest
-  capacity-put = length-set room (n % length room) (byteOf r)
-
-  -- and for how many requests it is one,
+  -- Setting a request leaves for how many requests the room is one.
   pub sized-put : (k : ℕ) → sized k (putRequest room n r) ≡ sized k room
   unfolding sized putRequest
   sized-put k = ap (λ (l : ℕ). both (leb 1 k) (both (leb k mostRequests) (eqb l k))) (length-set room (n % length room) (byteOf r))
-
-  -- and the byte of every number whose place is another.
-  pub byte-put : (m : ℕ) → (m % capacity room ≡ n % capacity room → ⊥) → byteAt (putRequest room n r) m ≡ byteAt room m
-  unfolding capacity
-  byte-put m ne = Slots.byte-other room n m r ne
 
   -- The request that was set is the one read there.
   pub request-put : 0 < capacity room → requestAt (putRequest room n r) n ≡ r

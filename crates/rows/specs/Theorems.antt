@@ -12,6 +12,7 @@ use Rattle.octets.specs.Logic.{both, either, choose}
 use Rattle.model.specs.Reading.{Rooms}
 use Rattle.model.specs.Sound as Sound
 use Rattle.model.specs.declared.Connection.{Connection}
+use Rattle.model.specs.Moved.{sentState}
 use Rattle.packet_reader.specs.Reader as Reader
 use Rattle.packet_reader.specs.declared.PacketReader.{PacketReader}
 use Rattle.connect.specs.Handshake as Handshake
@@ -40,20 +41,6 @@ ids-back a b c x = refl
 
 -- ---- What a send leaves is put into the row that the state was read from by writing two numbers.
 
--- a state with another last written and next reply expected
-abbrev pub renumbered : Connection → ℕ → ℕ → Connection
-renumbered c n e = record {
-  order = c .order;
-  capacity = c .capacity;
-  room = c .room;
-  written = n;
-  expected = e;
-  read = c .read;
-  first = c .first;
-  window = c .window;
-  counts = c .counts;
-}
-
 -- lists by their length
 peel : (P : List ℕ → Type 0) (k : ℕ) → ((a : ℕ) (t : List ℕ) → length t ≡ k → P (a ∷ t)) → (s : List ℕ) → length s ≡ suc k → P s
 peel P k f [] q = absurd (omega (arith, q))
@@ -64,9 +51,9 @@ empty P f [] q = f
 empty P f (a ∷ t) q = absurd (omega (arith, q))
 
 abbrev Agrees : ℕ → ℕ → List ℕ → Type 0
-Agrees x y s = fits s ≡ true → sentRow s (renumbered (connectionOf s) x y) ≡ connectionRow s (renumbered (connectionOf s) x y)
+Agrees x y s = fits s ≡ true → sentRow s (sentState (connectionOf s) x y) ≡ connectionRow s (sentState (connectionOf s) x y)
 
-core : (a b c d e f g h i j k l m n o p x y : ℕ) → m ≡ 0 → n ≡ 0 → o ≡ 0 → p ≡ 0 → sentRow (a ∷ b ∷ c ∷ d ∷ e ∷ f ∷ g ∷ h ∷ i ∷ j ∷ k ∷ l ∷ m ∷ n ∷ o ∷ p ∷ []) (renumbered (connectionAt (a ∷ b ∷ c ∷ d ∷ e ∷ f ∷ g ∷ h ∷ i ∷ j ∷ k ∷ l ∷ m ∷ n ∷ o ∷ p ∷ [])) x y) ≡ connectionRow (a ∷ b ∷ c ∷ d ∷ e ∷ f ∷ g ∷ h ∷ i ∷ j ∷ k ∷ l ∷ m ∷ n ∷ o ∷ p ∷ []) (renumbered (connectionAt (a ∷ b ∷ c ∷ d ∷ e ∷ f ∷ g ∷ h ∷ i ∷ j ∷ k ∷ l ∷ m ∷ n ∷ o ∷ p ∷ [])) x y)
+core : (a b c d e f g h i j k l m n o p x y : ℕ) → m ≡ 0 → n ≡ 0 → o ≡ 0 → p ≡ 0 → sentRow (a ∷ b ∷ c ∷ d ∷ e ∷ f ∷ g ∷ h ∷ i ∷ j ∷ k ∷ l ∷ m ∷ n ∷ o ∷ p ∷ []) (sentState (connectionAt (a ∷ b ∷ c ∷ d ∷ e ∷ f ∷ g ∷ h ∷ i ∷ j ∷ k ∷ l ∷ m ∷ n ∷ o ∷ p ∷ [])) x y) ≡ connectionRow (a ∷ b ∷ c ∷ d ∷ e ∷ f ∷ g ∷ h ∷ i ∷ j ∷ k ∷ l ∷ m ∷ n ∷ o ∷ p ∷ []) (sentState (connectionAt (a ∷ b ∷ c ∷ d ∷ e ∷ f ∷ g ∷ h ∷ i ∷ j ∷ k ∷ l ∷ m ∷ n ∷ o ∷ p ∷ [])) x y)
 unfolding sentRow connectionRow choose
 core a b c d e f g h i j k l m n o p x y u v w z = simp (u, v, w, z)
 
@@ -74,9 +61,9 @@ sixteen : (a b c d e f g h i j k l m n o p x y : ℕ) → Agrees x y (a ∷ b �
 sixteen a b c d e f g h i j k l m n o p x y w =
     let z = fits-zeros (a ∷ b ∷ c ∷ d ∷ e ∷ f ∷ g ∷ h ∷ i ∷ j ∷ k ∷ l ∷ m ∷ n ∷ o ∷ p ∷ []) w in
     let q : connectionAt (a ∷ b ∷ c ∷ d ∷ e ∷ f ∷ g ∷ h ∷ i ∷ j ∷ k ∷ l ∷ m ∷ n ∷ o ∷ p ∷ []) ≡ connectionOf (a ∷ b ∷ c ∷ d ∷ e ∷ f ∷ g ∷ h ∷ i ∷ j ∷ k ∷ l ∷ m ∷ n ∷ o ∷ p ∷ []) = connection-on (a ∷ b ∷ c ∷ d ∷ e ∷ f ∷ g ∷ h ∷ i ∷ j ∷ k ∷ l ∷ m ∷ n ∷ o ∷ p ∷ []) (connectionAt (a ∷ b ∷ c ∷ d ∷ e ∷ f ∷ g ∷ h ∷ i ∷ j ∷ k ∷ l ∷ m ∷ n ∷ o ∷ p ∷ [])) w refl in
-    sym (ap (λ (r : Connection). sentRow (a ∷ b ∷ c ∷ d ∷ e ∷ f ∷ g ∷ h ∷ i ∷ j ∷ k ∷ l ∷ m ∷ n ∷ o ∷ p ∷ []) (renumbered r x y)) q) ∙ core a b c d e f g h i j k l m n o p x y (z .0) (z .1) (z .2) (z .3) ∙ ap (λ (r : Connection). connectionRow (a ∷ b ∷ c ∷ d ∷ e ∷ f ∷ g ∷ h ∷ i ∷ j ∷ k ∷ l ∷ m ∷ n ∷ o ∷ p ∷ []) (renumbered r x y)) q
+    sym (ap (λ (r : Connection). sentRow (a ∷ b ∷ c ∷ d ∷ e ∷ f ∷ g ∷ h ∷ i ∷ j ∷ k ∷ l ∷ m ∷ n ∷ o ∷ p ∷ []) (sentState r x y)) q) ∙ core a b c d e f g h i j k l m n o p x y (z .0) (z .1) (z .2) (z .3) ∙ ap (λ (r : Connection). connectionRow (a ∷ b ∷ c ∷ d ∷ e ∷ f ∷ g ∷ h ∷ i ∷ j ∷ k ∷ l ∷ m ∷ n ∷ o ∷ p ∷ []) (sentState r x y)) q
 
-pub sent-row : (s : List ℕ) (x y : ℕ) → fits s ≡ true → sentRow s (renumbered (connectionOf s) x y) ≡ connectionRow s (renumbered (connectionOf s) x y)
+pub sent-row : (s : List ℕ) (x y : ℕ) → fits s ≡ true → sentRow s (sentState (connectionOf s) x y) ≡ connectionRow s (sentState (connectionOf s) x y)
 sent-row s x y h = go s (fits-long s h .0) h
   where
     go : (s : List ℕ) → length s ≡ connectionSlots → Agrees x y s

@@ -9,9 +9,8 @@ use Rattle.descriptors.specs.Room as Slots
 use Rattle.descriptors.specs.Room.{mostDescriptors}
 use Rattle.model.specs.Reading.{Rooms, rooms, slotsOf}
 use Rattle.model.specs.Moved.{movedState}
-use Rattle.model.specs.Promise.{Done, Exact, outputOf}
+use Rattle.model.specs.Promise.{Done, Exact, outputOf, same}
 use Rattle.model.specs.Says.{saysNext, saysClosed}
-use Rattle.sending.specs.Send.{same}
 use Rattle.model.specs.declared.Connection.{Connection}
 use Rattle.model.specs.declared.Next.{Next}
 use Rattle.model.specs.declared.Closed.{Closed}

@@ -10,12 +10,11 @@ use Rattle.descriptors.specs.Theorems as Fds
 use Rattle.descriptors.specs.declared.Counts.{Counts}
 use Rattle.descriptors.specs.Room.{mostDescriptors}
 use Rattle.model.specs.Reading.{rooms, slotsOf}
-use Rattle.model.specs.Promise.{answerOf, roomsOf, outputOf, exact-refused}
+use Rattle.model.specs.Promise.{answerOf, roomsOf, outputOf, exact-refused, same}
 use Rattle.model.specs.declared.Connection.{Connection}
 use Rattle.model.specs.declared.Next.the-variants as Next
 use Rattle.model.specs.declared.Closed.the-variants as Closed
 use Rattle.refusal.specs.declared.Refusal.the-variants as Refusal
-use Rattle.sending.specs.Send.{same}
 use Rattle.model.specs.Moved.{movedState}
 use Rattle.sending.specs.Fds.{movedTo, enqueueFdsExact, closeExact, EnqueueFdsStep, CloseStep}
 

@@ -10,13 +10,14 @@ use Rattle.sequence.specs.Sending.{Numbers, sending}
 use Rattle.requests.specs.Room.{putRequest}
 use Rattle.model.specs.Model.{hasReply, joining}
 use Rattle.model.specs.Reading.{Rooms, rooms, count}
-use Rattle.model.specs.Promise.{Done, Exact, answerOf, roomsOf, exact-refused}
+use Rattle.model.specs.Promise.{Done, Exact, answerOf, roomsOf, exact-refused, same}
 use Rattle.model.specs.Says.{saysSent}
 use Rattle.model.specs.declared.Connection.{Connection}
 use Rattle.model.specs.declared.ReplyFdKind.{ReplyFdKind}
 use Rattle.model.specs.declared.Sent.{Sent}
 use Rattle.model.specs.declared.Sent.the-variants as Sent
-use Rattle.sending.specs.Send.{sentState, sendExact, same, SendStep}
+use Rattle.model.specs.Moved.{sentState}
+use Rattle.sending.specs.Send.{sendExact, SendStep}
 
 -- what a number comes to
 abbrev sentAs : Connection → Rooms → ReplyFdKind → Numbers → Answer (Done ℕ)

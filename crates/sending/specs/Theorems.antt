@@ -23,12 +23,12 @@ use Rattle.held.specs.Moves.{left}
 use Rattle.held.specs.Theorems as Held
 use Rattle.model.specs.Reading.{Rooms, rooms, count, slotsOf, withDescriptors, reads}
 use Rattle.model.specs.ReadingLaws.{length-out, inside-read, length-close}
-use Rattle.model.specs.Moved.{movedState, moved-read, moved-sound}
+use Rattle.model.specs.Moved.{movedState, moved-read, moved-sound, sentState}
 use Rattle.model.specs.Promise.{Done, modelOf, model-pass, model-refuse}
 use Rattle.model.specs.Sound.{Sound, room-there, slots-there}
 use Rattle.model.specs.declared.Connection.{Connection}
 use Rattle.model.specs.declared.ReplyFdKind.{ReplyFdKind}
-use Rattle.sending.specs.Send.{sentState, sendExact}
+use Rattle.sending.specs.Send.{sendExact}
 use Rattle.sending.specs.Fds.{enqueueFdsExact, closeExact}
 
 -- ---- sending

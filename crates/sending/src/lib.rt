@@ -18,9 +18,10 @@ ghost use mathlib.Core.Path.{_≡_};
 ghost use Prim.Native.Nat.{_<_};
 ghost use Rattle.requests.specs.Room.{capacity};
 ghost use Rattle.model.specs.Model.{hasReply, joining};
+ghost use Rattle.model.specs.Moved.{sentState};
 ghost use Rattle.model.specs.Sound.{Ranges};
 ghost use Rattle.descriptors.specs.Room as Slots;
-ghost use Rattle.sending.specs.Send.{SendStep, sentState};
+ghost use Rattle.sending.specs.Send.{SendStep};
 ghost use Rattle.sending.specs.Fds.{EnqueueFdsStep, CloseStep};
 
 // A request is sent. Refused by 3 and 6 as the rule of sending says, then by 5 where the room is

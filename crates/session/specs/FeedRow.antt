@@ -5,11 +5,11 @@ use Prim.Native.Nat.{ℕ, _<_}
 use lib.ListN.{length, getD}
 use Rattle.refusal.specs.Answer.{Answer, gives}
 use Rattle.packet_reader.specs.Frame.{cutPackets}
-use Rattle.intake.specs.Exact.{enqueueExact, shown}
+use Rattle.intake.specs.Exact.{enqueueExact}
 use Rattle.intake.specs.Theorems.{enqueue-model, enqueue-sound}
 use Rattle.model.specs.Model.{Filing, enqueuePacket}
 use Rattle.model.specs.Reading.{Rooms, reads}
-use Rattle.model.specs.Promise.{Done, answerOf, roomsOf, modelOf, guarded, guarded-on, exact-given, promise-sound}
+use Rattle.model.specs.Promise.{Done, answerOf, roomsOf, modelOf, guarded, guarded-on, exact-given, promise-sound, same}
 use Rattle.model.specs.Sound.{Sound, is-sound}
 use Rattle.model.specs.Batch.{goes, Many, Site, site, notes}
 use Rattle.model.specs.BatchLaws.{many-row}
@@ -36,8 +36,8 @@ module _ (P : Connection → Rooms → List Entry → Type 1)
       let d : Done Filing = record { value = v .filing; state = s' .state; left = s' .left } in
       let g : gives d ≡ e = took-goes (length p) e v s' q .1 in
       let h : Enqueues (s .state) (s .left) p (gives (v .filing, s' .state)) (s' .left) =
-      promise-sound shown e (λ m. enqueuePacket m p) (s .state) (s .left) (λ S. enqueue-model (s .state) (s .left) S p b) (gives (v .filing, s' .state)) (s' .left) (is-sound (s .state) (s .left) (k .sound))
-      (exact-given shown e (s .left) d g) in
+      promise-sound same e (λ m. enqueuePacket m p) (s .state) (s .left) (λ S. enqueue-model (s .state) (s .left) S p b) (gives (v .filing, s' .state)) (s' .left) (is-sound (s .state) (s .left) (k .sound))
+      (exact-given same e (s .left) d g) in
       record {
         sound = enqueue-sound (s .state) (s .left) (k .sound) p b d g;
         held = carries (s .state) (s .left) (n .log) (k .sound) (k .held) (next (n .numbers)) p b (v .filing) (s' .state) (s' .left) h;

@@ -7,7 +7,7 @@ use lib.ListN.{length, take}
 use Rattle.refusal.specs.Answer.{Answer, gives, refuses}
 use Rattle.model.specs.Client.{Held, Client}
 use Rattle.model.specs.Model.{hasReply, packet, pollForEvent}
-use Rattle.model.specs.Promise.{Done, answerOf, roomsOf, modelOf, guarded, Promise, exact-given, guarded-on, promise-sound}
+use Rattle.model.specs.Promise.{Done, answerOf, roomsOf, modelOf, guarded, Promise, exact-given, guarded-on, promise-sound, same}
 use Rattle.model.specs.Reading.{Rooms, reads}
 use Rattle.model.specs.Says.{shownEvent}
 use Rattle.model.specs.Sound.{Sound, is-sound}
@@ -16,7 +16,6 @@ use Rattle.model.specs.BatchLaws.{many-row}
 use Rattle.model.specs.SendRequests.{kindOf, ShownSendings, shownSendings}
 use Rattle.model.specs.PollForEvents.{turns, Lent, lent, roomFor, Handings, ShownHandings, shownHandings}
 use Rattle.model.specs.declared.Connection.{Connection}
-use Rattle.sending.specs.Send.{same}
 use Rattle.sending.specs.Theorems.{send-model, send-sound}
 use Rattle.polling.specs.Exact.{eventExact}
 use Rattle.polling.specs.Theorems.{event-model, event-leaves}

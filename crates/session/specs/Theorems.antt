@@ -9,7 +9,7 @@ use Rattle.refusal.specs.Answer.{Answer, gives, refuses, gives-same}
 use Rattle.model.specs.Client.{Held, Client}
 use Rattle.model.specs.Model.{hasReply, Filing, packet, pollForEvent}
 use Rattle.model.specs.Calls as Calls
-use Rattle.model.specs.Promise.{Done, Promise}
+use Rattle.model.specs.Promise.{Done, Promise, same}
 use Rattle.model.specs.Reading.{Rooms, reads}
 use Rattle.model.specs.Says.{shownTaken, shownEvent, shownPoll}
 use Rattle.model.specs.Sound.{Sound, is-sound}
@@ -17,7 +17,6 @@ use Rattle.model.specs.SendRequests.{kindOf, shownSendings}
 use Rattle.model.specs.PollForEvents.{shownHandings}
 use Rattle.model.specs.Feed.{shownFed}
 use Rattle.model.specs.declared.Connection.{Connection}
-use Rattle.sending.specs.Send.{same}
 use Rattle.sending.specs.Theorems as Sending
 use Rattle.intake.specs.Exact.{enqueueExact}
 use Rattle.intake.specs.Theorems as Intake

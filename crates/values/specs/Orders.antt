@@ -15,7 +15,7 @@ use Rattle.sequence.specs.Sending.{sending, mustSync}
 use Rattle.x11_utils.specs.Packet.{checked}
 use Rattle.id_allocator.specs.Ids.{powerBelow, sound, noIds, generated, updated}
 use Rattle.id_allocator.specs.declared.IdAllocator.{IdAllocator}
-use Rattle.xc_misc.specs.Requests.{room}
+use Rattle.xc_misc.specs.Requests.{roomFor}
 use Rattle.xc_misc.specs.Replies.{listOf, reaches, unitsChecked, replyChecked, listChecked, list}
 use Rattle.packet_reader.specs.Frame.{hasLength, total, totalOf, aim}
 use Rattle.packet_reader.specs.Reader as Reader
@@ -58,8 +58,8 @@ full-packet p first h =
     let l : 32 ≤ length p = omega arith in let m : length p ≤ 65536 = omega arith in simp (le-ltb (length p) 32 l, le-ltb 65536 (length p) m)
 
 -- requests: "elsewhere 9, then by number"
-pub requests : Gets (room 0 7 8) 8 × Gets (room 0 8 8) 13
-unfolding room legal refuse either
+pub requests : Gets (roomFor 0 7 8) 8 × Gets (roomFor 0 8 8) 13
+unfolding roomFor legal refuse either
 requests = (refl, refl)
 
 -- "advance 9, 7, 2"; "elsewhere 9, then by number"

@@ -8,7 +8,7 @@ use Rattle.octets.specs.Logic.{choose, both, either}
 use Rattle.sequence.specs.Numbering.{wireValues, FullNumber, full, inRange, full-least}
 use Rattle.packet_reader.specs.Frame.{hasLength, total}
 use Rattle.id_allocator.specs.Ids.{powerBelow, sound, noIds, generated, updated}
-use Rattle.id_allocator.specs.Runs.{after, call}
+use Rattle.id_allocator.specs.Runs.{afterCalls, call}
 use Rattle.id_allocator.specs.declared.IdAllocator.{IdAllocator}
 
 -- an allocator of step 1, as a range finds it
@@ -67,7 +67,7 @@ by-sum read wire a h e = record { number = full read wire; is-least = full-least
 
 -- THE VALUES: every row of the table holds.
 pub values : All table
-unfolding inRange full refuse hasLength total choose both either powerBelow sound noIds generated updated after call
+unfolding inRange full refuse hasLength total choose both either powerBelow sound noIds generated updated afterCalls call
 values = (
   by-sum 0 0 _ (omega arith) refl,
   (

@@ -33,12 +33,12 @@ unfoldable pub getXIDList : ℕ → ℕ → ℕ → List ℕ
 getXIDList o opcode count = header o opcode 2 2 ++ bytesOf o 4 count
 
 -- 01, Refusal numbers, "elsewhere 9, then by number": 8 where the output is too small, then 13; otherwise the bytes that are needed
-unfoldable pub room : ℕ → ℕ → ℕ → Answer ℕ
-room o have need = refuse (ltb have need) 8 (refuse (not (legal o)) 13 (gives need))
+unfoldable pub roomFor : ℕ → ℕ → ℕ → Answer ℕ
+roomFor o have need = refuse (ltb have need) 8 (refuse (not (legal o)) 13 (gives need))
 
 -- A call that writes a request: its answer, and the output that it leaves.
 pub record Writes (o : ℕ) (request before : List ℕ) (a : Answer ℕ) (left : List ℕ) : Type 0 where
-  pub answers : a ≡ room o (length before) (length request)
+  pub answers : a ≡ roomFor o (length before) (length request)
   pub left-is : left ≡ leaves a request before
 
 -- what the enum `Written` says
@@ -95,18 +95,18 @@ put-list o opcode count s s₁ s₂ h p q =
     put-more s s₁ s₂ 4 (header o opcode 2 2) (bytesOf o 4 count) (length-header o opcode 2 2) (omega arith) p q
 
 -- an output that passed has room
-pub room-there : (o have need : ℕ) {n : ℕ} → gives n ≡ room o have need → (need ≤ have) × (n ≡ need)
-unfolding room
+pub room-there : (o have need : ℕ) {n : ℕ} → gives n ≡ roomFor o have need → (need ≤ have) × (n ≡ need)
+unfolding roomFor
 room-there o have need e =
     let q = gives-rest _ _ _ e in let f = gives-rest _ _ _ q in (ltb-false _ _ (gives-past _ _ _ e), cc)
 
 -- A request is written where the room was found, and nothing is where it was not.
-pub writes-given : (o : ℕ) (request before left : List ℕ) (need n : ℕ) → length request ≡ need → gives n ≡ room o (length before) need → left ≡ put before 0 request
+pub writes-given : (o : ℕ) (request before left : List ℕ) (need n : ℕ) → length request ≡ need → gives n ≡ roomFor o (length before) need → left ≡ put before 0 request
     → Writes o request before (gives n) left
-writes-given o request before left need n l e p = record { answers = e ∙ ap (room o (length before)) (sym l); left-is = p }
+writes-given o request before left need n l e p = record { answers = e ∙ ap (roomFor o (length before)) (sym l); left-is = p }
 
-pub writes-refused : (o : ℕ) (request before : List ℕ) (need n : ℕ) → length request ≡ need → refuses n ≡ room o (length before) need → Writes o request before (refuses n) before
-writes-refused o request before need n l e = record { answers = e ∙ ap (room o (length before)) (sym l); left-is = refl }
+pub writes-refused : (o : ℕ) (request before : List ℕ) (need n : ℕ) → length request ≡ need → refuses n ≡ roomFor o (length before) need → Writes o request before (refuses n) before
+writes-refused o request before need n l e = record { answers = e ∙ ap (roomFor o (length before)) (sym l); left-is = refl }
 
 -- Two answers that say the same are equal.
 back : Answer ℕ → Written

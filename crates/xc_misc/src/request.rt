@@ -3,7 +3,7 @@ ghost use mathlib.Core.Path.{_≡_};
 ghost use Prim.Native.Nat.{_≤_};
 ghost use lib.ListN.{length};
 ghost use Rattle.octets.specs.Put.{put};
-ghost use Rattle.xc_misc.specs.Requests.{header, getVersion, getXIDRange, getXIDList, room, saysWritten, Writes};
+ghost use Rattle.xc_misc.specs.Requests.{header, getVersion, getXIDRange, getXIDList, roomFor, saysWritten, Writes};
 use refusal::Refusal;
 
 // XC-MISC, Encoding: the opcodes of the requests.
@@ -60,7 +60,7 @@ pub fn get_xid_list_request(order: u8, opcode: u8, count: u32, out: &mut [u8]) -
 }
 
 fn room_for(order: u8, have: usize, need: usize) -> Written
-    ensures { λ r. ⌜ saysWritten r ≡ room order have need ⌝ }
+    ensures { λ r. ⌜ saysWritten r ≡ roomFor order have need ⌝ }
 {
     if have < need {
         return Written::Refused(Refusal::OutShort);

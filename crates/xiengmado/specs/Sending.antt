@@ -8,11 +8,12 @@ use Rattle.octets.specs.Logic.{apart}
 use Rattle.refusal.specs.Answer.{Answer, gives, refuses, refuse, pass}
 use Rattle.sequence.specs.Sending as Rule
 use Rattle.model.specs.Reading.{Rooms}
-use Rattle.model.specs.Promise.{Done, answerOf, guarded, guarded-on, guarded-off}
+use Rattle.model.specs.Promise.{Done, answerOf, guarded, guarded-on, guarded-off, same}
 use Rattle.model.specs.Sound.{soundb}
 use Rattle.model.specs.declared.Connection.{Connection}
 use Rattle.model.specs.declared.ReplyFdKind.{ReplyFdKind}
-use Rattle.sending.specs.Send.{same, sendExact, sentState}
+use Rattle.model.specs.Moved.{sentState}
+use Rattle.sending.specs.Send.{sendExact}
 use Rattle.connection.specs.Calls.{Sends}
 use Rattle.rows.specs.State.{fits, connectionOf, connectionRow, sentRow}
 use Rattle.rows.specs.Theorems.{connection-unfit, sent-row}

@@ -2,7 +2,7 @@
 use mathlib.Core.Path.{sym, ap, _∙_}
 use borrow.Author.Needs.{needs}
 use Rattle.id_allocator.specs.Ids.{saysGenerated}
-use Rattle.id_allocator.specs.Runs.{idOf, leaves}
+use Rattle.id_allocator.specs.Runs.{idOf, nextOf}
 use Rattle.id_allocator.proofs.lent.id_turn.Statement.{statement}
 use Rattle.id_allocator.proofs.lent.id_turn.Tie as tie
 
@@ -18,12 +18,12 @@ enum-known-r c = search needs
 returns : tie.Need-returns
 returns c =
     let e = ap saysGenerated (sym (c .before .id .given .1)) ∙ c .before .before .before .generate-id .ensures in
-    record { answer = ap idOf e; exit = ap (leaves (c .before .before .before .before .args .a)) e }
+    record { answer = ap idOf e; exit = ap (nextOf (c .before .before .before .before .args .a)) e }
 
 returns-2 : tie.Need-returns-2
 returns-2 c =
     let e = ap saysGenerated (sym (c .before .r .given .1)) ∙ c .before .before .before .generate-id .ensures in
-    record { answer = ap idOf e; exit = ap (leaves (c .before .before .before .before .args .a)) e }
+    record { answer = ap idOf e; exit = ap (nextOf (c .before .before .before .before .args .a)) e }
 
 pub id-turn-spec : {M : Type 1} → statement M
 id-turn-spec =
