@@ -89,25 +89,22 @@ kept-left x y one =
     let k = kept-one x y (λ a b p q. one a b p q .0) in
     (k .0, k .1, k .2, one (x .exported .answer) (y .exported .answer) (x .exported .promise) (y .exported .promise) .1)
 
--- A promise behind a test allows one answer where the promise itself does,
+-- Behind a test two promises allow one answer, and leave the same, where they do themselves and all is left as found otherwise;
+pub when-left : {A L : Type 0} {b : Bool} {same same' : Type 0} {P Q : Answer A → Type 0} → (same → same' → L) → ((x y : Answer A) → P x → Q y → (x ≡ y) × L) → (x y : Answer A)
+    → When b same P x → When b same' Q y → (x ≡ y) × L
+when-left found one x y (on h p) (on k q) = one x y p q
+when-left found one x y (on h p) (off k s) = apart h k
+when-left found one x y (off h s) (on k q) = apart k h
+when-left found one x y (off h s) (off k t) = (refl, found s t)
+
+-- so where they leave nothing, one answer.
 pub when-one : {A : Type 0} {b : Bool} {same same' : Type 0} {P Q : Answer A → Type 0} → ((x y : Answer A) → P x → Q y → x ≡ y) → (x y : Answer A) → When b same P x → When b same' Q y → x ≡ y
-when-one one x y (on h p) (on k q) = one x y p q
-when-one one x y (on h p) (off k s) = apart h k
-when-one one x y (off h s) (on k q) = apart k h
-when-one one x y (off h s) (off k t) = refl
+when-one one x y h k = when-left {L = Unit {0}} (λ s t. tt) (λ v w p q. (one v w p q, tt)) x y h k .0
 
 -- Where the test fails, the refusal is by 9 and all is as found.
 pub when-off : {A : Type 0} {b : Bool} {same : Type 0} {P : Answer A → Type 0} {x : Answer A} → b ≡ false → When b same P x → (x ≡ refuses 9) × same
 when-off e (on h p) = apart h e
 when-off e (off h s) = (refl, s)
-
--- and leaves the same where the promise does and all is left as found otherwise.
-pub when-left : {A L : Type 0} {b : Bool} {same same' : Type 0} {P Q : Answer A → Type 0} → (same → same' → L) → ((x y : Answer A) → P x → Q y → (x ≡ y) × L) → (x y : Answer A)
-    → When b same P x → When b same' Q y → (x ≡ y) × L
-when-left both one x y (on h p) (on k q) = one x y p q
-when-left both one x y (on h p) (off k s) = apart h k
-when-left both one x y (off h s) (on k q) = apart k h
-when-left both one x y (off h s) (off k t) = (refl, both s t)
 
 -- one of the numbers shown
 pub shown-at : {u w : List ℕ} (i : ℕ) → u ≡ w → getD u i 0 ≡ getD w i 0

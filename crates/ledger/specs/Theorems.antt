@@ -2,7 +2,7 @@
 use mathlib.Core.Bool.{Bool, true}
 use mathlib.Core.List.{List, _∷_, _++_}
 use mathlib.Core.Logic.{_↔_}
-use mathlib.Core.Path.{_≡_, sym}
+use mathlib.Core.Path.{_≡_, sym, refl}
 use Prim.Native.Nat.{ℕ, _+_, _-_, _≤_, _<_}
 use lib.ListN.{length, getD, drop}
 use Rattle.refusal.specs.Answer.{Answer, gives, refuses}
@@ -139,6 +139,11 @@ pub session-sound : {c : Connection} {r : Rooms} {l : List Log.Entry} → Sessio
 session-sound k = Session.session-sound k
 
 -- ---- 3. USED, AND NO ROOM
+
+-- 01, Numbering and filing: "A held record costs 16 bytes and its packet length".
+pub record-costs : (h : Held) (l : List Held) → costs (h ∷ l) ≡ 16 + length (h .packet) + costs l
+unfolding costs
+record-costs h l = refl
 
 -- What the window of a sound state has is the sum of the costs over both lists.
 pub used-sum : (c : Connection) (r : Rooms) → Sound c r → c .window .end - c .window .start ≡ costs (reads c r .replies) + costs (reads c r .events)

@@ -170,45 +170,36 @@ pub(crate) fn prepare_check_for_reply_or_error(
     Ok(sync)
 }
 
-#[inline]
-pub(crate) fn poll_check_for_reply_or_error(
-    state: &mut [u64],
-    rooms: &mut Rooms,
-    number: u64,
-    out: &mut [u8],
-) -> Result<(u8, usize), Refusal> {
-    let (mut result, mut size) = (0, 0);
-    call!(xm_poll_check_for_reply_or_error(
-        state,
-        rooms,
-        number,
-        out.as_mut_ptr(),
-        out.len(),
-        &mut result,
-        &mut size
-    ))?;
-    Ok((result, size))
+/// A poll that says TryAgain, NoReply, or how many bytes of a reply are in the output.
+macro_rules! poll {
+    ($name:ident, $export:ident) => {
+        #[inline]
+        pub(crate) fn $name(
+            state: &mut [u64],
+            rooms: &mut Rooms,
+            number: u64,
+            out: &mut [u8],
+        ) -> Result<(u8, usize), Refusal> {
+            let (mut result, mut size) = (0, 0);
+            call!($export(
+                state,
+                rooms,
+                number,
+                out.as_mut_ptr(),
+                out.len(),
+                &mut result,
+                &mut size
+            ))?;
+            Ok((result, size))
+        }
+    };
 }
 
-#[inline]
-pub(crate) fn poll_for_reply(
-    state: &mut [u64],
-    rooms: &mut Rooms,
-    number: u64,
-    out: &mut [u8],
-) -> Result<(u8, usize), Refusal> {
-    let (mut result, mut size) = (0, 0);
-    call!(xm_poll_for_reply(
-        state,
-        rooms,
-        number,
-        out.as_mut_ptr(),
-        out.len(),
-        &mut result,
-        &mut size
-    ))?;
-    Ok((result, size))
-}
+poll!(
+    poll_check_for_reply_or_error,
+    xm_poll_check_for_reply_or_error
+);
+poll!(poll_for_reply, xm_poll_for_reply);
 
 #[inline]
 pub(crate) fn poll_for_event_with_sequence(

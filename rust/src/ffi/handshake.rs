@@ -1,6 +1,6 @@
 //! The handshake.
 
-use super::answer;
+use super::{answer, part};
 use crate::errors::Refusal;
 use crate::exports::*;
 
@@ -60,19 +60,7 @@ pub(crate) fn connect_remaining_capacity(connect: &[u64], buf: &[u8]) -> Result<
 
 #[inline]
 pub(crate) fn connect_buffer(connect: &[u64], buf: &[u8]) -> Result<(usize, usize), Refusal> {
-    let (mut start, mut size) = (0, 0);
-    // SAFETY: whole slices and numbers of their own.
-    answer(unsafe {
-        xm_connect_buffer(
-            connect.as_ptr(),
-            connect.len(),
-            buf.as_ptr(),
-            buf.len(),
-            &mut start,
-            &mut size,
-        )
-    })?;
-    Ok((start, size))
+    part(xm_connect_buffer, connect, buf)
 }
 
 #[inline]
@@ -120,34 +108,10 @@ pub(crate) fn connect_setup(
 
 #[inline]
 pub(crate) fn connect_vendor(connect: &[u64], buf: &[u8]) -> Result<(usize, usize), Refusal> {
-    let (mut start, mut size) = (0, 0);
-    // SAFETY: whole slices and numbers of their own.
-    answer(unsafe {
-        xm_connect_vendor(
-            connect.as_ptr(),
-            connect.len(),
-            buf.as_ptr(),
-            buf.len(),
-            &mut start,
-            &mut size,
-        )
-    })?;
-    Ok((start, size))
+    part(xm_connect_vendor, connect, buf)
 }
 
 #[inline]
 pub(crate) fn connect_reason(connect: &[u64], buf: &[u8]) -> Result<(usize, usize), Refusal> {
-    let (mut start, mut size) = (0, 0);
-    // SAFETY: whole slices and numbers of their own.
-    answer(unsafe {
-        xm_connect_reason(
-            connect.as_ptr(),
-            connect.len(),
-            buf.as_ptr(),
-            buf.len(),
-            &mut start,
-            &mut size,
-        )
-    })?;
-    Ok((start, size))
+    part(xm_connect_reason, connect, buf)
 }

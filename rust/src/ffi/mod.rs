@@ -41,6 +41,28 @@ fn answer(code: u32) -> Result<(), Refusal> {
     }
 }
 
+/// An export that says where a part of a buffer stands.
+type ShowsPart =
+    unsafe extern "C" fn(*const u64, usize, *const u8, usize, &mut usize, &mut usize) -> u32;
+
+/// The start and the size of that part.
+#[inline]
+fn part(export: ShowsPart, row: &[u64], buf: &[u8]) -> Result<(usize, usize), Refusal> {
+    let (mut start, mut size) = (0, 0);
+    // SAFETY: whole slices and numbers of their own.
+    answer(unsafe {
+        export(
+            row.as_ptr(),
+            row.len(),
+            buf.as_ptr(),
+            buf.len(),
+            &mut start,
+            &mut size,
+        )
+    })?;
+    Ok((start, size))
+}
+
 /// A descriptor as the engine sees it: an opaque number.
 #[inline]
 pub(crate) fn number(fd: &OwnedFd) -> u32 {

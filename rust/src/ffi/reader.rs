@@ -1,6 +1,6 @@
 //! The packet reader.
 
-use super::answer;
+use super::{answer, part};
 use crate::errors::Refusal;
 use crate::exports::*;
 
@@ -36,19 +36,7 @@ pub(crate) fn reader_remaining_capacity(reader: &[u64], buf: &[u8]) -> Result<us
 
 #[inline]
 pub(crate) fn reader_buffer(reader: &[u64], buf: &[u8]) -> Result<(usize, usize), Refusal> {
-    let (mut start, mut size) = (0, 0);
-    // SAFETY: whole slices and numbers of their own.
-    answer(unsafe {
-        xm_reader_buffer(
-            reader.as_ptr(),
-            reader.len(),
-            buf.as_ptr(),
-            buf.len(),
-            &mut start,
-            &mut size,
-        )
-    })?;
-    Ok((start, size))
+    part(xm_reader_buffer, reader, buf)
 }
 
 #[inline]
