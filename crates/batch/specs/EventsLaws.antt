@@ -36,6 +36,7 @@ use Rattle.model.specs.Moved.{movedState}
 use Rattle.polling.specs.Exact.{eventAt, without, stays, moved, eventFrom, eventExact, EventStep}
 use Rattle.polling.specs.Left.{event-is}
 use Rattle.polling.specs.Theorems.{ready}
+use Rattle.packet.specs.Packet.{leastPacket}
 use Rattle.batch.specs.Events.{placed, marked, Markable, roomLeft, TurnStep, Stored}
 
 -- ---- what is found decides a poll
@@ -61,7 +62,7 @@ module _ (c : Connection) (s : List ℕ) (R : Stored c s) (p : Place) (F : First
   place-long : length (eventAt (rooms [] s []) p .packet) ≡ p .len
   place-long = ap length place-packet ∙ sym (F .len)
 
-  place-least : Record.leastPacket ≤ p .len
+  place-least : leastPacket ≤ p .len
   place-least =
       let fit = ready c (rooms (R .requests) s (R .slots)) (R .sound) .held .readable .fit in
       let z = all-here Record.Fits (F .lies .front) (F .it) (F .lies .back) (subst (Store.All Record.Fits) (F .lies .split) fit) in
@@ -73,7 +74,7 @@ pub record Out (c : Connection) (s : List ℕ) (bytes n len : ℕ) (next : Conne
   pub it : Held
   pub number : n ≡ it .number
   pub long : len ≡ length (it .packet)
-  pub least : Record.leastPacket ≤ len
+  pub least : leastPacket ≤ len
   pub most : len ≤ bytes
   pub given : (q f : List ℕ) → gives (record { value = packet it; state = next; left = rooms q s' f }) ≡ eventExact c (rooms q s f) bytes
 
@@ -181,7 +182,7 @@ room-most marks room = go (leb 2 marks)
     go false = omega (arith, room-few 0 room (omega arith))
 
 -- where a packet is given there are two marks
-pub marks-there : (marks room len : ℕ) → Record.leastPacket ≤ len → len ≤ roomFor (leb 2 marks) room → 2 ≤ marks
+pub marks-there : (marks room len : ℕ) → leastPacket ≤ len → len ≤ roomFor (leb 2 marks) room → 2 ≤ marks
 marks-there marks room len h k =
     elim (decLe 2 marks) [ yes p ↦ p | no q ↦ absurd (let z : ⊥ = omega (arith, room-few marks room (omega arith)) in z) ]
 

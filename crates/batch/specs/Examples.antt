@@ -9,7 +9,8 @@ use Rattle.octets.specs.Put.{cut}
 use Rattle.octets.specs.Field.{field}
 use Rattle.refusal.specs.Answer.{Answer, gives, refuses, refuse, pass}
 use Rattle.sequence.specs.Numbering.{full, inRange}
-use Rattle.packet_reader.specs.Frame.{hasLength, total, totalOf, aim, cuts, cutPackets}
+use Rattle.packet.specs.Packet.{hasLength, unnumbered, numberAfter}
+use Rattle.packet_reader.specs.Frame.{total, totalOf, aim, cuts, cutPackets}
 use Rattle.model.specs.Client.{Client, costs, descriptorsOf}
 use Rattle.model.specs.Model as Model
 use Rattle.model.specs.Batch.{many, onTurn}
@@ -37,5 +38,5 @@ longer = 1 ∷ 0 ∷ 2 ∷ 0 ∷ 1 ∷ replicate 31 0
 
 -- two packets and part of a third; the fourth of four finds no room; of part of a packet nothing is taken; no bytes are the end
 pub feeds : (fed (event ++ longer ++ 2 ∷ 0 ∷ []) ≡ took 68 2 partial) × (fed (event ++ event ++ event ++ event) ≡ took 96 3 (refused 5)) × (fed (2 ∷ 0 ∷ []) ≡ took 0 0 partial) × (fed [] ≡ took 0 0 ended)
-unfolding enqueuePackets cutPackets cuts aim totalOf total hasLength stopAt many onTurn modelTook bytesTaken Model.enqueuePacket Model.packetNumber Model.numbered Model.askedOf Model.headOf Model.placeOf Model.claimed Model.takeIn pass refuse inRange full field numberIn cut turned bytesOf lowBytes lowNumber costs descriptorsOf choose both either
+unfolding enqueuePackets cutPackets cuts aim totalOf total hasLength stopAt many onTurn modelTook bytesTaken Model.enqueuePacket numberAfter unnumbered Model.numbered Model.askedOf Model.headOf Model.placeOf Model.claimed Model.takeIn pass refuse inRange full field numberIn cut turned bytesOf lowBytes lowNumber costs descriptorsOf choose both either
 feeds = (refl, refl, refl, refl)

@@ -10,12 +10,12 @@ use lib.Seq.{length-take-le, getD-take, getD-drop}
 use borrow.Author.Tests.{ltb-true, ltb-false, lt-ltb, le-ltb, eq-eqb, ne-eqb}
 use Rattle.octets.specs.Logic.{choose}
 use Rattle.refusal.specs.Answer.{Answer, gives, refuses, refuse, pass, gives-same}
-use Rattle.packet_reader.specs.Frame.{aim, Cut, cons, cuts, cutPackets, fixed}
+use Rattle.packet.specs.Packet.{leastPacket, mostPacket}
+use Rattle.packet_reader.specs.Frame.{aim, Cut, cons, cuts, cutPackets}
 use Rattle.packet_reader.specs.CutLaws.{aim-least}
 use Rattle.packet_reader.specs.Reader.{mostBuffer}
 use Rattle.packet_reader.specs.Front.{Front, nothing, part, long, whole, frontOf, Part, Long, Whole, tells-nothing, tells-part, tells-long, tells-whole, packets-none, packets-next}
-use Rattle.held.specs.Head.{leastPacket, mostPacket}
-use Rattle.intake.specs.Plan.{planOf}
+use Rattle.filing.specs.Plan.{planOf}
 use Rattle.intake.specs.Exact.{enqueueExact}
 use Rattle.intake.specs.Theorems.{enqueue-model, enqueue-sound}
 use Rattle.model.specs.Model.{Filing, enqueuePacket}
@@ -77,7 +77,7 @@ cut-whole o b n w =
 
 -- what a turn that goes on leaves of the row
 pub record Goes (o : ℕ) (vs : List Took) (s : Site) (b : List ℕ) (v : Took) (s' : Site) : Type 0 where
-  pub least : fixed ≤ v .bytes
+  pub least : leastPacket ≤ v .bytes
   pub fits : v .bytes ≤ length b
   pub exact : gives (record { value = v .filing; state = s' .state; left = s' .left }) ≡ enqueueExact (s .state) (s .left) (take (v .bytes) b)
   pub ahead : onward vs (row o s (cutPackets o b)) ≡ onward (vs ++ (v ∷ [])) (row o s' (cutPackets o (drop (v .bytes) b)))

@@ -10,7 +10,8 @@ use Rattle.refusal.specs.Numbers.{numberOf}
 use Rattle.refusal.specs.declared.Refusal.{Refusal}
 use Rattle.refusal.specs.declared.Refusal.the-variants as Refusal
 use Rattle.sequence.specs.declared.SequenceNumber.{SequenceNumber}
-use Rattle.packet_reader.specs.Frame.{cutPackets, fixed}
+use Rattle.packet.specs.Packet.{leastPacket}
+use Rattle.packet_reader.specs.Frame.{cutPackets}
 use Rattle.packet_reader.specs.CutLaws.{aim-least}
 use Rattle.packet_reader.specs.Front.{Front, frontOf, saysBegins, tells-whole, packets-none}
 use Rattle.packet_reader.specs.declared.Begins.{Begins}
@@ -187,7 +188,7 @@ module _ (c₀ : Connection) (q s₀ f₀ bytes : List ℕ) where
             let z = on-goes _ _ a _ T n next e in
             (z .0, z .1, turn-goes (c₀ .order) (I .given) (site c (rooms q s f)) b (z .0) (site next (rooms q s' f')) (z .2))
 
-        pub inv-least : fixed ≤ n
+        pub inv-least : leastPacket ≤ n
         inv-least = omega (arith, went .1, went .2 .least)
 
         pub inv-next : ((i : ℕ) → getD bytes i 0 < 256) → length s' ≡ length s → length f' ≡ length f → Inv (c₀ .order) c₀ q s₀ f₀ bytes next s' f' (at + n) (packets + 1)

@@ -9,7 +9,8 @@ use borrow.Author.Tests.{le-ltb}
 use Rattle.octets.specs.Put.{put, cut, length-cut, set-two}
 use Rattle.refusal.specs.Answer.{Answer, gives}
 use Rattle.sequence.specs.declared.SequenceNumber.{SequenceNumber}
-use Rattle.held.specs.Head.{headerSize, leastPacket, event, numOf, lenOf, kindOf}
+use Rattle.packet.specs.Packet.{leastPacket}
+use Rattle.held.specs.Head.{headerSize, event, numOf, lenOf, kindOf}
 use Rattle.held.specs.Reading.{Readable}
 use Rattle.held.specs.Moves.{window, Left}
 use Rattle.held.specs.First.{firstPlace, first-room, first-found, removed-first}

@@ -6,7 +6,7 @@ use Prim.Native.Nat.{ℕ, _≤_}
 use lib.ListN.{length, take, getD}
 use lib.Seq.{length-take-le}
 use Rattle.sequence.specs.declared.SequenceNumber.{SequenceNumber}
-use Rattle.packet_reader.specs.Frame.{fixed, hasLength}
+use Rattle.packet.specs.Packet.{leastPacket, hasLength}
 use Rattle.packet_reader.specs.Front.{Front, whole, front-fixed}
 use Rattle.intake.specs.Exact.{enqueueExact}
 use Rattle.intake.specs.Event.{Writable, PlainEvent, IsPlain, PlainStep, ready-writable}
@@ -24,9 +24,9 @@ use Rattle.batch.specs.FeedLoop.{took-on}
 
 -- the bytes begin with such an event, and its number is n
 pub record EventAhead (c : Connection) (s b : List ℕ) (n : ℕ) : Type 0 where
-  pub there : fixed ≤ length b
+  pub there : leastPacket ≤ length b
   pub short : hasLength (getD b 0 0) ≡ false
-  pub plain : PlainEvent c s (take fixed b) n
+  pub plain : PlainEvent c s (take leastPacket b) n
 
 abbrev pub IsAhead : Connection → List ℕ → List ℕ → Plain → Type 0
 IsAhead c s b (Plain.Event n) = EventAhead c s b (n .0)
@@ -34,23 +34,23 @@ IsAhead c s b Plain.Other = Unit {0}
 
 -- To take it in is the turn over the bytes ahead, whatever the byte order and the rooms that are not lent.
 pub record PlainTurn (c : Connection) (s b : List ℕ) (a : Connection) (s' : List ℕ) : Type 0 where
-  pub turn : (o : ℕ) (q f : List ℕ) → FrontTurn o c q s f b (Turned.On fixed a) s' f
+  pub turn : (o : ℕ) (q f : List ℕ) → FrontTurn o c q s f b (Turned.On leastPacket a) s' f
 
 -- ---- laws
 
-pub ahead-is : (c : Connection) (s b : List ℕ) (x : Plain) → fixed ≤ length b → hasLength (getD b 0 0) ≡ false → IsPlain c s (take fixed b) x → IsAhead c s b x
+pub ahead-is : (c : Connection) (s b : List ℕ) (x : Plain) → leastPacket ≤ length b → hasLength (getD b 0 0) ≡ false → IsPlain c s (take leastPacket b) x → IsAhead c s b x
 ahead-is c s b (Plain.Event n) h e P = record { there = h; short = e; plain = P }
 ahead-is c s b Plain.Other h e P = tt
 
-pub plain-turn : (c : Connection) (s b : List ℕ) (n : ℕ) (a : Connection) (s' : List ℕ) → EventAhead c s b n → PlainStep c s (take fixed b) n a s' → PlainTurn c s b a s'
+pub plain-turn : (c : Connection) (s b : List ℕ) (n : ℕ) (a : Connection) (s' : List ℕ) → EventAhead c s b n → PlainStep c s (take leastPacket b) n a s' → PlainTurn c s b a s'
 unfolding turnBy answerOf roomsOf
 plain-turn c s b n a s' A S =
-    let l : length (take fixed b) ≡ fixed = length-take-le fixed b (A .there) in
+    let l : length (take leastPacket b) ≡ leastPacket = length-take-le leastPacket b (A .there) in
     record {
       turn = λ o q f.
-          subst (λ (y : Front). TurnIs (turnBy (site c (rooms q s f)) b y) (rooms q s f) (Turned.On fixed a) (rooms q s' f)) (front-fixed o b (A .there) (A .short))
-          (subst (λ (k : ℕ). TurnIs (turnBy (site c (rooms q s f)) b (whole fixed)) (rooms q s f) (Turned.On k a) (rooms q s' f)) l
-          (took-on (length (take fixed b)) (enqueueExact c (rooms q s f) (take fixed b)) (rooms q s f) (rooms q s' f) _ a (ap (answerOf same) (S .exact q f)) (ap (λ y. roomsOf y (rooms q s f)) (S .exact q f))));
+          subst (λ (y : Front). TurnIs (turnBy (site c (rooms q s f)) b y) (rooms q s f) (Turned.On leastPacket a) (rooms q s' f)) (front-fixed o b (A .there) (A .short))
+          (subst (λ (k : ℕ). TurnIs (turnBy (site c (rooms q s f)) b (whole leastPacket)) (rooms q s f) (Turned.On k a) (rooms q s' f)) l
+          (took-on (length (take leastPacket b)) (enqueueExact c (rooms q s f) (take leastPacket b)) (rooms q s f) (rooms q s' f) _ a (ap (answerOf same) (S .exact q f)) (ap (λ y. roomsOf y (rooms q s f)) (S .exact q f))));
     }
 
 pub ahead-event : (c : Connection) (s b : List ℕ) (x : Plain) (n : SequenceNumber) → IsAhead c s b x → x ≡ Plain.Event n → EventAhead c s b (n .0)

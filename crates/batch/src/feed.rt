@@ -10,7 +10,7 @@ use model::Halt;
 use packet_reader::Begins;
 use refusal::Refusal;
 use sequence::SequenceNumber;
-ghost use Rattle.intake.specs.Plan.{Ready};
+ghost use Rattle.intake.specs.Exact.{Ready};
 ghost use Rattle.intake.specs.Event.{Writable};
 ghost use Rattle.model.specs.Reading.{rooms};
 ghost use Rattle.model.specs.Sound.{Sound};
@@ -65,13 +65,13 @@ fn plain_ahead(c: Connection, store: &[u8], bytes: &[u8]) -> Plain
     requires { ⌜ Writable c (now store) ⌝ }
     ensures { λ r. ⌜ IsAhead c (now (store .entry)) (now (bytes .entry)) r ⌝ }
 {
-    if bytes.len() < packet_reader::FIXED {
+    if bytes.len() < packet::LEAST_PACKET {
         return Plain::Other;
     }
-    if packet_reader::has_length(bytes[0]) {
+    if packet::has_length(bytes[0]) {
         return Plain::Other;
     }
-    intake::plain_of(c, store, &bytes[..packet_reader::FIXED])
+    intake::plain_of(c, store, &bytes[..packet::LEAST_PACKET])
 }
 
 // That event is taken in.
@@ -79,7 +79,7 @@ fn plain_turn(c: Connection, store: &mut [u8], bytes: &[u8], number: SequenceNum
     requires { ⌜ Writable c (now store) × EventAhead c (now store) (now bytes) (number .0) ⌝ }
     ensures { λ r. ⌜ PlainTurn c (now (store .entry)) (now (bytes .entry)) r (now (store .exit)) ⌝ }
 {
-    intake::take_plain(c, store, &bytes[..packet_reader::FIXED], number)
+    intake::take_plain(c, store, &bytes[..packet::LEAST_PACKET], number)
 }
 
 // Every whole packet that the bytes begin with is taken in, up to the first that is refused.
@@ -102,7 +102,7 @@ pub fn enqueue_packets(
         match plain_ahead(state, store, ahead) {
             Plain::Event(number) => {
                 state = plain_turn(state, store, ahead, number);
-                at += packet_reader::FIXED;
+                at += packet::LEAST_PACKET;
                 packets += 1;
                 continue;
             }

@@ -5,7 +5,8 @@ use mathlib.Core.List.{List, []}
 use Prim.Native.Nat.{ℕ, _+_, _-_, _≤_}
 use native.Mathlib.Omega.{arith}
 use lib.ListN.{getD, length}
-use Rattle.held.specs.Head.{event, headerSize, leastPacket, mostPacket}
+use Rattle.packet.specs.Packet.{leastPacket, mostPacket}
+use Rattle.held.specs.Head.{event, headerSize}
 use Rattle.held.specs.Reading.{Sound, used}
 use Rattle.held.specs.Walk.{walked}
 use Rattle.held.specs.Find.{foundEvent}

@@ -100,10 +100,10 @@ pub extern "C" fn bench_append(
     let Walked::Sound(_) = held::walk(store, w, last) else {
         return false;
     };
-    if packet.len() < held::LEAST_PACKET {
+    if packet.len() < packet::LEAST_PACKET {
         return false;
     }
-    if held::MOST_PACKET < packet.len() {
+    if packet::MOST_PACKET < packet.len() {
         return false;
     }
     if store.len() - (w.end - w.start) < held::HEADER + packet.len() {

@@ -9,7 +9,8 @@ use lib.ListN.{drop}
 use borrow.Author.Tests.{le-ltb}
 use Rattle.octets.specs.Put.{put, cut, put-none}
 use Rattle.held.specs.General.{choose-yes, choose-no}
-use Rattle.held.specs.Head.{headerSize, leastPacket, event, numOf, lenOf, fdsOf, kindOf}
+use Rattle.packet.specs.Packet.{leastPacket}
+use Rattle.held.specs.Head.{headerSize, event, numOf, lenOf, fdsOf, kindOf}
 use Rattle.held.specs.Reading.{records, Readable}
 use Rattle.held.specs.Rest.{rest-all, turn, turn-room}
 use Rattle.held.specs.Find.{sought, suits-any, wanted, foundEvent}

@@ -8,7 +8,8 @@ use Rattle.octets.specs.Bytes.{littleOrder, Octets}
 use Rattle.octets.specs.Put.{cut, length-cut, cut-cut}
 use Rattle.octets.specs.Field.{field, octets-cut}
 use Rattle.held.specs.General.{field-front, number-below, cut-left, cut-right}
-use Rattle.held.specs.Head.{headerSize, leastPacket, mostPacket, numberAt, lengthAt, countAt, kindAt, zeroAt, event, Held, Fits, cost, encoded, decoded, mostFds, numOf, lenOf, fdsOf, kindOf, zeroOf, length-encoded, numOf-encoded, lenOf-encoded, fdsOf-encoded, kindOf-encoded, zeroOf-encoded, packet-encoded, encoded-decoded}
+use Rattle.packet.specs.Packet.{leastPacket, mostPacket}
+use Rattle.held.specs.Head.{headerSize, numberAt, lengthAt, countAt, kindAt, zeroAt, event, Held, Fits, cost, encoded, decoded, mostFds, numOf, lenOf, fdsOf, kindOf, zeroOf, length-encoded, numOf-encoded, lenOf-encoded, fdsOf-encoded, kindOf-encoded, zeroOf-encoded, packet-encoded, encoded-decoded}
 
 -- ---- a record stands at an index
 

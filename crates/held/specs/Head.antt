@@ -20,6 +20,7 @@ use Rattle.octets.specs.Logic.{choose, both, both-left, both-right, both-yes}
 use Rattle.octets.specs.Bytes.{littleOrder, word, Octets, word-number, length-bytesOf, bytes-one}
 use Rattle.octets.specs.Put.{put, cut, cut-add, length-cut, put-parts, put-none, put-next, set-two}
 use Rattle.octets.specs.Field.{field, putField, octets-cut}
+use Rattle.packet.specs.Packet.{leastPacket, mostPacket}
 use Rattle.held.specs.General.{cut-first, cut-skip, field-first, field-skip}
 
 abbrev pub numberAt : ℕ
@@ -41,13 +42,7 @@ zeroAt = 14
 abbrev pub headerSize : ℕ
 headerSize = 16
 
--- 01, Rooms: packets of 32 to 65,536 bytes, and a store of at most 16,777,216
-abbrev pub leastPacket : ℕ
-leastPacket = 32
-
-abbrev pub mostPacket : ℕ
-mostPacket = 65536
-
+-- 01, Rooms: a store has at most 16,777,216 bytes
 abbrev pub mostStore : ℕ
 mostStore = 16777216
 

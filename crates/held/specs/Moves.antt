@@ -10,7 +10,8 @@ use borrow.Author.Tests.{leb-true, le-leb, lt-leb, le-ltb, lt-ltb}
 use Rattle.octets.specs.Logic.{choose, both, both-right}
 use Rattle.octets.specs.Put.{put, cut, put-cover, length-cut, length-put, cut-put-after, cut-put-inside}
 use Rattle.held.specs.General.{choose-yes, choose-no}
-use Rattle.held.specs.Head.{Held, cost, encoded, headerSize, countAt, event, mostPacket}
+use Rattle.packet.specs.Packet.{mostPacket}
+use Rattle.held.specs.Head.{Held, cost, encoded, headerSize, countAt, event}
 use Rattle.held.specs.Reading.{inside, used}
 use Rattle.held.specs.declared.Window.{Window}
 use Rattle.held.specs.declared.Place.{Place}

@@ -5,7 +5,8 @@ use Prim.Native.Nat.{ℕ, _+_, _-_, _≤_, _<_}
 use native.Mathlib.Omega.{arith}
 use lib.ListN.{length, drop, length-append}
 use Rattle.octets.specs.Put.{cut, length-cut}
-use Rattle.held.specs.Head.{Held, Fits, headerSize, leastPacket, cost, encoded, lenOf, length-encoded}
+use Rattle.packet.specs.Packet.{leastPacket}
+use Rattle.held.specs.Head.{Held, Fits, headerSize, cost, encoded, lenOf, length-encoded}
 use Rattle.held.specs.Front.{Stands, stands}
 use Rattle.held.specs.Reading.{flat, records, All, Readable}
 use Rattle.held.specs.declared.Window.{Window}

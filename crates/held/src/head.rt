@@ -4,7 +4,8 @@ ghost use mathlib.Core.List.{[], _∷_};
 ghost use Prim.Native.Nat.{_+_, _-_, _≤_};
 ghost use lib.ListN.{length, drop};
 ghost use Rattle.octets.specs.Put.{put, cut};
-ghost use Rattle.held.specs.Head.{headerSize, mostPacket, countAt, held, encoded, mostFds, numOf, lenOf, fdsOf, kindOf, zeroOf};
+ghost use Rattle.packet.specs.Packet.{mostPacket};
+ghost use Rattle.held.specs.Head.{headerSize, countAt, held, encoded, mostFds, numOf, lenOf, fdsOf, kindOf, zeroOf};
 ghost use Rattle.held.specs.Front.{Sized};
 
 // Where the fields stand: eight bytes, four, one, one and two. The packet stands behind them.
@@ -25,11 +26,6 @@ pub const HEADER: usize = 16;
 pub const REPLY: u8 = 0;
 
 pub const EVENT: u8 = 1;
-
-// The fewest and the most bytes of a packet.
-pub const LEAST_PACKET: usize = 32;
-
-pub const MOST_PACKET: usize = 65536;
 
 pub fn number_at(s: &[u8], at: usize) -> u64
     requires { ⌜ at + headerSize ≤ length (now s) ⌝ }
@@ -79,17 +75,17 @@ pub fn size_at(s: &[u8], at: usize, end: usize) -> usize
     ensures { λ r. ⌜ Sized (cut at (end - at) (now (s .entry))) r ⌝ }
 {
     let room = end - at;
-    if room < HEADER + LEAST_PACKET {
+    if room < HEADER + packet::LEAST_PACKET {
         return 0;
     }
     let len = length_at(s, at);
     if room - HEADER < len {
         return 0;
     }
-    if len < LEAST_PACKET {
+    if len < packet::LEAST_PACKET {
         return 0;
     }
-    if MOST_PACKET < len {
+    if packet::MOST_PACKET < len {
         return 0;
     }
     let kind = kind_at(s, at);

@@ -17,8 +17,6 @@ pub use find::find_event;
 pub use find::find_reply;
 pub use head::EVENT;
 pub use head::HEADER;
-pub use head::LEAST_PACKET;
-pub use head::MOST_PACKET;
 pub use head::REPLY;
 pub use head::count_at;
 pub use head::kind_at;

@@ -2,7 +2,8 @@
 ghost use mathlib.Core.Path.{_≡_};
 ghost use Prim.Native.Nat.{_+_, _≤_, _<_};
 ghost use lib.ListN.{length, getD};
-ghost use Rattle.held.specs.Head.{headerSize, mostPacket, held};
+ghost use Rattle.packet.specs.Packet.{mostPacket};
+ghost use Rattle.held.specs.Head.{headerSize, held};
 ghost use Rattle.held.specs.Moves.{Room, Within, Leaves, Takes, left, stays, behind, appended, removed, demoted};
 use crate::Place;
 use crate::Window;

@@ -7,18 +7,19 @@ use Prim.Native.Nat.{ℕ, max}
 use native.Mathlib.Omega.{arith}
 use lib.ListN.{drop}
 use Rattle.octets.specs.Logic.{choose}
-use Rattle.octets.specs.Field.{field}
 use Rattle.refusal.specs.Answer.{Answer, gives, refuses, refuse, gives-rest, gives-same, pass-given}
 use Rattle.sequence.specs.Numbering.{full, inRange}
 use Rattle.model.specs.Client.{Held, Client, setWaiting}
-use Rattle.model.specs.Model.{hasReply, sendRequest, enqueueFds, takeClosed, codeOf, packetNumber, numbered, askedOf, placeOf, claimed, filed, Filing, takeIn, enqueuePacket, withMode, discarding, discardReply, Found, nothing, at, find, takenBy, pollForReplyOrError, checkedBy, pollCheck, repliedBy, pollForReply, eventBy, pollForEvent}
+use Rattle.packet.specs.Packet.{codeOf, unnumbered, wireOf}
+use Rattle.packet.specs.Laws.{number-last, number-full}
+use Rattle.model.specs.Model.{hasReply, sendRequest, enqueueFds, takeClosed, packetNumber, numbered, askedOf, placeOf, claimed, filed, Filing, takeIn, enqueuePacket, withMode, discarding, discardReply, Found, nothing, at, find, takenBy, pollForReplyOrError, checkedBy, pollCheck, repliedBy, pollForReply, eventBy, pollForEvent}
 use Rattle.model.specs.Calls.{send, enqueue-fds, enqueue, discard, poll, check, poll-reply, prepare, poll-event, take-closed, Said, step, outcome}
 use Rattle.model.specs.declared.ReplyFdKind.{ReplyFdKind}
 use Rattle.model.specs.declared.DiscardMode.{DiscardMode}
 use Rattle.model.specs.declared.DiscardMode.the-variants as DiscardMode
 use Rattle.model.specs.declared.Place.{Place}
 use Rattle.model.specs.declared.Place.the-variants as Place
-use Rattle.honest.specs.Run.{Entry, took, unnumbered, noteSent, noteTook, noted, Runs, start, call, Lands, heldAs}
+use Rattle.honest.specs.Run.{Entry, took, noteSent, noteTook, noted, Runs, start, call, Lands, heldAs}
 use Rattle.honest.specs.Rules.{Ruled, none, sends-one, takes-one}
 
 -- ---- calls that touch neither byte order nor numbers
@@ -152,7 +153,7 @@ lands-filed Place.Dropped h c c' p q = (p, q)
 -- What that makes of the numbers: one that carries a number follows the rule of numbering,
 pub record Counted (c : Client) (p : List ℕ) (x : Filing × Client) : Type 0 where
   pub order-is : x .1 .order ≡ c .order
-  pub number-is : gives (x .0 .number) ≡ inRange (full (c .numbers .read) (field (c .order) 2 2 p))
+  pub number-is : gives (x .0 .number) ≡ inRange (full (c .numbers .read) (wireOf (c .order) p))
   pub numbers-is : x .1 .numbers ≡ record { written = c .numbers .written; expected = max (c .numbers .expected) (x .0 .number); read = x .0 .number }
 
 module _ (c : Client) (p : List ℕ) (x : Filing × Client) (k : Taking c p x) where
@@ -166,32 +167,32 @@ module _ (c : Client) (p : List ℕ) (x : Filing × Client) (k : Taking c p x) w
   unfolding numbered
   lands = rw (k .filing-is, k .next-is) (lands-filed (placeOf (codeOf p) (askedOf c (k .n))) (heldAs c p (k .n)) c (countedAs c p (k .n)) refl refl)
 
-  pub counted : unnumbered p ≡ false → Counted c p x
-  unfolding packetNumber numbered choose
+  pub counted : unnumbered (codeOf p) ≡ false → Counted c p x
+  unfolding numbered choose
   counted h =
       let a : k .n ≡ x .0 .number = ap (λ y. y .number) (sym (k .filing-is)) in
       record {
         order-is = still-taken .0;
-        number-is = ap gives (sym a) ∙ k .number-is ∙ (λ i. choose (h i) (gives (c .numbers .read)) (inRange (full (c .numbers .read) (field (c .order) 2 2 p))));
+        number-is = ap gives (sym a) ∙ k .number-is ∙ number-full (c .order) (c .numbers .read) p h;
         numbers-is =
             still-taken .1
             ∙ (λ i. record { written = c .numbers .written; expected = choose (h i) (c .numbers .expected) (max (c .numbers .expected) (a i)); read = a i });
       }
 
   -- and one that carries none leaves them.
-  pub uncounted : unnumbered p ≡ true → Still c (x .1)
-  unfolding packetNumber numbered choose
+  pub uncounted : unnumbered (codeOf p) ≡ true → Still c (x .1)
+  unfolding numbered choose
   uncounted h =
-      let a : k .n ≡ c .numbers .read = gives-same (k .number-is ∙ (λ i. choose (h i) (gives (c .numbers .read)) (inRange (full (c .numbers .read) (field (c .order) 2 2 p))))) in
+      let a : k .n ≡ c .numbers .read = gives-same (k .number-is ∙ number-last (c .order) (c .numbers .read) p h) in
       (still-taken .0, still-taken .1 ∙ (λ i. record { written = c .numbers .written; expected = choose (h i) (c .numbers .expected) (max (c .numbers .expected) (a i)); read = a i }))
 
 ruled-packet : (f : Filing → Said) (c : Client) (l : List Entry) (t : ℕ) (p : List ℕ) (a : Answer (Filing × Client)) → a ≡ enqueuePacket c p → RuledAt c l
     → RuledAt (outcome f c a .next) (noteTook t p a l)
 unfolding noteTook choose
 ruled-packet f c l t p (refuses n) e r = r
-ruled-packet f c l t p (gives x) e r = go (unnumbered p) refl
+ruled-packet f c l t p (gives x) e r = go (unnumbered (codeOf p)) refl
   where
-    go : (b : Bool) → unnumbered p ≡ b → RuledAt (x .1) (choose b l (took t p (x .0) ∷ l))
+    go : (b : Bool) → unnumbered (codeOf p) ≡ b → RuledAt (x .1) (choose b l (took t p (x .0) ∷ l))
     go true h = moved c (x .1) l (uncounted c p x (taking c p x e) h) r
     go false h =
         let k = counted c p x (taking c p x e) h in

@@ -11,17 +11,18 @@ use Rattle.octets.specs.Field.{field}
 use Rattle.refusal.specs.Answer.{gives, refuse, pass}
 use Rattle.sequence.specs.Numbering.{full, inRange}
 use Rattle.sequence.specs.Sending.{sending, mustSync}
+use Rattle.packet.specs.Packet.{codeOf, unnumbered, numberAfter}
 use Rattle.requests.specs.Room.{underMode}
 use Rattle.model.specs.Client.{Client, costs, descriptorsOf}
 use Rattle.model.specs.Model as Model
 use Rattle.model.specs.Model.{hasReply, sendRequest, Filing, enqueuePacket, Taken, pollForReplyOrError}
 use Rattle.model.specs.Calls.{send, enqueue, poll, step, run}
 use Rattle.model.specs.declared.ReplyFdKind.{ReplyFdKind}
-use Rattle.honest.specs.Run.{Entry, sent, took, unnumbered, noteSent, noteTook, noted, Runs, call}
+use Rattle.honest.specs.Run.{Entry, sent, took, noteSent, noteTook, noted, Runs, call}
 
 -- opens what a call computes with
 unfoldable pub computing : ℕ
-unfolding step run noted noteSent noteTook Model.sendRequest Model.enqueueFds Model.enqueuePacket Model.discardReply Model.takeClosed Model.pollForReplyOrError Model.pollCheck Model.pollForReply Model.prepareCheck Model.pollForEvent Model.find pass refuse sending mustSync both either choose Model.packetNumber inRange full field numberIn cut turned bytesOf lowBytes lowNumber Model.numbered Model.askedOf Model.headOf Model.placeOf Model.claimed Model.takeIn costs descriptorsOf Model.withMode underMode Model.ofNumber Model.notOf Model.above Model.errorsOf Model.closingOrder
+unfolding step run noted noteSent noteTook Model.sendRequest Model.enqueueFds Model.enqueuePacket Model.discardReply Model.takeClosed Model.pollForReplyOrError Model.pollCheck Model.pollForReply Model.prepareCheck Model.pollForEvent Model.find pass refuse sending mustSync both either choose numberAfter unnumbered inRange full field numberIn cut turned bytesOf lowBytes lowNumber Model.numbered Model.askedOf Model.headOf Model.placeOf Model.claimed Model.takeIn costs descriptorsOf Model.withMode underMode Model.ofNumber Model.notOf Model.above Model.errorsOf Model.closingOrder
 computing = 0
 
 -- a packet of 32 bytes: its code, its byte 1, its wire number in little order
@@ -34,7 +35,7 @@ pub send-to : {c : Client} {l : List Entry} (kind : ReplyFdKind) (n : ℕ) (c' :
 unfolding step noted noteSent
 send-to {c} {l} kind n c' e r = rw e at (call (send kind) 0 r)
 
-pub packet-to : {c : Client} {l : List Entry} (t : ℕ) (p : List ℕ) (f : Filing) (c' : Client) → unnumbered p ≡ false → enqueuePacket c p ≡ gives (f, c') → Runs c l → Runs c' (took t p f ∷ l)
+pub packet-to : {c : Client} {l : List Entry} (t : ℕ) (p : List ℕ) (f : Filing) (c' : Client) → unnumbered (codeOf p) ≡ false → enqueuePacket c p ≡ gives (f, c') → Runs c l → Runs c' (took t p f ∷ l)
 unfolding step noted noteTook choose
 packet-to {c} {l} t p f c' h e r = rw (e, h) at (call (enqueue p) t r)
 

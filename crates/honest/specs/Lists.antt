@@ -7,6 +7,7 @@ use Prim.Native.Nat.{ℕ}
 use lib.Dec.{ltb}
 use Rattle.octets.specs.Logic.{choose, apart}
 use Rattle.refusal.specs.Answer.{Answer, gives, refuses, refuse, pass}
+use Rattle.packet.specs.Packet.{codeOf, unnumbered}
 use Rattle.model.specs.Client.{Held, Client}
 use Rattle.model.specs.Model.{sendRequest, enqueueFds, takeClosed, Filing, enqueuePacket, withMode, ofNumber, notOf, isError, asEvent, errorsOf, discarding, discardReply, Found, nothing, at, behind, find, Taken, none, packet, PollReply, tryAgain, noReply, reply, takenBy, pollForReplyOrError, checkedBy, pollCheck, repliedBy, pollForReply, eventBy, pollForEvent}
 use Rattle.model.specs.Calls.{Call, send, enqueue-fds, enqueue, discard, poll, check, poll-reply, prepare, poll-event, take-closed, Said, step, outcome}
@@ -16,7 +17,7 @@ use Rattle.model.specs.declared.DiscardMode.the-variants as DiscardMode
 use Rattle.model.specs.declared.Place.{Place}
 use Rattle.model.specs.declared.Place.the-variants as Place
 use Rattle.model.specs.Batch.{Each}
-use Rattle.honest.specs.Run.{Entry, sent, took, unnumbered, noteSent, noteTook, noted, Runs, start, call, Right, Lands, heldAs, Took, Bears, Holds, Hands}
+use Rattle.honest.specs.Run.{Entry, sent, took, noteSent, noteTook, noted, Runs, start, call, Right, Lands, heldAs, Took, Bears, Holds, Hands}
 use Rattle.honest.specs.Calls.{Taking, taking, lands}
 
 -- of the client that a call hands back
@@ -226,7 +227,7 @@ FiledAs (sent has-reply ∷ l) n p = FiledAs l n p
 FiledAs (took u q f ∷ l) n p = ((n ≡ f .number) × (p ≡ q)) ⊎ FiledAs l n p
 
 abbrev pub FiledIn : List Entry → Held → Type 0
-FiledIn l h = unnumbered (h .packet) ≡ false → FiledAs l (h .number) (h .packet)
+FiledIn l h = unnumbered (codeOf (h .packet)) ≡ false → FiledAs l (h .number) (h .packet)
 
 -- where the numbers are right, it is the true one
 filed-as : (l : List Entry) → Right l → (n : ℕ) (p : List ℕ) → FiledAs l n p → Took l n p
@@ -250,9 +251,9 @@ filed-packet : (f : Filing → Said) (c : Client) (l : List Entry) (t : ℕ) (p 
     → Holds (FiledIn (noteTook t p a l)) (outcome f c a .next)
 unfolding noteTook choose
 filed-packet f c l t p (refuses n) e h = h
-filed-packet f c l t p (gives x) e h = go (unnumbered p) refl (taking c p x e)
+filed-packet f c l t p (gives x) e h = go (unnumbered (codeOf p)) refl (taking c p x e)
   where
-    go : (b : Bool) → unnumbered p ≡ b → Taking c p x → Holds (FiledIn (choose b l (took t p (x .0) ∷ l))) (x .1)
+    go : (b : Bool) → unnumbered (codeOf p) ≡ b → Taking c p x → Holds (FiledIn (choose b l (took t p (x .0) ∷ l))) (x .1)
     go true q k = leaves-filed (FiledIn l) (as-event l) (x .0 .place) (heldAs c p (k .n)) c (x .1) (lands c p x k) h (λ z. apart q z)
     go false q k =
         let m = took t p (x .0) ∷ l in

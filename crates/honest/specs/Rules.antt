@@ -8,11 +8,11 @@ use native.Mathlib.Decide.{decLe}
 use native.Mathlib.Omega.{arith}
 use borrow.Author.Tests.{leb-false, lt-leb, le-ltb}
 use Rattle.octets.specs.Logic.{choose, both}
-use Rattle.octets.specs.Field.{field}
 use Rattle.refusal.specs.Answer.{gives, refuse, gives-past, gives-rest, gives-same}
 use Rattle.sequence.specs.Numbering.{lastNumber, wireValues, full, inRange, full-near}
 use Rattle.sequence.specs.Sending as Sending
 use Rattle.sequence.specs.Sending.{sending, mustSync, syncSpan}
+use Rattle.packet.specs.Packet.{wireOf}
 use Rattle.model.specs.Client.{Numbers}
 use Rattle.model.specs.Model.{Filing}
 use Rattle.honest.specs.Run.{Entry, sent, took, sends, WithReply, Heard, Fair, Honest, Right}
@@ -22,7 +22,7 @@ pub data Ruled (o : ℕ) : Numbers → List Entry → Type 0 where
   none : Ruled o (record { written = 0; expected = 0; read = 0 }) []
   sends-one : {n : Numbers} {l : List Entry} (has-reply : Bool) (x : Sending.Numbers) → gives x ≡ sending (n .written) (n .expected) has-reply → Ruled o n l
       → Ruled o (record { written = x .number; expected = x .expected; read = n .read }) (sent has-reply ∷ l)
-  takes-one : {n : Numbers} {l : List Entry} (t : ℕ) (p : List ℕ) (f : Filing) → gives (f .number) ≡ inRange (full (n .read) (field o 2 2 p)) → Ruled o n l
+  takes-one : {n : Numbers} {l : List Entry} (t : ℕ) (p : List ℕ) (f : Filing) → gives (f .number) ≡ inRange (full (n .read) (wireOf o p)) → Ruled o n l
       → Ruled o (record { written = n .written; expected = max (n .expected) (f .number); read = f .number }) (took t p f ∷ l)
 
 -- FREED: once a request with a reply was sent, no sync is asked for.
@@ -94,11 +94,11 @@ module _ (o : ℕ) (n : Numbers) (l : List Entry) (i : Inv n l) where
   past-read t p f = ⊎-elim (λ z. omega arith) (λ h. omega (arith, f .rises (n .read) h)) (i .last)
 
   -- So the least number at or above the last read is the true one,
-  pub full-true : (t : ℕ) (p : List ℕ) → Fair o l t p → full (n .read) (field o 2 2 p) ≡ t
+  pub full-true : (t : ℕ) (p : List ℕ) → Fair o l t p → full (n .read) (wireOf o p) ≡ t
   full-true t p f = rw (f .wire) (full-near (n .read) t (past-read t p f) (omega (arith, near-read t p f)))
 
   -- and it is never past the last number.
-  pub true-range : (t : ℕ) (p : List ℕ) → Fair o l t p → inRange (full (n .read) (field o 2 2 p)) ≡ gives t
+  pub true-range : (t : ℕ) (p : List ℕ) → Fair o l t p → inRange (full (n .read) (wireOf o p)) ≡ gives t
   unfolding inRange refuse
   true-range t p f =
       let e : t ≤ lastNumber = omega (arith, f .known, i .counted, i .fits) in

@@ -4,14 +4,13 @@ use mathlib.Core.List.{List, [], _∷_, _++_}
 use mathlib.Core.Logic.{_⊎_}
 use mathlib.Core.Path.{_≡_}
 use Prim.Native.Nat.{ℕ, _+_, _%_, _≤_, _<_}
-use lib.Dec.{eqb}
 use lib.ListN.{take}
 use Rattle.octets.specs.Logic.{choose}
-use Rattle.octets.specs.Field.{field}
 use Rattle.refusal.specs.Answer.{Answer, gives, refuses}
 use Rattle.sequence.specs.Numbering.{wireValues}
 use Rattle.model.specs.Client.{Held, Client}
-use Rattle.model.specs.Model.{fresh, hasReply, keymapNotify, codeOf, sendRequest, askedOf, claimed, Filing, enqueuePacket}
+use Rattle.packet.specs.Packet.{codeOf, unnumbered, wireOf}
+use Rattle.model.specs.Model.{fresh, hasReply, sendRequest, askedOf, claimed, Filing, enqueuePacket}
 use Rattle.model.specs.Calls.{Call, send, enqueue-fds, enqueue, discard, poll, check, poll-reply, prepare, poll-event, take-closed, Said, step}
 use Rattle.model.specs.Calls as Calls
 use Rattle.model.specs.declared.Place.{Place}
@@ -25,17 +24,13 @@ pub data Entry : Type 0 where
   sent : (has-reply : Bool) → Entry
   took : (true-number : ℕ) (packet : List ℕ) (filing : Filing) → Entry
 
--- every packet carries a number but those of code 11
-abbrev pub unnumbered : List ℕ → Bool
-unnumbered p = eqb (codeOf p) keymapNotify
-
 -- what a send and a packet add to the log: a refusal adds nothing, and so does a packet that carries no number
 unfoldable pub noteSent : {A : Type 0} → Bool → Answer A → List Entry → List Entry
 noteSent has-reply (gives x) log = sent has-reply ∷ log
 noteSent has-reply (refuses n) log = log
 
 unfoldable pub noteTook : {A : Type 0} → ℕ → List ℕ → Answer (Filing × A) → List Entry → List Entry
-noteTook t p (gives x) log = choose (unnumbered p) log (took t p (x .0) ∷ log)
+noteTook t p (gives x) log = choose (unnumbered (codeOf p)) log (took t p (x .0) ∷ log)
 noteTook t p (refuses n) log = log
 
 -- what a call adds; t is the true number of the packet that it brings, if it brings one
@@ -79,7 +74,7 @@ Heard (took t p f ∷ l) q = (q ≡ t) ⊎ Heard l q
 
 -- The four premises, on a packet p with the true number t that comes after l on a connection of byte order o. It carries "the low 16 bits of its true number";
 abbrev pub Wire : ℕ → ℕ → List ℕ → Type 0
-Wire o t p = field o 2 2 p ≡ t % wireValues
+Wire o t p = wireOf o p ≡ t % wireValues
 
 -- "true numbers never fall"
 abbrev pub Rises : List Entry → ℕ → Type 0
@@ -141,7 +136,7 @@ Took (took u q f ∷ l) t p = ((t ≡ u) × (p ≡ q)) ⊎ Took l t p
 
 -- a record bears the true number of its packet, if the packet carries one
 abbrev pub Bears : List Entry → Held → Type 0
-Bears l h = unnumbered (h .packet) ≡ false → Took l (h .number) (h .packet)
+Bears l h = unnumbered (codeOf (h .packet)) ≡ false → Took l (h .number) (h .packet)
 
 -- P is true of each record that is held
 abbrev pub Holds : (Held → Type 0) → Client → Type 0

@@ -7,11 +7,12 @@ use Prim.Native.Nat.{ℕ, _≤_, _<_}
 use native.Mathlib.Omega.{arith}
 use Rattle.octets.specs.Logic.{choose}
 use Rattle.refusal.specs.Answer.{Answer, gives, refuses}
+use Rattle.packet.specs.Packet.{codeOf, unnumbered}
 use Rattle.model.specs.Client.{Client}
 use Rattle.model.specs.Model.{fresh, hasReply, sendRequest, Filing, enqueuePacket}
 use Rattle.model.specs.Calls.{Call, send, enqueue-fds, enqueue, discard, poll, check, poll-reply, prepare, poll-event, take-closed, step}
 use Rattle.model.specs.Batch.{Each}
-use Rattle.honest.specs.Run.{Entry, sent, took, unnumbered, noteSent, noteTook, noted, Runs, start, call, WithReply, Heard, Wire, Known, Along, Honest}
+use Rattle.honest.specs.Run.{Entry, sent, took, noteSent, noteTook, noted, Runs, start, call, WithReply, Heard, Wire, Known, Along, Honest}
 
 -- a packet of the server, with its true number
 pub record Packet : Type 0 where
@@ -52,7 +53,7 @@ serves-runs (calls x o h) = call x 0 (serves-runs h)
 -- the packets that carry a number; and those of a log, the earliest first
 unfoldable pub carrying : List Packet → List Packet
 carrying [] = []
-carrying (p ∷ l) = choose (unnumbered (p .bytes)) (carrying l) (p ∷ carrying l)
+carrying (p ∷ l) = choose (unnumbered (codeOf (p .bytes))) (carrying l) (p ∷ carrying l)
 
 unfoldable pub packetsIn : List Entry → List Packet
 packetsIn [] = []
@@ -83,7 +84,7 @@ pub record HonestServer (o : ℕ) (all : List Packet) (l : List Entry) : Type 0 
 offered : (p : Packet) (rest : List Packet) (l : List Entry) (a : Answer (Filing × Client)) → packetsIn (noteTook (p .true-number) (p .bytes) a l) ++ carrying (left a p rest) ≡ packetsIn l ++ carrying (p ∷ rest)
 unfolding noteTook left carrying packetsIn choose
 offered p rest l (refuses n) = refl
-offered p rest l (gives x) = go (unnumbered (p .bytes))
+offered p rest l (gives x) = go (unnumbered (codeOf (p .bytes)))
   where
     go : (b : Bool) → packetsIn (choose b l (took (p .true-number) (p .bytes) (x .0) ∷ l)) ++ carrying rest ≡ packetsIn l ++ choose b (carrying rest) (p ∷ carrying rest)
     go true = refl

@@ -8,8 +8,8 @@ use native.Mathlib.Omega.{arith}
 use lib.Dec.{leb, eqb}
 use borrow.Author.Tests.{leb-true, eqb-true}
 use Rattle.octets.specs.Logic.{both, either, apart, both-left, both-right}
-use Rattle.octets.specs.Field.{field}
 use Rattle.sequence.specs.Numbering.{wireValues}
+use Rattle.packet.specs.Packet.{wireOf}
 use Rattle.honest.specs.Run.{Entry, sent, took, sends, WithReply, Heard, Fair, Honest}
 
 -- the numbers of the requests with a reply, and of the packets that came
@@ -34,7 +34,7 @@ among q (x ∷ l) = either (eqb q x) (among q l)
 
 unfoldable pub fairb : ℕ → List Entry → ℕ → List ℕ → Bool
 fairb o l t p =
-    both (both (eqb (field o 2 2 p) (t % wireValues)) (every (λ u. leb u t) (numbersHeard l)))
+    both (both (eqb (wireOf o p) (t % wireValues)) (every (λ u. leb u t) (numbersHeard l)))
     (both (leb t (sends l)) (every (λ q. either (leb t q) (among q (numbersHeard l))) (numbersAsked l)))
 
 unfoldable pub honestb : ℕ → List Entry → Bool

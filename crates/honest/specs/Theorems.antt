@@ -6,17 +6,17 @@ use mathlib.Core.Path.{_≡_, sym, ap, _∙_}
 use Prim.Native.Nat.{ℕ}
 use lib.Dec.{ltb}
 use lib.ListN.{length}
-use Rattle.octets.specs.Logic.{choose}
 use Rattle.refusal.specs.Answer.{Answer, gives, refuses, refuse, pass, gives-same}
-use Rattle.held.specs.Head.{leastPacket, mostPacket}
+use Rattle.packet.specs.Packet.{codeOf, leastPacket, mostPacket, unnumbered}
 use Rattle.model.specs.Client.{Client}
+use Rattle.packet.specs.Laws.{number-full}
 use Rattle.model.specs.Model.{packetNumber, askedOf, Filing, takeIn, enqueuePacket}
 use Rattle.model.specs.Calls.{Call, step}
 use Rattle.model.specs.Promise.{Done, Promise}
 use Rattle.model.specs.Reading.{Rooms, reads}
 use Rattle.model.specs.Sound.{soundb}
 use Rattle.model.specs.declared.Connection.{Connection}
-use Rattle.honest.specs.Run.{Entry, unnumbered, Runs, Fair, Honest, Right, Filed, Bears, Holds, Hands}
+use Rattle.honest.specs.Run.{Entry, Runs, Fair, Honest, Right, Filed, Bears, Holds, Hands}
 use Rattle.honest.specs.Rules.{ruled-inv, true-range}
 use Rattle.honest.specs.Calls.{Taking, taking, lands, counted, runs-ruled, one-of}
 use Rattle.honest.specs.Server.{Packet, Serves, serves-runs, HonestServer, server-honest}
@@ -30,11 +30,10 @@ pub true-numbers : {c : Client} {log : List Entry} → Runs c log → Honest (c 
 true-numbers r h = ruled-inv (runs-ruled r) h .right
 
 -- A run with an honest server, and the packet p with the true number t that comes next.
-module _ {c : Client} {log : List Entry} (r : Runs c log) (h : Honest (c .order) log) (t : ℕ) (p : List ℕ) (carries : unnumbered p ≡ false) (fair : Fair (c .order) log t p) where
+module _ {c : Client} {log : List Entry} (r : Runs c log) (h : Honest (c .order) log) (t : ℕ) (p : List ℕ) (carries : unnumbered (codeOf p) ≡ false) (fair : Fair (c .order) log t p) where
   -- Its number is t, and numbers do not end before it.
   pub next-number : packetNumber c p ≡ gives t
-  unfolding packetNumber choose
-  next-number = rw carries (true-range (c .order) (c .numbers) log (ruled-inv (runs-ruled r) h) t p fair)
+  next-number = number-full (c .order) (c .numbers .read) p carries ∙ true-range (c .order) (c .numbers) log (ruled-inv (runs-ruled r) h) t p fair
 
   -- So 1 and 2 apart, intake is the taking in under the true number,
   pub next-packet : enqueuePacket c p ≡ refuse (ltb (length p) leastPacket) 1 (refuse (ltb mostPacket (length p)) 2 (takeIn c p t (askedOf c t)))
@@ -89,7 +88,7 @@ unfolding reads
 public-held k h = held-true (public-runs k) h
 
 -- A run of public calls with an honest server, and the call that brings its next packet.
-module _ {c : Connection} {r : Rooms} {log : List Entry} (k : Public c r log) (h : Honest (c .order) log) (t : ℕ) (p : List ℕ) (carries : unnumbered p ≡ false) (fair : Fair (c .order) log t p)
+module _ {c : Connection} {r : Rooms} {log : List Entry} (k : Public c r log) (h : Honest (c .order) log) (t : ℕ) (p : List ℕ) (carries : unnumbered (codeOf p) ≡ false) (fair : Fair (c .order) log t p)
     (e : Answer (Done Filing)) (a : Answer (Filing × Connection)) (r' : Rooms) (promise : Promise (λ f. f) e (λ m. enqueuePacket m p) c r a r') where
   pub public-filed : (f : Filing) (s : Connection) → a ≡ gives (f, s) → Filed (reads c r) p t (f, reads s r')
   unfolding reads

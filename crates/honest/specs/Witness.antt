@@ -12,9 +12,9 @@ use native.Mathlib.Numerals.{add-one}
 use borrow.Author.Tests.{lt-leb, le-ltb, eq-eqb}
 use Rattle.octets.specs.Logic.{choose, both}
 use Rattle.octets.specs.Bytes.{bytesOf, lowBytes, turned}
-use Rattle.octets.specs.Field.{field}
 use Rattle.refusal.specs.Answer.{gives, refuse, pass}
 use Rattle.sequence.specs.Numbering.{lastNumber, wireValues}
+use Rattle.packet.specs.Packet.{unnumbered, wireOf}
 use Rattle.requests.specs.declared.Request.{Request}
 use Rattle.model.specs.Client.{Client, costs, setNumbers, setOutstanding, setReplies}
 use Rattle.model.specs.Model as Model
@@ -153,7 +153,7 @@ module _ (n : ℕ) (rest : List Request) (short : length rest ≤ 1) (fewer : le
       rw (le-ltb (n + 1) (n + 1 + 1 - length (rest ++ (last ∷ []))) h, way, drop-at rest (last ∷ []) (length rest) refl)
 
   take-one : packetNumber (sentOne n rest) (replyTo (n + 1)) ≡ gives (n + 1) → enqueuePacket (sentOne n rest) (replyTo (n + 1)) ≡ gives (inReplies (n + 1), tookOne (n + 1))
-  unfolding enqueuePacket pass refuse bytesOf turned lowBytes choose Model.takeIn Model.placeOf Model.claimed both costs Model.numbered
+  unfolding enqueuePacket pass refuse bytesOf turned lowBytes choose Model.takeIn Model.placeOf Model.claimed both costs Model.numbered unnumbered
   take-one e =
       let m : max (n + 1) (n + 1) ≡ n + 1 = omega arith in
       rw (e, asked-one, way, drop-at rest (last ∷ []) (length rest) refl, m)
@@ -163,12 +163,12 @@ unfolding computing
 poll-one n = rw (eq-eqb n n refl)
 
 -- the server is honest in it
-reply-wire : (t : ℕ) → field 108 2 2 (replyTo t) ≡ t % wireValues
+reply-wire : (t : ℕ) → wireOf 108 (replyTo t) ≡ t % wireValues
 unfolding computing
 reply-wire t = omega arith
 
 rounds-sends : (n : ℕ) → sends (rounds n) ≡ n
-unfolding rounds
+unfolding rounds unnumbered
 rounds-sends zero = refl
 rounds-sends (suc n) = add-one _ ∙ ap suc (rounds-sends n)
 
@@ -194,7 +194,7 @@ rounds-fair n =
     }
 
 pub rounds-honest : (n : ℕ) → Honest 108 (rounds n)
-unfolding rounds
+unfolding rounds unnumbered
 rounds-honest zero = tt
 rounds-honest (suc n) = (rounds-fair n, rounds-honest n)
 
@@ -206,7 +206,7 @@ pub record Through (n : ℕ) : Type 0 where
   pub run : Runs (between n rest) (rounds n)
 
 round : (n : ℕ) → n < lastNumber → Through n → Through (suc n)
-unfolding rounds
+unfolding rounds unnumbered
 round n h k =
     let fair : Fair 108 (sent true ∷ rounds n) (n + 1) (replyTo (n + 1)) = rw add-one (rounds-fair n) in
     let asks = send-to ReplyWithoutFds (n + 1) (sentOne n (k .rest)) (send-one n (k .rest) (k .short) (k .fewer) h) (k .run) in
@@ -277,7 +277,7 @@ took-upto l top t p f h g k =
       answered = λ q a less. elim (decLe q top) [ yes y ↦ inr (k .answered q a y) | no n ↦ inl (omega arith) ];
     }
 
-upto-fair : (l : List Entry) (top t : ℕ) (p : List ℕ) → top ≤ t → t ≤ top + 1 → t ≤ sends l → field 108 2 2 p ≡ t % wireValues → Upto l top → Fair 108 l t p
+upto-fair : (l : List Entry) (top t : ℕ) (p : List ℕ) → top ≤ t → t ≤ top + 1 → t ≤ sends l → wireOf 108 p ≡ t % wireValues → Upto l top → Fair 108 l t p
 upto-fair l top t p h g s w k =
     record { wire = w; rises = λ u a. omega (arith, k .heard u a); known = s; answered = λ q a less. k .answered q a (omega arith) }
 

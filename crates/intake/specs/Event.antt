@@ -13,20 +13,21 @@ use Rattle.sequence.specs.Numbering.{lastNumber, saysFull}
 use Rattle.sequence.specs.declared.SequenceNumber.{SequenceNumber}
 use Rattle.sequence.specs.declared.Full.{Full}
 use Rattle.sequence.specs.declared.Full.the-variants as Full
-use Rattle.held.specs.Head.{headerSize, leastPacket, mostPacket, held, event}
+use Rattle.packet.specs.Packet.{leastPacket, mostPacket, codeOf, errorCode, replyCode}
+use Rattle.held.specs.Head.{headerSize, held, event}
 use Rattle.held.specs.Reading.{used}
 use Rattle.held.specs.Moves.{left, Leaves, stays, behind, stays-room, append-behind}
 use Rattle.held.specs.declared.Window.{Window}
-use Rattle.model.specs.Model.{errorCode, replyCode, codeOf, placeOf, claimed}
+use Rattle.model.specs.Model.{placeOf, claimed}
 use Rattle.model.specs.Model as Model
 use Rattle.model.specs.Reading.{rooms}
 use Rattle.model.specs.declared.Connection.{Connection}
 use Rattle.model.specs.declared.Place.the-variants as Place
 use Rattle.intake.specs.declared.event.Plain.{Plain}
 use Rattle.intake.specs.declared.event.Plain.the-variants as Plain
-use Rattle.intake.specs.Plan.{Ready, task, packetNumberIn, askedIn, overRoom, planBy, planOf}
+use Rattle.filing.specs.Plan.{task, packetNumberIn, askedIn, overRoom, planBy, planOf, numberedState}
 use Rattle.model.specs.Moved.{movedState}
-use Rattle.intake.specs.Exact.{numberedState, filing, carriedOut, enqueueExact}
+use Rattle.intake.specs.Exact.{Ready, filing, carriedOut, enqueueExact}
 use Rattle.intake.specs.Steps.{file-event}
 
 -- what is asked of the state: the window lies in its store, and the last written is a full number

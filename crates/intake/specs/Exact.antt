@@ -2,37 +2,36 @@
 use mathlib.Core.Path.{_≡_}
 use mathlib.Core.Bool.{true}
 use mathlib.Core.List.{List}
-use Prim.Native.Nat.{ℕ, _≤_}
+use Prim.Native.Nat.{ℕ, _≤_, _<_}
+use lib.ListN.{length}
 use Rattle.refusal.specs.Answer.{Answer, gives, pass}
+use Rattle.requests.specs.Room.{capacity}
 use Rattle.held.specs.Head.{held, reply, event}
 use Rattle.held.specs.Moves.{Left, left, Room, appended}
 use Rattle.descriptors.specs.Room as Slots
-use Rattle.model.specs.Model.{codeOf, isHeld, Filing}
+use Rattle.packet.specs.Packet.{codeOf}
+use Rattle.model.specs.Model.{isHeld, Filing}
 use Rattle.model.specs.Reading.{Rooms, rooms, slotsOf}
 use Rattle.model.specs.Moved.{movedState}
+use Rattle.model.specs.Sound.{Ranges}
 use Rattle.model.specs.Promise.{Done, Exact, same}
 use Rattle.model.specs.Says.{saysEnqueued}
 use Rattle.model.specs.declared.Connection.{Connection}
 use Rattle.model.specs.declared.Enqueued.{Enqueued}
 use Rattle.model.specs.declared.Place.{Place}
 use Rattle.model.specs.declared.Place.the-variants as Place
-use Rattle.intake.specs.Plan.{Task, raisedTo, firstAfter, planOf}
+use Rattle.filing.specs.Plan.{Task, planOf, numberedState}
 
 -- ---- the state
 
--- once a packet of the code has the number n
-abbrev pub numberedState : Connection → ℕ → ℕ → Connection
-numberedState c code n = record {
-  order = c .order;
-  capacity = c .capacity;
-  room = c .room;
-  written = c .written;
-  expected = raisedTo code n (c .expected);
-  read = n;
-  first = firstAfter (c .first) (c .written) n;
-  window = c .window;
-  counts = c .counts;
-}
+-- what the step needs of a sound state
+pub record Ready (c : Connection) (q s f : List ℕ) : Type 0 where
+  pub some : 0 < capacity q
+  pub numbers : Ranges c
+  pub order : c .window .start ≤ c .window .end
+  pub within : c .window .end ≤ length s
+  pub store : length s ≡ c .room
+  pub slots : Slots.Sound (Slots.room f (c .counts))
 
 -- ---- filing
 

@@ -23,12 +23,13 @@ use Rattle.model.specs.declared.Connection.{Connection}
 use Rattle.model.specs.declared.Place.{Place}
 use Rattle.model.specs.declared.Place.the-variants as Place
 use Rattle.model.specs.Moved.{moved-read, moved-sound}
+use Rattle.packet.specs.Packet.{leastPacket, mostPacket}
 use Rattle.intake.specs.Exact.{filedAs}
 
 -- what is known of a packet that is filed with k descriptors: its length is allowed, they wait, their count is a byte, and it has room where it is held
 pub record Fine (c : Connection) (place : Place) (k n : ℕ) : Type 0 where
-  pub least : Record.leastPacket ≤ n
-  pub most : n ≤ Record.mostPacket
+  pub least : leastPacket ≤ n
+  pub most : n ≤ mostPacket
   pub some : k ≤ c .counts .waiting
   pub byte : k ≤ 255
   pub room : isHeld place ≡ true → Store.used (c .window) + (Record.headerSize + n) ≤ c .room
@@ -51,7 +52,7 @@ module _ (c : Connection) (r : Rooms) (S : Sound c r) where
 
   -- ---- held
 
-  module _ (p : List ℕ) (least : Record.leastPacket ≤ length p) (most : length p ≤ Record.mostPacket) (room : Store.used (c .window) + (Record.headerSize + length p) ≤ c .room) where
+  module _ (p : List ℕ) (least : leastPacket ≤ length p) (most : length p ≤ mostPacket) (room : Store.used (c .window) + (Record.headerSize + length p) ≤ c .room) where
     append-done : (h : Record.Held) → h .number ≡ c .read → h .packet ≡ p → h .kind ≤ Record.event → h .fds ≤ Record.mostFds (h .kind)
         → Held.Appended (c .window) (r .store) h (appended (c .window) (r .store) h)
     append-done h n e kind count =

@@ -13,19 +13,19 @@ use Rattle.held.specs.Moves.{Leaves, appended}
 use Rattle.held.specs.declared.Window.{Window}
 use Rattle.descriptors.specs.Room as Slots
 use Rattle.descriptors.specs.declared.Counts.{Counts}
-use Rattle.model.specs.Model.{codeOf}
+use Rattle.packet.specs.Packet.{codeOf}
 use Rattle.model.specs.Reading.{rooms}
 use Rattle.model.specs.Promise.{exact-refused, exact-given, same}
 use Rattle.model.specs.declared.Connection.{Connection}
 use Rattle.model.specs.declared.Enqueued.the-variants as Enqueued
 use Rattle.model.specs.declared.Place.{Place}
 use Rattle.model.specs.declared.Place.the-variants as Place
-use Rattle.intake.specs.declared.Plan.{Plan}
-use Rattle.intake.specs.declared.Plan.the-variants as Plan
-use Rattle.intake.specs.Plan.{saysPlan, Ready, planOf}
+use Rattle.filing.specs.declared.Plan.{Plan}
+use Rattle.filing.specs.declared.Plan.the-variants as Plan
+use Rattle.filing.specs.Plan.{saysPlan, planOf, numberedState}
+use Rattle.filing.specs.Planned.{Planned, planned}
 use Rattle.model.specs.Moved.{movedState}
-use Rattle.intake.specs.Exact.{numberedState, filing, filedAs, MayFile, FileDone, carriedOut, enqueueExact, EnqueueStep}
-use Rattle.intake.specs.Planned.{Planned, planned}
+use Rattle.intake.specs.Exact.{Ready, filing, filedAs, MayFile, FileDone, carriedOut, enqueueExact, EnqueueStep}
 
 -- ---- filing
 

@@ -1,20 +1,21 @@
 -- What the floors above may count on: the step is the model's, and the state that it leaves is sound. Assumes nothing.
 use mathlib.Core.Path.{_≡_, refl, sym, ap, _∙_, subst}
-use mathlib.Core.Bool.{Bool, true, false}
 use mathlib.Core.List.{List}
 use Prim.Native.Nat.{ℕ, _+_, _≤_, _<_}
 use native.Mathlib.Omega.{arith}
-use lib.Dec.{ltb, eqb}
+use lib.Dec.{ltb}
 use lib.ListN.{length, take, drop, getD}
-use borrow.Author.Tests.{ltb-false, eqb-true}
-use Rattle.octets.specs.Logic.{choose, both}
-use Rattle.refusal.specs.Answer.{Answer, gives, refuse, pass, refuse-under, gives-same, pass-given, pass-agree, pass-refuse, pass-pass}
+use borrow.Author.Tests.{ltb-false}
+use Rattle.octets.specs.Logic.{both}
+use Rattle.refusal.specs.Answer.{Answer, gives, refuse, pass, refuse-under, gives-same, pass-given, pass-agree}
 use Rattle.requests.specs.Theorems.{sized-is}
-use Rattle.held.specs.Head.{leastPacket, mostPacket, headerSize}
+use Rattle.packet.specs.Packet.{leastPacket, mostPacket, codeOf}
+use Rattle.held.specs.Head.{headerSize}
 use Rattle.held.specs.Theorems as Held
 use Rattle.descriptors.specs.Theorems as Fds
+use Rattle.packet.specs.Laws.{number-bounds}
 use Rattle.model.specs.Client.{Client, setWaiting}
-use Rattle.model.specs.Model.{codeOf, errorCode, replyCode, nobody, somebody, errorPlace, replyUnder, replyPlace, placeOf, wantsDescriptors, claimed, isHeld, filed, Filing, packetNumber, numbered, askedOf, takeIn, enqueuePacket}
+use Rattle.model.specs.Model.{placeOf, claimed, isHeld, filed, Filing, numbered, askedOf, takeIn, enqueuePacket}
 use Rattle.model.specs.Model as Model
 use Rattle.model.specs.Reading.{Rooms, slotsOf, reads}
 use Rattle.model.specs.ReadingLaws.{used-read, length-wait}
@@ -23,12 +24,11 @@ use Rattle.model.specs.Sound.{Sound}
 use Rattle.model.specs.declared.Connection.{Connection}
 use Rattle.model.specs.declared.Place.{Place}
 use Rattle.model.specs.declared.Place.the-variants as Place
-use Rattle.requests.specs.declared.Mode.{Mode}
-use Rattle.requests.specs.declared.Mode.the-variants as Mode
-use Rattle.intake.specs.Plan.{Ready, Task, task, packetNumberIn, askedIn, overRoom, planBy, planOf}
-use Rattle.intake.specs.Exact.{numberedState, filing, filedAs, carriedOut, enqueueExact}
-use Rattle.intake.specs.Planned.{over-not, Planned, planned}
-use Rattle.intake.specs.Numbered.{number-bounds, numbered-sound, numbered-read, asked-read}
+use Rattle.filing.specs.Plan.{Task, task, packetNumberIn, askedIn, overRoom, planOf, numberedState}
+use Rattle.filing.specs.Planned.{over-not, Planned, planned}
+use Rattle.filing.specs.Numbered.{numbered-sound, numbered-read, asked-read}
+use Rattle.filing.specs.Theorems.{claimed-most, event-claims, plan-pass, number-read}
+use Rattle.intake.specs.Exact.{Ready, filing, filedAs, carriedOut, enqueueExact}
 use Rattle.intake.specs.Filed.{Fine, filed-sound, filed-read}
 
 -- A sound state is one that the step can be made from.
@@ -45,70 +45,6 @@ ready c r S =
       slots = Fds.sound-is (slotsOf c r) .0 (S .slots);
     }
 
--- ---- what a packet claims
-
--- A packet claims at most what its byte 1 says;
-claimed-most : (p : List ℕ) (a : Model.Asked) → claimed p a ≤ getD p 1 0
-unfolding claimed choose
-claimed-most p a = go (both (eqb (codeOf p) replyCode) (wantsDescriptors a))
-  where
-    go : (b : Bool) → choose b (getD p 1 0) 0 ≤ getD p 1 0
-    go true = omega arith
-    go false = omega arith
-
-never-event : (m : Mode) → replyUnder m ≡ Place.Events → ⊥
-never-event Mode.Keep e = let z : _≡_ {A = ℕ} 0 1 = cc in omega arith
-never-event Mode.DiscardReply e = let z : _≡_ {A = ℕ} 0 1 = cc in omega arith
-never-event Mode.DiscardReplyAndError e = let z : _≡_ {A = ℕ} 0 1 = cc in omega arith
-
-reply-never : (a : Model.Asked) → replyPlace a ≡ Place.Events → ⊥
-reply-never nobody e = let z : _≡_ {A = ℕ} 0 1 = cc in omega arith
-reply-never (somebody r) e = never-event (r .mode) e
-
--- an event claims nothing.
-pub event-claims : (p : List ℕ) (a : Model.Asked) → placeOf (codeOf p) a ≡ Place.Events → claimed p a ≡ 0
-unfolding claimed placeOf choose both
-event-claims p a = go (eqb (codeOf p) errorCode) refl (eqb (codeOf p) replyCode) refl
-  where
-    go : (x : Bool) → eqb (codeOf p) errorCode ≡ x → (y : Bool) → eqb (codeOf p) replyCode ≡ y → choose x (errorPlace a) (choose y (replyPlace a) Place.Events) ≡ Place.Events
-        → choose (both y (wantsDescriptors a)) (getD p 1 0) 0 ≡ 0
-    go x e false f h = refl
-    go true e true f h =
-        let u : codeOf p ≡ errorCode = eqb-true (codeOf p) errorCode e in
-        let v : codeOf p ≡ replyCode = eqb-true (codeOf p) replyCode f in
-        let z : ⊥ = omega arith in
-        absurd z
-    go false e true f h = absurd (reply-never a h)
-
--- ---- the chain of refusals
-
-by-pass : {B : Type 0} (c : Connection) (p : List ℕ) (n : ℕ) (a : Model.Asked) (f : Task → Answer B) → pass (planBy c p n a) f
-    ≡ refuse (ltb (c .counts .waiting) (claimed p a)) 4 (refuse (overRoom c (placeOf (codeOf p) a) (length p)) 5 (f (task (placeOf (codeOf p) a) n (claimed p a))))
-unfolding planBy pass
-by-pass c p n a f =
-    pass-refuse (ltb (c .counts .waiting) (claimed p a)) 4 _ f
-    ∙ ap (refuse (ltb (c .counts .waiting) (claimed p a)) 4) (pass-refuse (overRoom c (placeOf (codeOf p) a) (length p)) 5 _ f)
-
--- what comes of a plan, refusal by refusal
-plan-pass : {B : Type 0} (c : Connection) (q p : List ℕ) (f : Task → Answer B) → pass (planOf c q p) f
-    ≡ refuse (ltb (length p) leastPacket) 1
-    (refuse (ltb mostPacket (length p)) 2
-    (pass (packetNumberIn c p)
-    (λ n.
-    refuse (ltb (c .counts .waiting) (claimed p (askedIn c q n))) 4
-    (refuse (overRoom c (placeOf (codeOf p) (askedIn c q n)) (length p)) 5 (f (task (placeOf (codeOf p) (askedIn c q n)) n (claimed p (askedIn c q n))))))))
-unfolding planOf
-plan-pass c q p f =
-    pass-refuse (ltb (length p) leastPacket) 1 _ f
-    ∙ ap (refuse (ltb (length p) leastPacket) 1)
-    (pass-refuse (ltb mostPacket (length p)) 2 _ f
-    ∙ ap (refuse (ltb mostPacket (length p)) 2) (pass-pass (packetNumberIn c p) _ f ∙ pass-agree (packetNumberIn c p) _ _ (λ n e. by-pass c p n (askedIn c q n) f)))
-
--- The number is the model's.
-number-read : (c : Connection) (r : Rooms) (p : List ℕ) → packetNumberIn c p ≡ packetNumber (reads c r) p
-unfolding packetNumberIn packetNumber reads
-number-read c r p = refl
-
 filed-value : (place : Place) (c : Connection) (r : Rooms) (k : ℕ) (p : List ℕ) → filedAs place c r k p .value ≡ filing place (c .read)
 filed-value Place.Replies c r k p = refl
 filed-value Place.Events c r k p = refl
@@ -123,7 +59,7 @@ module _ (c : Connection) (r : Rooms) (S : Sound c r) (p : List ℕ) (byte : get
     next = numberedState c (codeOf p) n
 
     next-sound : Sound next r
-    next-sound = let b = number-bounds c p n (S .numbers .read-most) N in numbered-sound c r S n (codeOf p) (b .0) (b .1)
+    next-sound = let b = number-bounds (c .order) (c .read) p n (S .numbers .read-most) N in numbered-sound c r S n (codeOf p) (b .0) (b .1)
 
     -- what it leaves, in the model's terms
     carried-read : (a : Model.Asked) → Fine next (placeOf (codeOf p) a) (claimed p a) (length p)

@@ -8,11 +8,8 @@ use sequence::Full;
 use sequence::SequenceNumber;
 ghost use Prim.Native.Nat.{_≤_};
 ghost use lib.ListN.{length};
-ghost use Rattle.held.specs.Head.{leastPacket, mostPacket};
+ghost use Rattle.packet.specs.Packet.{leastPacket, mostPacket};
 ghost use Rattle.intake.specs.Event.{Writable, IsPlain, PlainEvent, PlainStep};
-use super::REPLY;
-use super::number_of;
-use super::numbered;
 
 // What a packet is: such an event with that number, or another.
 pub enum Plain {
@@ -24,14 +21,14 @@ pub fn plain_of(c: Connection, store: &[u8], packet: &[u8]) -> Plain
     requires { ⌜ Writable c (now store) × (leastPacket ≤ length (now packet)) × (length (now packet) ≤ mostPacket) ⌝ }
     ensures { λ r. ⌜ IsPlain c (now (store .entry)) (now (packet .entry)) r ⌝ }
 {
-    if packet[0] <= REPLY {
+    if packet[0] <= packet::REPLY {
         return Plain::Other;
     }
     let window = c.window;
     if !held::stays(store, window, held::HEADER + packet.len()) {
         return Plain::Other;
     }
-    match number_of(c, packet) {
+    match packet::number_after(c.order, SequenceNumber(c.read), packet) {
         Full::Number(number) => Plain::Event(number),
         Full::Refused(_) => Plain::Other,
     }
@@ -48,7 +45,7 @@ pub fn take_plain(
     ensures { λ r. ⌜ PlainStep c (now (store .entry)) (now (packet .entry)) (number .0) r (now (store .exit)) ⌝ }
 {
     let window = c.window;
-    let next = numbered(c, packet[0], number.0);
+    let next = filing::numbered(c, packet[0], number.0);
     let after = held::behind(store, window, number.0, 0, held::EVENT, packet);
     moved(next, after, c.counts)
 }

@@ -45,7 +45,7 @@ pub fn fresh(order: u8) -> Leaves {
         reader: PacketReader {
             order: order,
             filled: 0,
-            target: packet_reader::FIXED,
+            target: packet::LEAST_PACKET,
         },
         handshake: Connect {
             order: order,

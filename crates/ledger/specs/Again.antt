@@ -9,7 +9,8 @@ use lib.ListN.{length, take, drop, length-append, length-drop, take-append-drop}
 use lib.Seq.{take-at, drop-at, take-all, length-take-le}
 use borrow.Author.Tests.{ltb-true, ltb-false}
 use Rattle.refusal.specs.Answer.{Answer, gives, refuses, gives-same}
-use Rattle.packet_reader.specs.Frame.{aim, Cut, cons, cutPackets, fixed}
+use Rattle.packet.specs.Packet.{leastPacket}
+use Rattle.packet_reader.specs.Frame.{aim, Cut, cons, cutPackets}
 use Rattle.packet_reader.specs.CutLaws.{aim-least, aim-total, total-append}
 use Rattle.packet_reader.specs.Front.{packets-none, packets-next, packets-whole}
 use Rattle.packet_reader.specs.Stream.{joined}
@@ -48,7 +49,7 @@ cut-again o (suc n) a b h = go (λ u k. cut-again o n u b k) (ltb (length a) (ai
     go on false e =
         let t : ℕ = aim o a (length a) in
         let k : t ≤ length a = ltb-false _ _ e in
-        let w : fixed ≤ t = aim-least o a (length a) in
+        let w : leastPacket ≤ t = aim-least o a (length a) in
         let l : length (a ++ b) ≡ length a + length b = length-append a b in
         let p : length (take t a) ≡ t = length-take-le t a k in
         let s : a ++ b ≡ take t a ++ (drop t a ++ b) = ap (λ (x : List ℕ). x ++ b) (sym (take-append-drop t a)) ∙ append-assoc (take t a) (drop t a) b in

@@ -12,14 +12,15 @@ use Rattle.descriptors.specs.Room.{count}
 use Rattle.descriptors.specs.Counting.{count-append, count-split}
 use Rattle.model.specs.Client.{Held, Client, setReplies, setEvents, setWaiting, setClosing, descriptorsOf}
 use Rattle.model.specs.Model as Model
-use Rattle.model.specs.Model.{fresh, sendRequest, enqueueFds, takeClosed, close, asEvent, codeOf, numbered, askedOf, placeOf, claimed, Filing, takeIn, enqueuePacket, withMode, ofNumber, notOf, above, closingOrder, discarding, discardReply, Found, at, behind, find, Taken, takenBy, pollForReplyOrError, checkedBy, pollCheck, repliedBy, pollForReply, eventBy, pollForEvent}
+use Rattle.packet.specs.Packet.{codeOf}
+use Rattle.model.specs.Model.{fresh, sendRequest, enqueueFds, takeClosed, close, asEvent, numbered, askedOf, placeOf, claimed, Filing, takeIn, enqueuePacket, withMode, ofNumber, notOf, above, closingOrder, discarding, discardReply, Found, at, behind, find, Taken, takenBy, pollForReplyOrError, checkedBy, pollCheck, repliedBy, pollForReply, eventBy, pollForEvent}
 use Rattle.model.specs.Calls.{Call, send, enqueue-fds, enqueue, discard, poll, check, poll-reply, prepare, poll-event, take-closed, Said, done, closed, refused, step, outcome, run, saysTaken, saysPoll}
 use Rattle.model.specs.declared.ReplyFdKind.{ReplyFdKind}
 use Rattle.model.specs.declared.DiscardMode.{DiscardMode}
 use Rattle.model.specs.declared.DiscardMode.the-variants as DiscardMode
 use Rattle.model.specs.declared.Place.{Place}
 use Rattle.model.specs.declared.Place.the-variants as Place
-use Rattle.intake.specs.Theorems.{event-claims}
+use Rattle.filing.specs.Theorems.{event-claims}
 use Rattle.ledger.specs.Saying.{by-refuse, by-choose, by-pass}
 use Rattle.ledger.specs.Descriptors.{within, unlessRefused, accepted, tookWith, closedBy, handedOut, Balances, acceptedIn, handedIn}
 

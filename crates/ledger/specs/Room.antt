@@ -8,10 +8,11 @@ use Rattle.octets.specs.Logic.{choose}
 use Rattle.refusal.specs.Answer.{gives}
 use Rattle.sequence.specs.Numbering.{lastNumber}
 use Rattle.sequence.specs.Sending.{syncSpan}
-use Rattle.held.specs.Head.{headerSize, leastPacket, mostPacket}
+use Rattle.packet.specs.Packet.{leastPacket, mostPacket, codeOf}
+use Rattle.held.specs.Head.{headerSize}
 use Rattle.descriptors.specs.Room.{mostDescriptors}
 use Rattle.model.specs.Client.{Client, costs, descriptorsOf}
-use Rattle.model.specs.Model.{hasReply, codeOf, packetNumber, askedOf, claimed, placeOf, isHeld}
+use Rattle.model.specs.Model.{hasReply, packetNumber, askedOf, claimed, placeOf, isHeld}
 use Rattle.model.specs.Calls.{Call, send, enqueue-fds, enqueue, discard, poll, check, poll-reply, prepare, poll-event, take-closed, Said, number, done, filed, nothing, took, again, absent, answer, closed, refused}
 use Rattle.model.specs.declared.Connection.{Connection}
 use Rattle.model.specs.declared.ReplyFdKind.{ReplyFdKind}

@@ -5,19 +5,20 @@ use mathlib.Core.Logic.{_↔_}
 use mathlib.Core.Path.{_≡_, refl, sym, ap, _∙_, subst}
 use Prim.Native.Nat.{ℕ, _+_, _<_}
 use native.Mathlib.Omega.{arith}
-use lib.Dec.{leb, ltb, eqb}
+use lib.Dec.{leb}
 use lib.ListN.{length}
 use borrow.Author.Tests.{leb-true, leb-false, le-leb, lt-leb, ltb-true, ltb-false, lt-ltb, le-ltb}
 use Rattle.octets.specs.Logic.{choose, both, both-left, both-right, both-yes, apart}
 use Rattle.refusal.specs.Answer.{Answer, gives, refuses, refuse, pass, pass-refuse}
-use Rattle.octets.specs.Field.{field}
-use Rattle.sequence.specs.Numbering.{lastNumber, full, inRange}
+use Rattle.sequence.specs.Numbering.{lastNumber, full}
 use Rattle.sequence.specs.Sending.{syncSpan, mustSync, sending}
-use Rattle.held.specs.Head.{headerSize, leastPacket, mostPacket}
+use Rattle.packet.specs.Laws.{number-refused}
+use Rattle.packet.specs.Packet.{leastPacket, mostPacket}
+use Rattle.held.specs.Head.{headerSize}
 use Rattle.descriptors.specs.Room.{mostDescriptors}
 use Rattle.model.specs.Client.{Held, Client, setNumbers, setOutstanding, used, inside}
 use Rattle.model.specs.Model as Model
-use Rattle.model.specs.Model.{hasReply, joining, sendRequest, keymapNotify, enqueueFds, takeClosed, codeOf, packetNumber, askedOf, claimed, takeIn, enqueuePacket, discardReply, Found, at, find, PollReply, takenBy, pollForReplyOrError, checkedBy, pollCheck, repliedBy, pollForReply, eventBy, pollForEvent}
+use Rattle.model.specs.Model.{hasReply, joining, sendRequest, enqueueFds, takeClosed, packetNumber, askedOf, claimed, takeIn, enqueuePacket, discardReply, Found, at, find, PollReply, takenBy, pollForReplyOrError, checkedBy, pollCheck, repliedBy, pollForReply, eventBy, pollForEvent}
 use Rattle.model.specs.Calls.{Call, send, enqueue-fds, enqueue, discard, poll, check, poll-reply, prepare, poll-event, take-closed, refused, step}
 use Rattle.model.specs.Promise.{Done, Promise}
 use Rattle.model.specs.Reading.{Rooms, reads}
@@ -90,13 +91,7 @@ pass-refused (refuses n) f k d e = absurd (d n refl (cc))
 
 -- a number is refused by 3 alone
 number-ends : (c : Client) (p : List ℕ) (n : ℕ) → packetNumber c p ≡ refuses n → n ≡ 5 → ⊥
-unfolding packetNumber inRange choose refuse
-number-ends c p n e q = go (eqb (codeOf p) keymapNotify) (ltb lastNumber (full (c .numbers .read) (field (c .order) 2 2 p))) e
-  where
-    go : (x y : Bool) → choose x (gives (c .numbers .read)) (refuse y 3 (gives (full (c .numbers .read) (field (c .order) 2 2 p)))) ≡ refuses n → ⊥
-    go true y z = let i : _≡_ {A = ℕ} 0 1 = cc in omega arith
-    go false true z = let i : 3 ≡ n = cc in omega arith
-    go false false z = let i : _≡_ {A = ℕ} 0 1 = cc in omega arith
+number-ends c p n e q = omega (arith, number-refused (c .order) (c .numbers .read) p n e)
 
 module _ (c : Client) (p : List ℕ) where
   packet-short : enqueuePacket c p ≡ refuses 5 → PacketShort (filled c) c p

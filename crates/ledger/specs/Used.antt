@@ -11,7 +11,8 @@ use Rattle.refusal.specs.Answer.{Answer, refuse}
 use Rattle.held.specs.Head.{headerSize}
 use Rattle.model.specs.Client.{Held, Client, setWaiting, costs, used}
 use Rattle.model.specs.Model as Model
-use Rattle.model.specs.Model.{sendRequest, enqueueFds, takeClosed, codeOf, numbered, askedOf, placeOf, claimed, isHeld, takeIn, enqueuePacket, asEvent, Found, at, find, takenBy, pollForReplyOrError, checkedBy, pollCheck, repliedBy, pollForReply, eventBy, pollForEvent}
+use Rattle.packet.specs.Packet.{codeOf}
+use Rattle.model.specs.Model.{sendRequest, enqueueFds, takeClosed, numbered, askedOf, placeOf, claimed, isHeld, takeIn, enqueuePacket, asEvent, Found, at, find, takenBy, pollForReplyOrError, checkedBy, pollCheck, repliedBy, pollForReply, eventBy, pollForEvent}
 use Rattle.model.specs.Calls.{Call, send, enqueue-fds, enqueue, discard, poll, check, poll-reply, prepare, poll-event, take-closed, Said, number, done, closed, refused, Step, step, outcome, saysFiling, saysTaken, saysPoll}
 use Rattle.model.specs.declared.Place.{Place}
 use Rattle.model.specs.declared.Place.the-variants as Place

@@ -7,15 +7,14 @@ use lib.Dec.{leb, ltb, eqb}
 use lib.ListN.{length, take, drop, getD, set}
 use Rattle.octets.specs.Logic.{choose, both, either}
 use Rattle.octets.specs.Bytes.{legal}
-use Rattle.octets.specs.Field.{field}
 use Rattle.refusal.specs.Answer.{Answer, gives, refuse, pass}
-use Rattle.sequence.specs.Numbering.{full, inRange}
 use Rattle.sequence.specs.Sending.{sending}
 use Rattle.requests.specs.Room.{mostRequests, underMode}
 use Rattle.requests.specs.declared.Request.{Request}
 use Rattle.requests.specs.declared.Mode.{Mode}
 use Rattle.requests.specs.declared.Mode.the-variants as Mode
-use Rattle.held.specs.Head.{headerSize, leastPacket, mostPacket, mostStore}
+use Rattle.packet.specs.Packet.{leastPacket, mostPacket, codeOf, errorCode, replyCode, unnumbered, numberAfter}
+use Rattle.held.specs.Head.{headerSize, mostStore}
 use Rattle.descriptors.specs.Room.{mostDescriptors}
 use Rattle.model.specs.Client.{Held, Client, setNumbers, setOutstanding, setReplies, setEvents, setWaiting, setClosing, first, used, descriptorsOf, inside}
 use Rattle.model.specs.declared.ReplyFdKind.{ReplyFdKind}
@@ -81,28 +80,15 @@ close fds c = setClosing c (c .closing ++ fds)
 
 -- ---- Numbering and filing
 
--- the codes that matter: an error's, a reply's, and that of KeymapNotify, which carries no number
-abbrev pub errorCode : ℕ
-errorCode = 0
+-- the number that a packet is filed under: `packet` has the rule
+abbrev pub packetNumber : Client → List ℕ → Answer ℕ
+packetNumber c p = numberAfter (c .order) (c .numbers .read) p
 
-abbrev pub replyCode : ℕ
-replyCode = 1
-
-abbrev pub keymapNotify : ℕ
-keymapNotify = 11
-
-abbrev pub codeOf : List ℕ → ℕ
-codeOf p = getD p 0 0
-
--- "The full number is the least number at or above the last read whose low 16 bits are the wire number", 3 past the last one; "Code 11 carries no number and is filed under the last read."
-unfoldable pub packetNumber : Client → List ℕ → Answer ℕ
-packetNumber c p = choose (eqb (codeOf p) keymapNotify) (gives (c .numbers .read)) (inRange (full (c .numbers .read) (field (c .order) 2 2 p)))
-
--- "It becomes the last read, and the next reply expected if that was lower. Then outstanding requests below the number go." Code 11 raises nothing.
+-- "It becomes the last read, and the next reply expected if that was lower. Then outstanding requests below the number go." A packet that carries no number raises nothing.
 unfoldable pub numbered : Client → List ℕ → ℕ → Client
 numbered c p n =
     setOutstanding
-    (setNumbers c (record { written = c .numbers .written; expected = choose (eqb (codeOf p) keymapNotify) (c .numbers .expected) (max (c .numbers .expected) n); read = n }))
+    (setNumbers c (record { written = c .numbers .written; expected = choose (unnumbered (codeOf p)) (c .numbers .expected) (max (c .numbers .expected) n); read = n }))
     (drop (n - first c) (c .outstanding))
 
 -- "The request with that number, if still outstanding"

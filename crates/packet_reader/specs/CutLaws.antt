@@ -12,7 +12,8 @@ use Rattle.octets.specs.Logic.{choose}
 use Rattle.octets.specs.Bytes.{numberIn}
 use Rattle.octets.specs.Put.{cut-append}
 use Rattle.octets.specs.Field.{field}
-use Rattle.packet_reader.specs.Frame.{fixed, hasLength, total, totalOf, aim, Cut, cons, cuts}
+use Rattle.packet.specs.Packet.{leastPacket, hasLength}
+use Rattle.packet_reader.specs.Frame.{total, totalOf, aim, Cut, cons, cuts}
 
 -- ---- the length of a packet
 
@@ -21,34 +22,34 @@ unfolding choose
 choose-least true x y m h k = h
 choose-least false x y m h k = k
 
-pub total-least : (o : ℕ) (s : List ℕ) → fixed ≤ totalOf o s
+pub total-least : (o : ℕ) (s : List ℕ) → leastPacket ≤ totalOf o s
 unfolding totalOf total
-total-least o s = choose-least (hasLength (getD s 0 0)) (fixed + 4 * field o 4 4 s) fixed fixed (omega arith) (omega arith)
+total-least o s = choose-least (hasLength (getD s 0 0)) (leastPacket + 4 * field o 4 4 s) leastPacket leastPacket (omega arith) (omega arith)
 
-pub aim-least : (o : ℕ) (s : List ℕ) (f : ℕ) → fixed ≤ aim o s f
+pub aim-least : (o : ℕ) (s : List ℕ) (f : ℕ) → leastPacket ≤ aim o s f
 unfolding aim
-aim-least o s f = choose-least (ltb f fixed) fixed (totalOf o s) fixed (omega arith) (total-least o s)
+aim-least o s f = choose-least (ltb f leastPacket) leastPacket (totalOf o s) leastPacket (omega arith) (total-least o s)
 
-pub aim-head : (o : ℕ) (s : List ℕ) (f : ℕ) → f < fixed → aim o s f ≡ fixed
+pub aim-head : (o : ℕ) (s : List ℕ) (f : ℕ) → f < leastPacket → aim o s f ≡ leastPacket
 unfolding aim choose
 aim-head o s f h = simp (lt-ltb _ _ h)
 
-pub aim-total : (o : ℕ) (s : List ℕ) (f : ℕ) → fixed ≤ f → aim o s f ≡ totalOf o s
+pub aim-total : (o : ℕ) (s : List ℕ) (f : ℕ) → leastPacket ≤ f → aim o s f ≡ totalOf o s
 unfolding aim choose
 aim-total o s f h = simp (le-ltb _ _ h)
 
 -- the first 32 bytes decide
-pub total-append : (o : ℕ) (a u : List ℕ) → fixed ≤ length a → totalOf o (a ++ u) ≡ totalOf o a
+pub total-append : (o : ℕ) (a u : List ℕ) → leastPacket ≤ length a → totalOf o (a ++ u) ≡ totalOf o a
 unfolding totalOf field
 total-append o a u h = λ i. total (List·getD-append a u 0 0 (omega arith) i) (numberIn o (cut-append 4 4 a u (omega arith) i))
 
 -- the target is that of the bytes held
 pub aim-held : (o : ℕ) (s : List ℕ) (f : ℕ) → f ≤ length s → aim o (take f s) f ≡ aim o s f
-aim-held o s f h = go (ltb f fixed) refl where
-  go : (b : Bool) → ltb f fixed ≡ b → aim o (take f s) f ≡ aim o s f
+aim-held o s f h = go (ltb f leastPacket) refl where
+  go : (b : Bool) → ltb f leastPacket ≡ b → aim o (take f s) f ≡ aim o s f
   go true e = aim-head o (take f s) f (ltb-true _ _ e) ∙ sym (aim-head o s f (ltb-true _ _ e))
   go false e =
-      let k : fixed ≤ f = ltb-false _ _ e in
+      let k : leastPacket ≤ f = ltb-false _ _ e in
       aim-total o (take f s) f k
       ∙ sym (total-append o (take f s) (drop f s) (omega (arith, length-take-le f s h)))
       ∙ ap (λ (l : List ℕ). totalOf o l) (take-append-drop f s)
@@ -56,11 +57,11 @@ aim-held o s f h = go (ltb f fixed) refl where
 
 -- a target is met, never passed
 pub aim-grows : (o : ℕ) (s : List ℕ) (f g : ℕ) → f ≤ g → aim o s f ≤ aim o s g
-aim-grows o s f g h = go (ltb f fixed) refl where
-  go : (b : Bool) → ltb f fixed ≡ b → aim o s f ≤ aim o s g
+aim-grows o s f g h = go (ltb f leastPacket) refl where
+  go : (b : Bool) → ltb f leastPacket ≡ b → aim o s f ≤ aim o s g
   go true e = omega (arith, aim-head o s f (ltb-true _ _ e), aim-least o s g)
   go false e =
-      let k : fixed ≤ f = ltb-false _ _ e in
+      let k : leastPacket ≤ f = ltb-false _ _ e in
       omega (arith, aim-total o s f k, aim-total o s g (omega arith))
 
 -- ---- cutting
@@ -75,7 +76,7 @@ unfolding cuts choose
 cut-packet o zero p u R e h k = let z : ⊥ = omega (arith, aim-least o p (length p), length-append p u) in absurd z
 cut-packet o (suc n) p u R e h k =
     let l : length (p ++ u) ≡ length p + length u = length-append p u in
-    let w : fixed ≤ length p = omega (arith, aim-least o p (length p)) in
+    let w : leastPacket ≤ length p = omega (arith, aim-least o p (length p)) in
     let t : aim o (p ++ u) (length (p ++ u)) ≡ length p =
     aim-total o (p ++ u) (length (p ++ u)) (omega arith) ∙ total-append o p u w ∙ sym (aim-total o p (length p) w) ∙ sym e in
     let q : length p ≤ length (p ++ u) = omega arith in

@@ -1,43 +1,23 @@
 -- How long a packet is, and how a run of bytes is cut into packets. Assumes nothing.
-use mathlib.Core.Bool.{Bool}
 use mathlib.Core.List.{List, [], _∷_}
-use Prim.Native.Nat.{ℕ, zero, suc, _+_, _*_, _%_}
-use lib.Dec.{eqb, ltb}
-use lib.ListN.{length, take, drop, getD}
-use Rattle.octets.specs.Logic.{choose, either}
+use Prim.Native.Nat.{ℕ, zero, suc, _+_, _*_}
+use lib.Dec.{ltb}
+use lib.ListN.{length, take, drop}
+use Rattle.octets.specs.Logic.{choose}
 use Rattle.octets.specs.Field.{field}
-
--- Core, Protocol Formats: errors and events have 32 bytes; a reply has 32 and those that its length field counts in units of four. Generic Event Extension: the event of code 35 has such a length too. The top bit of an event's code says whether SendEvent made it; a reply's code, 1, has no such bit.
-abbrev pub fixed : ℕ
-fixed = 32
-
-abbrev pub replyCode : ℕ
-replyCode = 1
-
-abbrev pub genericEvent : ℕ
-genericEvent = 35
-
-abbrev pub sentBit : ℕ
-sentBit = 128
-
-unfoldable pub hasLength : ℕ → Bool
-hasLength code = either (eqb code replyCode) (eqb (code % sentBit) genericEvent)
-
--- 01, Refusal numbers: no packet has over 65,536 bytes
-abbrev pub mostPacket : ℕ
-mostPacket = 65536
+use Rattle.packet.specs.Packet.{leastPacket, codeOf, hasLength, lengthAt}
 
 -- the bytes of a packet that begins with the code and whose bytes 4 to 7 write the length
 unfoldable pub total : ℕ → ℕ → ℕ
-total code units = choose (hasLength code) (fixed + 4 * units) fixed
+total code units = choose (hasLength code) (leastPacket + 4 * units) leastPacket
 
 -- the same of the packet that bytes begin with
 unfoldable pub totalOf : ℕ → List ℕ → ℕ
-totalOf o s = total (getD s 0 0) (field o 4 4 s)
+totalOf o s = total (codeOf s) (field o lengthAt 4 s)
 
 -- 01, Framing: the bytes that a packet will have of which the first n are there: 32 until those are there
 unfoldable pub aim : ℕ → List ℕ → ℕ → ℕ
-aim o s n = choose (ltb n fixed) fixed (totalOf o s)
+aim o s n = choose (ltb n leastPacket) leastPacket (totalOf o s)
 
 -- packets, and the bytes left over
 pub record Cut : Type 0 where

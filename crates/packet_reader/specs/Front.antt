@@ -8,7 +8,8 @@ use lib.Dec.{ltb, eqb}
 use lib.ListN.{length, take, drop, getD, length-drop, take-append-drop}
 use borrow.Author.Tests.{ltb-true, ltb-false, lt-ltb, le-ltb, eqb-true, eqb-false, eq-eqb, ne-eqb}
 use Rattle.octets.specs.Logic.{choose}
-use Rattle.packet_reader.specs.Frame.{fixed, mostPacket, hasLength, total, totalOf, aim, cons, cuts, cutPackets}
+use Rattle.packet.specs.Packet.{leastPacket, mostPacket, hasLength}
+use Rattle.packet_reader.specs.Frame.{total, totalOf, aim, cons, cuts, cutPackets}
 use Rattle.packet_reader.specs.CutLaws.{aim-least, aim-head, aim-total, cut-rest}
 use Rattle.packet_reader.specs.Stream.{joined}
 use Rattle.packet_reader.specs.declared.Begins.{Begins}
@@ -58,11 +59,11 @@ module _ (o : ℕ) (s : List ℕ) where
   unfolding frontOf choose
   front-nothing h = simp (eq-eqb (length s) 0 h)
 
-  pub front-short : (length s ≡ 0 → ⊥) → length s < fixed → part ≡ frontOf o s
+  pub front-short : (length s ≡ 0 → ⊥) → length s < leastPacket → part ≡ frontOf o s
   unfolding frontOf choose
   front-short h k =
-      let a : aim o s (length s) ≡ fixed = aim-head o s (length s) k in
-      simp (ne-eqb (length s) 0 h, a, lt-ltb (length s) fixed k)
+      let a : aim o s (length s) ≡ leastPacket = aim-head o s (length s) k in
+      simp (ne-eqb (length s) 0 h, a, lt-ltb (length s) leastPacket k)
 
   module _ (t : ℕ) (e : t ≡ aim o s (length s)) (h : length s ≡ 0 → ⊥) where
     pub front-long : mostPacket < t → long ≡ frontOf o s
@@ -78,12 +79,12 @@ module _ (o : ℕ) (s : List ℕ) where
     front-whole k l = simp (ne-eqb (length s) 0 h, sym e, le-ltb mostPacket t k, le-ltb (length s) t l)
 
 -- a packet that has no length of its own has 32 bytes
-total-fixed : (o : ℕ) (s : List ℕ) → hasLength (getD s 0 0) ≡ false → totalOf o s ≡ fixed
+total-fixed : (o : ℕ) (s : List ℕ) → hasLength (getD s 0 0) ≡ false → totalOf o s ≡ leastPacket
 unfolding totalOf total choose
 total-fixed o s e = simp e
 
-pub front-fixed : (o : ℕ) (s : List ℕ) → fixed ≤ length s → hasLength (getD s 0 0) ≡ false → whole fixed ≡ frontOf o s
-front-fixed o s h e = front-whole o s fixed (sym (aim-total o s (length s) h ∙ total-fixed o s e)) (λ z. omega arith) (omega arith) h
+pub front-fixed : (o : ℕ) (s : List ℕ) → leastPacket ≤ length s → hasLength (getD s 0 0) ≡ false → whole leastPacket ≡ frontOf o s
+front-fixed o s h e = front-whole o s leastPacket (sym (aim-total o s (length s) h ∙ total-fixed o s e)) (λ z. omega arith) (omega arith) h
 
 -- ---- and what each tells
 
@@ -98,7 +99,7 @@ pub record Long (o : ℕ) (s : List ℕ) : Type 0 where
 
 pub record Whole (o : ℕ) (s : List ℕ) (n : ℕ) : Type 0 where
   pub target : n ≡ aim o s (length s)
-  pub least : fixed ≤ n
+  pub least : leastPacket ≤ n
   pub fits : n ≤ length s
   pub most : n ≤ mostPacket
 
@@ -151,7 +152,7 @@ cuts-enough o zero m s h k = cut-rest o zero s (omega (arith, aim-least o s (len
 cuts-enough o (suc n) zero s h k = cut-rest o (suc n) s (omega (arith, aim-least o s (length s))) ∙ sym (cut-rest o zero s (omega (arith, aim-least o s (length s))))
 cuts-enough o (suc n) (suc m) s h k =
     go (ltb (length s) (aim o s (length s))) refl
-    (λ f. let w : fixed ≤ aim o s (length s) = aim-least o s (length s) in
+    (λ f. let w : leastPacket ≤ aim o s (length s) = aim-least o s (length s) in
     let l : length (drop (aim o s (length s)) s) ≡ length s - aim o s (length s) = length-drop (aim o s (length s)) s in
     cuts-enough o n m (drop (aim o s (length s)) s) (omega arith) (omega arith))
   where
@@ -171,7 +172,7 @@ packets-none o s h = cut-rest o (length s) s h
 pub packets-next : (o : ℕ) (s : List ℕ) → aim o s (length s) ≤ length s → cutPackets o s ≡ cons (take (aim o s (length s)) s) (cutPackets o (drop (aim o s (length s)) s))
 unfolding cutPackets
 packets-next o s h =
-    let w : fixed ≤ aim o s (length s) = aim-least o s (length s) in
+    let w : leastPacket ≤ aim o s (length s) = aim-least o s (length s) in
     let l : length (drop (aim o s (length s)) s) ≡ length s - aim o s (length s) = length-drop (aim o s (length s)) s in
     cuts-enough o (length s) (suc (length s)) s (omega arith) (omega arith)
     ∙ cut-next o (length s) s h

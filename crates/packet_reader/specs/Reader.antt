@@ -11,7 +11,8 @@ use Rattle.octets.specs.Bytes.{legal}
 use Rattle.octets.specs.Put.{cut}
 use Rattle.refusal.specs.Answer.{Answer, gives, refuses, refuse, decides}
 use Rattle.refusal.specs.Numbers.{numberOf, refusalOf, listed}
-use Rattle.packet_reader.specs.Frame.{fixed, mostPacket, aim}
+use Rattle.packet.specs.Packet.{leastPacket, mostPacket}
+use Rattle.packet_reader.specs.Frame.{aim}
 use Rattle.packet_reader.specs.declared.PacketReader.{PacketReader}
 use Rattle.packet_reader.specs.declared.Made.{Made}
 use Rattle.packet_reader.specs.declared.Made.the-variants as Made
@@ -25,7 +26,7 @@ abbrev pub mostBuffer : ℕ
 mostBuffer = mostPacket
 
 unfoldable pub room : ℕ → Bool
-room n = both (leb fixed n) (leb n mostBuffer)
+room n = both (leb leastPacket n) (leb n mostBuffer)
 
 -- 01, Rooms: the buffer's length is in range, the order is `l` or `B`, the target is what the bytes filled so far give, fits the buffer and is neither passed nor reached.
 unfoldable pub soundb : PacketReader → List ℕ → Bool
@@ -37,7 +38,7 @@ soundb r s =
 
 -- a reader with nothing filled
 abbrev pub fresh : ℕ → PacketReader
-fresh o = record { order = o; filled = 0; target = fixed }
+fresh o = record { order = o; filled = 0; target = leastPacket }
 
 -- `new`: 9, 13
 unfoldable pub made : ℕ → ℕ → Answer PacketReader

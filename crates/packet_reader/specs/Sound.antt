@@ -8,14 +8,15 @@ use lib.ListN.{length}
 use borrow.Author.Tests.{leb-true, ltb-true, eqb-true, le-leb, lt-ltb, eq-eqb, not-false}
 use Rattle.octets.specs.Logic.{both-left, both-right, both-yes}
 use Rattle.octets.specs.Bytes.{legal}
-use Rattle.packet_reader.specs.Frame.{fixed, aim}
+use Rattle.packet.specs.Packet.{leastPacket}
+use Rattle.packet_reader.specs.Frame.{aim}
 use Rattle.refusal.specs.Answer.{gives, gives-past, gives-rest}
 use Rattle.packet_reader.specs.Reader.{mostBuffer, room, soundb, capacity, Progress, advanced}
 use Rattle.packet_reader.specs.declared.PacketReader.{PacketReader}
 
 -- 01, Rooms: what a sound reader is
 pub record Sound (r : PacketReader) (s : List ℕ) : Type 0 where
-  pub least : fixed ≤ length s
+  pub least : leastPacket ≤ length s
   pub most : length s ≤ mostBuffer
   pub order-known : legal (r .order) ≡ true
   pub target-given : r .target ≡ aim (r .order) s (r .filled)
@@ -39,7 +40,7 @@ sound-is r s h =
 pub is-sound : (r : PacketReader) (s : List ℕ) → Sound r s → soundb r s ≡ true
 unfolding soundb room
 is-sound r s h =
-    both-yes _ _ (both-yes _ _ (le-leb fixed (length s) (h .least)) (le-leb (length s) mostBuffer (h .most)))
+    both-yes _ _ (both-yes _ _ (le-leb leastPacket (length s) (h .least)) (le-leb (length s) mostBuffer (h .most)))
     (both-yes _ _ (h .order-known)
     (both-yes _ _ (eq-eqb (r .target) _ (h .target-given)) (both-yes _ _ (le-leb (r .target) (length s) (h .target-fits)) (lt-ltb (r .filled) (r .target) (h .not-reached)))))
 
@@ -47,7 +48,7 @@ is-sound r s h =
 pub sound-seen : (r : PacketReader) (s : List ℕ) (b : Bool) → b ≡ soundb r s → not b ≡ false → Sound r s
 sound-seen r s b e h = sound-is r s (sym e ∙ not-false b h)
 
--- what an answer tells of the buffer: the part that is lent lies in it, and it has a packet's fixed bytes
+-- what an answer tells of the buffer: the part that is lent lies in it, and it has a packet's leastPacket bytes
 pub capacity-fits : (r : PacketReader) (s : List ℕ) (k : ℕ) → gives k ≡ capacity r s → r .filled + k ≤ length s
 unfolding capacity
 capacity-fits r s k e =
@@ -56,6 +57,6 @@ capacity-fits r s k e =
     let q : k ≡ r .target - r .filled = cc in
     omega (arith, h .target-fits, h .not-reached, q)
 
-pub advanced-fixed : (r : PacketReader) (s : List ℕ) (n : ℕ) {x : Progress} → gives x ≡ advanced r s n → fixed ≤ length s
+pub advanced-fixed : (r : PacketReader) (s : List ℕ) (n : ℕ) {x : Progress} → gives x ≡ advanced r s n → leastPacket ≤ length s
 unfolding advanced
 advanced-fixed r s n e = sound-is r s (not-false _ (gives-past _ _ _ e)) .least

@@ -8,40 +8,23 @@
 ghost use mathlib.Core.Path.{_≡_};
 ghost use Prim.Native.Nat.{_≤_};
 ghost use lib.ListN.{length};
-ghost use Rattle.packet_reader.specs.Frame.{hasLength, total, aim};
+ghost use Rattle.packet_reader.specs.Frame.{total, aim};
 ghost use Rattle.packet_reader.specs.Front.{frontOf, saysBegins};
 ghost use Rattle.packet_reader.specs.Reader.{fresh as Reader·fresh, soundb, made, capacity, advanced, saysMade, saysCapacity, saysAdvanced, Lent};
 use refusal::Refusal;
 
-// The bytes that every packet has, and the most that a buffer may have.
-pub const FIXED: usize = 32;
-
-pub const MOST_BUFFER: usize = 65536;
-
-// The first byte of a reply, and of the event that has a length.
-const REPLY: u8 = 1;
-
-const GENERIC_EVENT: u8 = 35;
-
-// Whether a packet of the code has a length of its own; the others have 32 bytes.
-pub fn has_length(code: u8) -> bool
-    ensures { λ r. ⌜ r ≡ hasLength code ⌝ }
-{
-    if code == REPLY {
-        return true;
-    }
-    code % 128 == GENERIC_EVENT
-}
+// The most bytes that a buffer may have.
+pub const MOST_BUFFER: usize = packet::MOST_PACKET;
 
 // How many bytes a packet has that begins with code and whose 32-bit field at bytes 4 to 7 is
 // field.
 pub fn packet_length(code: u8, field: u32) -> usize
     ensures { λ r. ⌜ r ≡ total code field ⌝ }
 {
-    if has_length(code) {
-        return FIXED + 4 * (field as usize);
+    if packet::has_length(code) {
+        return packet::LEAST_PACKET + 4 * (field as usize);
     }
-    FIXED
+    packet::LEAST_PACKET
 }
 
 // How many bytes a packet will have of which the first filled are there.
@@ -49,14 +32,14 @@ fn aim_of(order: u8, bytes: &[u8], filled: usize) -> usize
     requires { ⌜ 8 ≤ length (now bytes) ⌝ }
     ensures { λ r. ⌜ r ≡ aim order (now (bytes .entry)) filled ⌝ }
 {
-    if filled < FIXED {
-        return FIXED;
+    if filled < packet::LEAST_PACKET {
+        return packet::LEAST_PACKET;
     }
     let code = bytes[0];
-    if !has_length(code) {
-        return FIXED;
+    if !packet::has_length(code) {
+        return packet::LEAST_PACKET;
     }
-    packet_length(code, octets::get_u32(order, bytes, 4))
+    packet_length(code, octets::get_u32(order, bytes, packet::LENGTH))
 }
 
 // What a run of bytes begins with: it has none, or begins with a part of a packet, with a packet
@@ -75,7 +58,7 @@ pub fn front(order: u8, bytes: &[u8]) -> Begins
     if bytes.len() == 0 {
         return Begins::Nothing;
     }
-    if bytes.len() < FIXED {
+    if bytes.len() < packet::LEAST_PACKET {
         return Begins::Part;
     }
     let target = aim_of(order, bytes, bytes.len());
@@ -119,7 +102,7 @@ impl PacketReader {
     pub fn new(order: u8, buf: &[u8]) -> Made
         ensures { λ r. ⌜ saysMade r ≡ made order (length (now (buf .entry))) ⌝ }
     {
-        if buf.len() < FIXED {
+        if buf.len() < packet::LEAST_PACKET {
             return Made::Refused(Refusal::BadRoom);
         }
         if MOST_BUFFER < buf.len() {
@@ -188,14 +171,14 @@ fn fresh(order: u8) -> PacketReader
     PacketReader {
         order: order,
         filled: 0,
-        target: FIXED,
+        target: packet::LEAST_PACKET,
     }
 }
 
 fn is_sound(reader: PacketReader, buf: &[u8]) -> bool
     ensures { λ r. ⌜ r ≡ soundb reader (now (buf .entry)) ⌝ }
 {
-    if buf.len() < FIXED {
+    if buf.len() < packet::LEAST_PACKET {
         return false;
     }
     if MOST_BUFFER < buf.len() {

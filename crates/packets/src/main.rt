@@ -13,12 +13,9 @@ use packet_reader::PacketReader;
 use refusal::Refusal;
 use sequence::Full;
 use sequence::SequenceNumber;
-use sequence::WireNumber;
 ghost use Prim.Native.Nat.{_≤_, _<_};
 ghost use lib.ListN.{length};
-
-// KeymapNotify, the one event that carries no number.
-const KEYMAP_NOTIFY: u8 = 11;
+ghost use Rattle.packet.specs.Packet.{leastPacket};
 
 // Where a run is: the reader, the last number read, and how many bytes of output wait.
 pub struct Place {
@@ -136,16 +133,6 @@ fn count(place: Place, buf: &[u8], n: usize, out: &mut [u8]) -> Went {
     }
 }
 
-// The number of a packet: the last read where it carries none.
-fn number_of(packet: &[u8], last: SequenceNumber) -> Full
-    requires { ⌜ 32 ≤ length (now packet) ⌝ }
-{
-    if packet[0] == KEYMAP_NOTIFY {
-        return Full::Number(last);
-    }
-    sequence::full_number(last, WireNumber(octets::get_u16(octets::LITTLE, packet, 2)))
-}
-
 // A whole packet of len bytes is at the start of buf.
 fn packet(
     buf: &[u8],
@@ -155,9 +142,9 @@ fn packet(
     out: &mut [u8],
     waiting: usize,
 ) -> Went
-    requires { ⌜ 32 ≤ length (now buf) ⌝ }
+    requires { ⌜ leastPacket ≤ length (now buf) ⌝ }
 {
-    match number_of(buf, last) {
+    match packet::number_after(octets::LITTLE, last, buf) {
         Full::Number(number) => {
             let next = lines::packet(out, waiting, buf[0], len, number.0);
             Went::On(Place {

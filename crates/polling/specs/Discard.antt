@@ -17,7 +17,8 @@ use Rattle.held.specs.declared.Found.{Found}
 use Rattle.held.specs.declared.Found.the-variants as Found
 use Rattle.held.specs.Tally.{own, lower, higher}
 use Rattle.descriptors.specs.Room as Slots
-use Rattle.model.specs.Model.{errorCode, modeOf}
+use Rattle.packet.specs.Packet.{errorCode}
+use Rattle.model.specs.Model.{modeOf}
 use Rattle.model.specs.Reading.{Rooms, rooms, slotsOf}
 use Rattle.model.specs.Promise.{Done}
 use Rattle.model.specs.declared.Connection.{Connection}

@@ -26,7 +26,7 @@ use Rattle.descriptors.specs.Room as Slots
 use Rattle.descriptors.specs.Theorems as Fds
 use Rattle.model.specs.Client.{descriptorsOf}
 use Rattle.model.specs.Client as Client
-use Rattle.model.specs.Model.{errorCode}
+use Rattle.packet.specs.Packet.{errorCode}
 use Rattle.model.specs.Reading.{withDescriptors}
 use Rattle.model.specs.ReadingLaws.{descriptors-with}
 use Rattle.model.specs.declared.DiscardMode.{DiscardMode}

@@ -28,7 +28,8 @@ use Rattle.held.specs.declared.Found.{Found}
 use Rattle.held.specs.declared.Found.the-variants as Found
 use Rattle.held.specs.Tally.{own}
 use Rattle.descriptors.specs.Room as Slots
-use Rattle.model.specs.Model.{errorCode, modeOf}
+use Rattle.packet.specs.Packet.{errorCode}
+use Rattle.model.specs.Model.{modeOf}
 use Rattle.model.specs.declared.Connection.{Connection}
 use Rattle.model.specs.declared.DiscardMode.{DiscardMode}
 use Rattle.model.specs.declared.DiscardMode.the-variants as DiscardMode

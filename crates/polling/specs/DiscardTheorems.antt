@@ -23,7 +23,8 @@ use Rattle.descriptors.specs.Room as Slots
 use Rattle.descriptors.specs.Theorems as Fds
 use Rattle.model.specs.Client.{Client, setOutstanding, descriptorsOf}
 use Rattle.model.specs.Client as Client
-use Rattle.model.specs.Model.{withMode, modeOf, joining, ofNumber, notOf, above, errorsOf, closingOrder, discarding, discardReply, errorCode}
+use Rattle.packet.specs.Packet.{errorCode}
+use Rattle.model.specs.Model.{withMode, modeOf, joining, ofNumber, notOf, above, errorsOf, closingOrder, discarding, discardReply}
 use Rattle.model.specs.Model as Model
 use Rattle.model.specs.Reading.{Rooms, count, slotsOf, withDescriptors, eventOf, reads}
 use Rattle.model.specs.ReadingLaws.{first-read}

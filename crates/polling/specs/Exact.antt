@@ -18,7 +18,8 @@ use Rattle.held.specs.declared.Found.the-variants as Found
 use Rattle.descriptors.specs.Room as Slots
 use Rattle.model.specs.Client.{Held}
 use Rattle.model.specs.Model as Model
-use Rattle.model.specs.Model.{Taken, errorCode}
+use Rattle.packet.specs.Packet.{errorCode}
+use Rattle.model.specs.Model.{Taken}
 use Rattle.model.specs.Reading.{Rooms, rooms, slotsOf}
 use Rattle.model.specs.Moved.{movedState}
 use Rattle.model.specs.Promise.{Done, Exact, outputOf}

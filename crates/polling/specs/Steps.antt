@@ -26,7 +26,7 @@ use Rattle.descriptors.specs.Room as Slots
 use Rattle.descriptors.specs.Theorems.{length-holding}
 use Rattle.descriptors.specs.declared.Counts.{Counts}
 use Rattle.model.specs.Model as Model
-use Rattle.model.specs.Model.{errorCode}
+use Rattle.packet.specs.Packet.{errorCode}
 use Rattle.model.specs.Reading.{Rooms, rooms, slotsOf}
 use Rattle.model.specs.Promise.{Done, Exact, answerOf, roomsOf, outputOf, exact-refused}
 use Rattle.model.specs.Says.{shownTaken, shownPoll, shownEvent, bytesOfTaken, descriptorsOfTaken, bytesOfPoll}

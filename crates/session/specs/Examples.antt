@@ -9,7 +9,8 @@ use Rattle.octets.specs.Bytes.{bytesOf, numberIn, lowBytes, lowNumber, turned}
 use Rattle.octets.specs.Put.{cut}
 use Rattle.octets.specs.Field.{field}
 use Rattle.sequence.specs.Numbering.{full, inRange}
-use Rattle.packet_reader.specs.Frame.{hasLength, total, totalOf, aim, cuts, cutPackets}
+use Rattle.packet.specs.Packet.{hasLength, unnumbered, numberAfter}
+use Rattle.packet_reader.specs.Frame.{total, totalOf, aim, cuts, cutPackets}
 use Rattle.model.specs.Client.{costs}
 use Rattle.model.specs.Model as Model
 use Rattle.model.specs.Batch.{many, onTurn, notes}
@@ -29,7 +30,7 @@ taken t p n = took t p (record { place = Events; number = n })
 
 -- true numbers 70, 80 and 90 of a run of three events, of which that of code 11 carries no number; the engine reads 1 and 2 from the wire
 pub fed : noteFed (70 ∷ 80 ∷ 90 ∷ []) (Model.fresh 108 4 500) (event 2 1 ++ (event 11 0 ++ event 3 2)) (gives (tt {0})) [] ≡ taken 90 (event 3 2) 2 ∷ taken 70 (event 2 1) 1 ∷ []
-unfolding noteFed notes notePacket tookOf noteTook enqueuePackets cutPackets cuts aim totalOf total hasLength field numberIn cut lowNumber turned bytesOf lowBytes choose both either many onTurn modelTook stopAt Model.enqueuePacket Model.packetNumber inRange full Model.numbered Model.askedOf Model.headOf Model.placeOf Model.claimed Model.takeIn costs refuse pass
+unfolding noteFed notes notePacket tookOf noteTook enqueuePackets cutPackets cuts aim totalOf total hasLength field numberIn cut lowNumber turned bytesOf lowBytes choose both either many onTurn modelTook stopAt Model.enqueuePacket numberAfter unnumbered inRange full Model.numbered Model.askedOf Model.headOf Model.placeOf Model.claimed Model.takeIn costs refuse pass
 fed = refl
 
 -- a packet alone, taken and refused

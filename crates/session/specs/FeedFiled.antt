@@ -6,6 +6,7 @@ use Prim.Native.Nat.{ℕ}
 use lib.ListN.{length}
 use Rattle.octets.specs.Logic.{choose, apart}
 use Rattle.refusal.specs.Answer.{Answer, gives, refuses}
+use Rattle.packet.specs.Packet.{codeOf, unnumbered}
 use Rattle.packet_reader.specs.Frame.{cutPackets}
 use Rattle.model.specs.Client.{Client}
 use Rattle.model.specs.Model.{Filing, enqueuePacket}
@@ -15,7 +16,7 @@ use Rattle.model.specs.Batch.{onward, onTurn, many, notes}
 use Rattle.model.specs.Feed.{Stopped, Took, modelTook}
 use Rattle.model.specs.declared.Connection.{Connection}
 use Rattle.batch.specs.Feed.{stopAt, enqueuePackets}
-use Rattle.honest.specs.Run.{Entry, took, unnumbered, noteTook, noted, Runs, call, Fair, Honest, Filed}
+use Rattle.honest.specs.Run.{Entry, took, noteTook, noted, Runs, call, Fair, Honest, Filed}
 use Rattle.honest.specs.Calls.{taking, counted, uncounted}
 use Rattle.honest.specs.Public.{public-runs}
 use Rattle.honest.specs.Theorems.{next-filed}
@@ -25,7 +26,7 @@ use Rattle.session.specs.Theorems.{session-public}
 
 -- what comes of a packet p with the true number t: where it is taken it is filed under t, if it carries a number, and what comes next is as `on` says
 abbrev pub Files : Client → ℕ → List ℕ → (Client → Type 0) → Answer (Filing × Client) → Type 0
-Files m t p on (gives x) = (unnumbered p ≡ false → Filed m p t x) × on (x .1)
+Files m t p on (gives x) = (unnumbered (codeOf p) ≡ false → Filed m p t x) × on (x .1)
 Files m t p on (refuses n) = Unit {0}
 
 -- so of packets one after the other, up to the first that is refused
@@ -39,9 +40,9 @@ abbrev vals : Stopped → Client → List (List ℕ) → List Took
 vals over m ps = many (λ c p. modelTook (length p) (enqueuePacket c p)) over m ps .values
 
 -- a log that is honest was honest before it grew
-noted-honest : (o t : ℕ) (p : List ℕ) (f : Filing) (l : List Entry) → Honest o (noteTook t p (gives (f, tt {0})) l) → (unnumbered p ≡ false → Fair o l t p) × Honest o l
+noted-honest : (o t : ℕ) (p : List ℕ) (f : Filing) (l : List Entry) → Honest o (noteTook t p (gives (f, tt {0})) l) → (unnumbered (codeOf p) ≡ false → Fair o l t p) × Honest o l
 unfolding noteTook choose
-noted-honest o t p f l h = go (unnumbered p) h
+noted-honest o t p f l h = go (unnumbered (codeOf p)) h
   where
     go : (b : Bool) → Honest o (choose b l (took t p f ∷ l)) → (b ≡ false → Fair o l t p) × Honest o l
     go true k = (λ e. apart refl e, k)
@@ -55,9 +56,9 @@ row-honest o (p ∷ ps) (v ∷ vs) n h = noted-honest o (next (n .numbers)) p (v
 
 -- a packet that is taken keeps the byte order
 pub order-kept : (m : Client) (p : List ℕ) (x : Filing × Client) → gives x ≡ enqueuePacket m p → x .1 .order ≡ m .order
-order-kept m p x e = go (unnumbered p) refl
+order-kept m p x e = go (unnumbered (codeOf p)) refl
   where
-    go : (b : Bool) → unnumbered p ≡ b → x .1 .order ≡ m .order
+    go : (b : Bool) → unnumbered (codeOf p) ≡ b → x .1 .order ≡ m .order
     go true h = uncounted m p x (taking m p x e) h .0
     go false h = counted m p x (taking m p x e) h .order-is
 

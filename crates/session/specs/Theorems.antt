@@ -6,6 +6,7 @@ use mathlib.Core.Path.{_≡_, sym, subst}
 use Prim.Native.Nat.{ℕ}
 use lib.ListN.{length}
 use Rattle.refusal.specs.Answer.{Answer, gives, refuses, gives-same}
+use Rattle.packet.specs.Packet.{codeOf, unnumbered}
 use Rattle.model.specs.Client.{Held, Client}
 use Rattle.model.specs.Model.{hasReply, Filing, packet, pollForEvent}
 use Rattle.model.specs.Calls as Calls
@@ -28,7 +29,7 @@ use Rattle.batch.specs.FeedLaws.{feed-sound}
 use Rattle.connection.specs.Calls.{Sends, Enqueues}
 use Rattle.connection.specs.Opening.{opens-fresh, opens-sound}
 use Rattle.connection.specs.Theorems.{refusal-leaves, state-sound}
-use Rattle.honest.specs.Run.{Entry, sent, noteSent, noteTook, unnumbered, Fair, Honest, Right, Filed, Bears, Holds}
+use Rattle.honest.specs.Run.{Entry, sent, noteSent, noteTook, Fair, Honest, Right, Filed, Bears, Holds}
 use Rattle.honest.specs.Public.{stateOf, Public, opens, sends, takes, others}
 use Rattle.honest.specs.Theorems as Any
 use Rattle.session.specs.Session.{Session, new, send-request, enqueue-fds, enqueue-packet, discard-reply, poll-for-reply-or-error, poll-check-for-reply-or-error, poll-for-reply, poll-for-event, take-closed-fds, send-requests, enqueue-packets, poll-for-events, prepare-check}
@@ -104,7 +105,7 @@ pub session-held : {c : Connection} {r : Rooms} {l : List Entry} → Session c r
 session-held k h = Any.public-held (session-public k) h
 
 -- A session with an honest server, and the call that brings its next packet.
-module _ {c : Connection} {r : Rooms} {l : List Entry} (k : Session c r l) (h : Honest (c .order) l) (t : ℕ) (p : List ℕ) (carries : unnumbered p ≡ false) (fair : Fair (c .order) l t p)
+module _ {c : Connection} {r : Rooms} {l : List Entry} (k : Session c r l) (h : Honest (c .order) l) (t : ℕ) (p : List ℕ) (carries : unnumbered (codeOf p) ≡ false) (fair : Fair (c .order) l t p)
     (a : Answer (Filing × Connection)) (r' : Rooms) (enqueues : Enqueues c r p a r') where
   -- FILED: where it is taken in, it is the last of its list under its true number, or if dropped was reckoned by it.
   pub session-filed : (f : Filing) (s : Connection) → a ≡ gives (f, s) → Filed (reads c r) p t (f, reads s r')

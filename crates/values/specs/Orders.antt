@@ -17,7 +17,8 @@ use Rattle.id_allocator.specs.Ids.{powerBelow, sound, noIds, generated, updated
 use Rattle.id_allocator.specs.declared.IdAllocator.{IdAllocator}
 use Rattle.xc_misc.specs.Requests.{roomFor}
 use Rattle.xc_misc.specs.Replies.{listOf, reaches, unitsChecked, replyChecked, listChecked, list}
-use Rattle.packet_reader.specs.Frame.{hasLength, total, totalOf, aim}
+use Rattle.packet.specs.Packet.{hasLength}
+use Rattle.packet_reader.specs.Frame.{total, totalOf, aim}
 use Rattle.packet_reader.specs.Reader as Reader
 
 -- 32 bytes that begin with a code, write a length in units and, as a list of ids does, a count; least significant byte first

@@ -6,7 +6,8 @@ use native.Mathlib.Omega.{arith}
 use Rattle.refusal.specs.Answer.{Answer, gives, refuses, refuse}
 use Rattle.octets.specs.Logic.{choose, both, either}
 use Rattle.sequence.specs.Numbering.{wireValues, FullNumber, full, inRange, full-least}
-use Rattle.packet_reader.specs.Frame.{hasLength, total}
+use Rattle.packet.specs.Packet.{hasLength}
+use Rattle.packet_reader.specs.Frame.{total}
 use Rattle.id_allocator.specs.Ids.{powerBelow, sound, noIds, generated, updated}
 use Rattle.id_allocator.specs.Runs.{afterCalls, call}
 use Rattle.id_allocator.specs.declared.IdAllocator.{IdAllocator}

@@ -14,7 +14,8 @@ use lib.ListN.{getD}
 use Rattle.octets.specs.Field.{field}
 use Rattle.refusal.specs.Answer.{Answer, gives, refuses, after, decides}
 use Rattle.refusal.specs.Numbers.{numberOf, refusalOf, listed}
-use Rattle.x11_utils.specs.Packet.{checked, errorCode}
+use Rattle.packet.specs.Packet.{errorCode, wireNumber}
+use Rattle.x11_utils.specs.Packet.{checked}
 use Rattle.x11_utils.specs.declared.X11Error.{X11Error}
 use Rattle.x11_utils.specs.declared.Parsed.{Parsed}
 use Rattle.x11_utils.specs.declared.Parsed.the-variants as Parsed
@@ -23,7 +24,7 @@ use Rattle.x11_utils.specs.declared.Parsed.the-variants as Parsed
 unfoldable pub errorOf : ℕ → List ℕ → X11Error
 errorOf o p = record {
   code = getD p 1 0;
-  sequence = record { 0 = field o 2 2 p };
+  sequence = wireNumber o p;
   value = field o 4 4 p;
   minor = field o 8 2 p;
   major = getD p 10 0;

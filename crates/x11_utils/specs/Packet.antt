@@ -4,24 +4,14 @@ use mathlib.Core.Bool.{not}
 use mathlib.Core.List.{List}
 use Prim.Native.Nat.{ℕ, _≤_}
 use lib.Dec.{ltb, eqb}
-use lib.ListN.{length, getD}
+use lib.ListN.{length}
 use borrow.Author.Tests.{ltb-false}
 use Rattle.octets.specs.Bytes.{legal}
 use Rattle.refusal.specs.Answer.{Answer, gives, refuses, refuse, gives-past, decides}
 use Rattle.refusal.specs.Numbers.{numberOf, refusalOf, listed}
+use Rattle.packet.specs.Packet.{leastPacket, mostPacket, codeOf}
 use Rattle.x11_utils.specs.declared.Checked.{Checked}
 use Rattle.x11_utils.specs.declared.Checked.the-variants as Checked
-
--- 01, Refusal numbers: a packet has 32 to 65,536 bytes
-abbrev pub leastPacket : ℕ
-leastPacket = 32
-
-abbrev pub mostPacket : ℕ
-mostPacket = 65536
-
--- Core, Encoding: an error begins with 0
-abbrev pub errorCode : ℕ
-errorCode = 0
 
 -- 01, Refusal numbers, "elsewhere 9, then by number": 1, 2, 13, 14, or the packet's fields can be read.
 unfoldable pub checked : ℕ → List ℕ → ℕ → Answer Unit
@@ -29,7 +19,7 @@ checked o p first =
     refuse (ltb (length p) leastPacket) 1
     (refuse (ltb mostPacket (length p)) 2
     (refuse (not (legal o)) 13
-    (refuse (not (eqb (getD p 0 0) first)) 14
+    (refuse (not (eqb (codeOf p) first)) 14
     (gives tt))))
 
 -- what the enum `Checked` says

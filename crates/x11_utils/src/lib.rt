@@ -6,18 +6,11 @@
 ghost use mathlib.Core.Path.{_≡_};
 ghost use Prim.Native.Nat.{_≤_};
 ghost use lib.ListN.{length};
-ghost use Rattle.x11_utils.specs.Packet.{checked, saysChecked, leastPacket};
+ghost use Rattle.packet.specs.Packet.{leastPacket};
+ghost use Rattle.x11_utils.specs.Packet.{checked, saysChecked};
 ghost use Rattle.x11_utils.specs.Error.{parsed, errorOf, saysParsed};
 use refusal::Refusal;
 use sequence::WireNumber;
-
-// The fewest and the most bytes of a packet.
-pub const LEAST_PACKET: usize = 32;
-
-pub const MOST_PACKET: usize = 65536;
-
-// The first byte of an error.
-pub const ERROR: u8 = 0;
 
 pub enum Checked {
     Ready,
@@ -29,10 +22,10 @@ pub enum Checked {
 pub fn check_packet(order: u8, packet: &[u8], first: u8) -> Checked
     ensures { λ r. ⌜ saysChecked r ≡ checked order (now (packet .entry)) first ⌝ }
 {
-    if packet.len() < LEAST_PACKET {
+    if packet.len() < packet::LEAST_PACKET {
         return Checked::Refused(Refusal::ShortPacket);
     }
-    if MOST_PACKET < packet.len() {
+    if packet::MOST_PACKET < packet.len() {
         return Checked::Refused(Refusal::LongPacket);
     }
     if !octets::is_legal(order) {
@@ -67,7 +60,7 @@ impl X11Error {
     pub fn try_parse(order: u8, packet: &[u8]) -> Parsed
         ensures { λ r. ⌜ saysParsed r ≡ parsed order (now (packet .entry)) ⌝ }
     {
-        match check_packet(order, packet, ERROR) {
+        match check_packet(order, packet, packet::ERROR) {
             Checked::Ready => Parsed::Error(fields(order, packet)),
             Checked::Refused(refusal) => Parsed::Refused(refusal),
         }
@@ -78,12 +71,12 @@ fn fields(order: u8, packet: &[u8]) -> X11Error
     requires { ⌜ leastPacket ≤ length (now packet) ⌝ }
     ensures { λ r. ⌜ r ≡ errorOf order (now (packet .entry)) ⌝ }
 {
-    let sequence = octets::get_u16(order, packet, 2);
+    let sequence = packet::wire_number(order, packet);
     let value = octets::get_u32(order, packet, 4);
     let minor = octets::get_u16(order, packet, 8);
     X11Error {
         code: packet[1],
-        sequence: WireNumber(sequence),
+        sequence: sequence,
         value: value,
         minor: minor,
         major: packet[10],

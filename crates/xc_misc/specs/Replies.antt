@@ -21,7 +21,8 @@ use Rattle.octets.specs.Lent.{leaves}
 use Rattle.octets.specs.Put.{put}
 use Rattle.refusal.specs.Answer.{Answer, gives, refuses, refuse, after, gives-past, after-given, after-refused, after-check, after-rest, decides}
 use Rattle.refusal.specs.Numbers.{numberOf, refusalOf, listed}
-use Rattle.x11_utils.specs.Packet.{checked, leastPacket, ready-long}
+use Rattle.packet.specs.Packet.{leastPacket, replyCode, lengthAt, wireNumber}
+use Rattle.x11_utils.specs.Packet.{checked, ready-long}
 use Rattle.xc_misc.specs.declared.reply.GetVersionReply.{GetVersionReply}
 use Rattle.xc_misc.specs.declared.reply.GetXIDRangeReply.{GetXIDRangeReply}
 use Rattle.xc_misc.specs.declared.reply.GetXIDListReply.{GetXIDListReply}
@@ -32,26 +33,19 @@ use Rattle.xc_misc.specs.declared.reply.RangeAnswer.the-variants as Rang
 use Rattle.xc_misc.specs.declared.reply.ListAnswer.{ListAnswer}
 use Rattle.xc_misc.specs.declared.reply.ListAnswer.the-variants as ListAnswer
 
--- Core, Encoding: a reply begins with 1
-abbrev pub replyCode : ℕ
-replyCode = 1
-
--- where every reply has its length, and a list its count of ids
-abbrev pub lengthAt : ℕ
-lengthAt = 4
-
+-- where a list has its count of ids
 abbrev pub countAt : ℕ
 countAt = 8
 
 -- the fields of each reply
 unfoldable pub versionOf : ℕ → List ℕ → GetVersionReply
-versionOf o p = record { sequence = record { 0 = field o 2 2 p }; length = field o lengthAt 4 p; major = field o 8 2 p; minor = field o 10 2 p }
+versionOf o p = record { sequence = wireNumber o p; length = field o lengthAt 4 p; major = field o 8 2 p; minor = field o 10 2 p }
 
 unfoldable pub rangeOf : ℕ → List ℕ → GetXIDRangeReply
-rangeOf o p = record { sequence = record { 0 = field o 2 2 p }; length = field o lengthAt 4 p; start = field o 8 4 p; count = field o 12 4 p }
+rangeOf o p = record { sequence = wireNumber o p; length = field o lengthAt 4 p; start = field o 8 4 p; count = field o 12 4 p }
 
 unfoldable pub listOf : ℕ → List ℕ → GetXIDListReply
-listOf o p = record { sequence = record { 0 = field o 2 2 p }; length = field o lengthAt 4 p; count = field o countAt 4 p }
+listOf o p = record { sequence = wireNumber o p; length = field o lengthAt 4 p; count = field o countAt 4 p }
 
 unfoldable pub idsOf : ℕ → ℕ → List ℕ → List ℕ
 idsOf o count p = fields o 4 leastPacket count p

@@ -4,18 +4,14 @@ ghost use Prim.Native.Nat.{_+_, _*_, _≤_};
 ghost use lib.ListN.{length};
 ghost use Rattle.octets.specs.Put.{put};
 ghost use Rattle.refusal.specs.Answer.{gives};
-ghost use Rattle.x11_utils.specs.Packet.{saysChecked, leastPacket};
+ghost use Rattle.packet.specs.Packet.{leastPacket};
+ghost use Rattle.x11_utils.specs.Packet.{saysChecked};
 ghost use Rattle.xc_misc.specs.Replies.{reaches, unitsChecked, replyChecked, listChecked, versionOf, rangeOf, listOf, idsOf, version, range, saysVersion, saysRange, saysList, Lists};
 use refusal::Refusal;
 use sequence::WireNumber;
 use x11_utils::Checked;
 
-// The first byte of a reply.
-const REPLY: u8 = 1;
-
-// Where every reply has its length, and a list its count of ids.
-const LENGTH_AT: usize = 4;
-
+// Where a list has its count of ids.
 const COUNT_AT: usize = 8;
 
 // What every reply begins with, and then the version that the server supports.
@@ -92,15 +88,15 @@ pub fn get_xid_list_reply(order: u8, packet: &[u8], ids: &mut [u32]) -> ListAnsw
 fn within(len: usize, units: u32) -> bool
     ensures { λ r. ⌜ r ≡ reaches len units ⌝ }
 {
-    x11_utils::LEAST_PACKET + 4 * (units as usize) <= len
+    packet::LEAST_PACKET + 4 * (units as usize) <= len
 }
 
 // A packet that is a reply, and holds what its length says.
 fn check_reply(order: u8, packet: &[u8]) -> Checked
     ensures { λ r. ⌜ saysChecked r ≡ replyChecked order (now (packet .entry)) ⌝ }
 {
-    match x11_utils::check_packet(order, packet, REPLY) {
-        Checked::Ready => check_units(order, packet, LENGTH_AT),
+    match x11_utils::check_packet(order, packet, packet::REPLY) {
+        Checked::Ready => check_units(order, packet, packet::LENGTH),
         Checked::Refused(refusal) => Checked::Refused(refusal),
     }
 }
@@ -129,12 +125,12 @@ fn version_fields(order: u8, packet: &[u8]) -> GetVersionReply
     requires { ⌜ leastPacket ≤ length (now packet) ⌝ }
     ensures { λ r. ⌜ r ≡ versionOf order (now (packet .entry)) ⌝ }
 {
-    let sequence = octets::get_u16(order, packet, 2);
-    let length = octets::get_u32(order, packet, LENGTH_AT);
+    let sequence = packet::wire_number(order, packet);
+    let length = octets::get_u32(order, packet, packet::LENGTH);
     let major = octets::get_u16(order, packet, 8);
     let minor = octets::get_u16(order, packet, 10);
     GetVersionReply {
-        sequence: WireNumber(sequence),
+        sequence: sequence,
         length: length,
         major: major,
         minor: minor,
@@ -145,12 +141,12 @@ fn range_fields(order: u8, packet: &[u8]) -> GetXIDRangeReply
     requires { ⌜ leastPacket ≤ length (now packet) ⌝ }
     ensures { λ r. ⌜ r ≡ rangeOf order (now (packet .entry)) ⌝ }
 {
-    let sequence = octets::get_u16(order, packet, 2);
-    let length = octets::get_u32(order, packet, LENGTH_AT);
+    let sequence = packet::wire_number(order, packet);
+    let length = octets::get_u32(order, packet, packet::LENGTH);
     let start = octets::get_u32(order, packet, 8);
     let count = octets::get_u32(order, packet, 12);
     GetXIDRangeReply {
-        sequence: WireNumber(sequence),
+        sequence: sequence,
         length: length,
         start: start,
         count: count,
@@ -161,11 +157,11 @@ fn list_fields(order: u8, packet: &[u8]) -> GetXIDListReply
     requires { ⌜ leastPacket ≤ length (now packet) ⌝ }
     ensures { λ r. ⌜ r ≡ listOf order (now (packet .entry)) ⌝ }
 {
-    let sequence = octets::get_u16(order, packet, 2);
-    let length = octets::get_u32(order, packet, LENGTH_AT);
+    let sequence = packet::wire_number(order, packet);
+    let length = octets::get_u32(order, packet, packet::LENGTH);
     let count = octets::get_u32(order, packet, COUNT_AT);
     GetXIDListReply {
-        sequence: WireNumber(sequence),
+        sequence: sequence,
         length: length,
         count: count,
     }
@@ -190,7 +186,7 @@ fn read_ids(order: u8, packet: &[u8], count: usize, ids: &mut [u32])
 {
     let mut i = 0;
     while i < count {
-        ids[i] = octets::get_u32(order, packet, x11_utils::LEAST_PACKET + 4 * i);
+        ids[i] = octets::get_u32(order, packet, packet::LEAST_PACKET + 4 * i);
         i += 1;
     }
 }

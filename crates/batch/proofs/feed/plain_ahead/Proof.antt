@@ -2,7 +2,7 @@
 use mathlib.Core.Path.{sym, _∙_}
 use native.Mathlib.Omega.{arith}
 use lib.Seq.{length-take-le}
-use Rattle.packet_reader.specs.Frame.{fixed}
+use Rattle.packet.specs.Packet.{leastPacket}
 use Rattle.batch.specs.Plain.{ahead-is}
 use borrow.Author.Needs.{needs}
 use Rattle.batch.proofs.feed.plain_ahead.Statement.{statement}
@@ -21,10 +21,10 @@ returns-2 : tie.Need-returns-2
 returns-2 c = search needs
 
 slice-aggregate-plain-of : tie.Need-slice-aggregate-plain-of
-slice-aggregate-plain-of c = sym (length-take-le fixed (c .before .before .before .before .before .before .before .args .bytes .now) (omega arith))
+slice-aggregate-plain-of c = sym (length-take-le leastPacket (c .before .before .before .before .before .before .before .args .bytes .now) (omega arith))
 
 plain-of-requires : tie.Need-plain-of-requires
-plain-of-requires c κs = (let l = length-take-le fixed (c .before .before .before .before .before .before .before .args .bytes .now) (omega arith) in (c .before .before .before .before .before .before .before .pre, omega (arith, l), omega (arith, l)))
+plain-of-requires c κs = (let l = length-take-le leastPacket (c .before .before .before .before .before .before .before .args .bytes .now) (omega arith) in (c .before .before .before .before .before .before .before .pre, omega (arith, l), omega (arith, l)))
 
 returns-3 : tie.Need-returns-3
 returns-3 c = ahead-is (c .before .before .before .before .before .before .before .before .args .c) (c .before .before .before .before .before .before .before .before .args .store .now) (c .before .before .before .before .before .before .before .before .args .bytes .now) (c .plain-of .result) (omega arith) (sym (c .before .before .before .has-length .ensures) ∙ c .before .before .if2 .left) (c .plain-of .ensures)

@@ -1,14 +1,14 @@
 -- `batch::feed::plain_turn` meets its contract. Assumes nothing.
 use mathlib.Core.Path.{sym}
 use lib.Seq.{length-take-le}
-use Rattle.packet_reader.specs.Frame.{fixed}
+use Rattle.packet.specs.Packet.{leastPacket}
 use Rattle.batch.specs.Plain.{plain-turn}
 use borrow.Author.Needs.{needs}
 use Rattle.batch.proofs.feed.plain_turn.Statement.{statement}
 use Rattle.batch.proofs.feed.plain_turn.Tie as tie
 
 slice-aggregate-take-plain : tie.Need-slice-aggregate-take-plain
-slice-aggregate-take-plain c = sym (length-take-le fixed (c .before .before .before .before .args .bytes .now) (c .before .before .before .before .pre .1 .there))
+slice-aggregate-take-plain c = sym (length-take-le leastPacket (c .before .before .before .before .args .bytes .now) (c .before .before .before .before .pre .1 .there))
 
 take-plain-requires : tie.Need-take-plain-requires
 take-plain-requires c κs = search needs

@@ -7,7 +7,8 @@ use lib.Dec.{eqb}
 use lib.ListN.{length, drop}
 use Rattle.octets.specs.Logic.{choose}
 use Rattle.octets.specs.Put.{cut, drop-cut, length-cut}
-use Rattle.held.specs.Head.{reply, headerSize, leastPacket, cost, decoded, numOf, fdsOf, kindOf}
+use Rattle.packet.specs.Packet.{leastPacket}
+use Rattle.held.specs.Head.{reply, headerSize, cost, decoded, numOf, fdsOf, kindOf}
 use Rattle.held.specs.Front.{Begins, Sized, Stands, begins-stands}
 use Rattle.held.specs.Walk.{walkedOn, raised, walk-end, walk-stop, walk-step}
 use Rattle.held.specs.declared.Walked.the-variants as Walked

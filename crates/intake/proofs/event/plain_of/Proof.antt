@@ -22,8 +22,8 @@ stays-requires c κs = search needs
 returns-2 : tie.Need-returns-2
 returns-2 c = search needs
 
-number-of-requires : tie.Need-number-of-requires
-number-of-requires c κs = search needs
+number-after-requires : tie.Need-number-after-requires
+number-after-requires c κs = search needs
 
 enum-known-number : tie.Need-enum-known-number
 enum-known-number c = search needs
@@ -32,7 +32,7 @@ enum-told : tie.Need-enum-told
 enum-told c = search needs
 
 returns-3 : tie.Need-returns-3
-returns-3 c = plain-numbered _ _ _ _ (c .before .before .before .number-of .ensures) _ (c .before .number .given .1) (omega arith) (omega arith) (omega arith) (sym (c .before .before .before .before .before .stays .ensures) ∙ not-false _ (c .before .before .before .before .if2 .left))
+returns-3 c = plain-numbered _ _ _ _ (c .before .before .before .number-after .ensures) _ (c .before .number .given .1) (omega arith) (omega arith) (omega arith) (sym (c .before .before .before .before .before .stays .ensures) ∙ not-false _ (c .before .before .before .before .if2 .left))
 
 returns-4 : tie.Need-returns-4
 returns-4 c = search needs
@@ -46,7 +46,7 @@ plain-of-spec =
     add-stays
     stays-requires
     returns-2
-    number-of-requires
+    number-after-requires
     enum-known-number
     enum-told
     returns-3

@@ -4,8 +4,8 @@ use borrow.Author.Needs.{needs}
 use Rattle.xc_misc.proofs.reply.list_fields.Statement.{statement}
 use Rattle.xc_misc.proofs.reply.list_fields.Tie as tie
 
-get-u16-requires : tie.Need-get-u16-requires
-get-u16-requires c κs = search needs
+wire-number-requires : tie.Need-wire-number-requires
+wire-number-requires c κs = search needs
 
 get-u32-requires : tie.Need-get-u32-requires
 get-u32-requires c κs = search needs
@@ -15,8 +15,8 @@ get-u32-requires-2 c κs = search needs
 
 returns : tie.Need-returns
 unfolding listOf
-returns c = simp (c .before .before .get-u16 .ensures, c .before .get-u32 .ensures, c .get-u322 .ensures)
+returns c = simp (c .before .before .wire-number .ensures, c .before .get-u32 .ensures, c .get-u322 .ensures)
 
 pub list-fields-spec : {M : Type 1} → statement M
 list-fields-spec =
-    tie.close (tie.spec get-u16-requires get-u32-requires get-u32-requires-2 returns)
+    tie.close (tie.spec wire-number-requires get-u32-requires get-u32-requires-2 returns)

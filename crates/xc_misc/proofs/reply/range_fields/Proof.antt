@@ -4,8 +4,8 @@ use borrow.Author.Needs.{needs}
 use Rattle.xc_misc.proofs.reply.range_fields.Statement.{statement}
 use Rattle.xc_misc.proofs.reply.range_fields.Tie as tie
 
-get-u16-requires : tie.Need-get-u16-requires
-get-u16-requires c κs = search needs
+wire-number-requires : tie.Need-wire-number-requires
+wire-number-requires c κs = search needs
 
 get-u32-requires : tie.Need-get-u32-requires
 get-u32-requires c κs = search needs
@@ -18,9 +18,9 @@ get-u32-requires-3 c κs = search needs
 
 returns : tie.Need-returns
 unfolding rangeOf
-returns c = simp (c .before .before .before .get-u16 .ensures, c .before .before .get-u32 .ensures, c .before .get-u322 .ensures, c .get-u323 .ensures)
+returns c = simp (c .before .before .before .wire-number .ensures, c .before .before .get-u32 .ensures, c .before .get-u322 .ensures, c .get-u323 .ensures)
 
 pub range-fields-spec : {M : Type 1} → statement M
 range-fields-spec =
     tie.close
-    (tie.spec get-u16-requires get-u32-requires get-u32-requires-2 get-u32-requires-3 returns)
+    (tie.spec wire-number-requires get-u32-requires get-u32-requires-2 get-u32-requires-3 returns)

@@ -7,7 +7,7 @@ use native.Mathlib.Omega.{arith}
 use lib.ListN.{length, set, length-set}
 use Rattle.octets.specs.Put.{put, put-none, set-behind}
 use Rattle.octets.specs.Field.{field, fields, length-fields, fields-behind}
-use Rattle.x11_utils.specs.Packet.{leastPacket}
+use Rattle.packet.specs.Packet.{leastPacket}
 use Rattle.xc_misc.specs.Replies.{idsOf}
 use Rattle.xc_misc.proofs.reply.read_ids.Statement.{statement}
 use Rattle.xc_misc.proofs.reply.read_ids.Tie as tie
