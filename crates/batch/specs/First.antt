@@ -24,7 +24,7 @@ use Rattle.model.specs.declared.Connection.{Connection}
 use Rattle.model.specs.declared.Event.the-variants as Event
 use Rattle.model.specs.Moved.{movedState}
 use Rattle.polling.specs.Exact.{eventAt, moved, eventExact}
-use Rattle.polling.specs.Theorems.{ready}
+use Rattle.model.specs.Sound.{ready}
 use Rattle.batch.specs.Events.{placed, roomLeft, TurnStep, Stored}
 use Rattle.batch.specs.EventsLaws.{from-place, room-many}
 

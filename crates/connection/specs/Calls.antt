@@ -24,7 +24,7 @@ use Rattle.sending.specs.Send.{sendExact}
 use Rattle.sending.specs.Fds as Fds
 use Rattle.sending.specs.Fds.{closeExact}
 use Rattle.intake.specs.Exact.{enqueueExact}
-use Rattle.polling.specs.Discard.{discardExact}
+use Rattle.discarding.specs.Exact.{discardExact}
 use Rattle.polling.specs.Exact.{eventExact, takenExact, checkedExact, repliedExact}
 use Rattle.batch.specs.Send.{sendsExact}
 use Rattle.batch.specs.Feed.{enqueuePackets, feedExact}

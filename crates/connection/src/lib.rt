@@ -157,7 +157,7 @@ pub fn discard_reply(
         return Next::Refused(Refusal::BadRoom);
     }
     let found = held::count(store, c.window, number.0);
-    let next = polling::discard_reply(
+    let next = discarding::discard_reply(
         c,
         requests,
         store,

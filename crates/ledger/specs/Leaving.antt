@@ -17,7 +17,7 @@ use Rattle.model.specs.declared.DiscardMode.{DiscardMode}
 use Rattle.model.specs.declared.ReplyFdKind.{ReplyFdKind}
 use Rattle.sending.specs.Theorems as Sending
 use Rattle.intake.specs.Theorems as Intake
-use Rattle.polling.specs.DiscardTheorems.{discard-leaves}
+use Rattle.discarding.specs.Theorems.{discard-leaves}
 use Rattle.polling.specs.Theorems as Polling
 use Rattle.batch.specs.Theorems as Batch
 use Rattle.batch.specs.FeedLaws.{feed-sound}

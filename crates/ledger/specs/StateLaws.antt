@@ -26,8 +26,8 @@ use Rattle.sending.specs.Fds.{closeExact}
 use Rattle.sending.specs.Theorems as Sending
 use Rattle.intake.specs.Exact.{enqueueExact}
 use Rattle.intake.specs.Theorems as Intake
-use Rattle.polling.specs.Discard.{discardExact}
-use Rattle.polling.specs.DiscardTheorems.{discard-leaves}
+use Rattle.discarding.specs.Exact.{discardExact}
+use Rattle.discarding.specs.Theorems.{discard-leaves}
 use Rattle.polling.specs.Exact.{eventExact, takenExact, checkedExact, repliedExact}
 use Rattle.polling.specs.Theorems as Polling
 use Rattle.batch.specs.Send.{sendsExact}

@@ -22,14 +22,18 @@ rooms q s f = record { requests = q; store = s; slots = f }
 abbrev pub count : Connection → ℕ
 count c = c .written + 1 - c .first
 
+-- a held record with these descriptors
+abbrev pub heldWith : Record.Held → List ℕ → Held
+heldWith h fds = record { number = h .number; packet = h .packet; descriptors = fds }
+
 -- held records with the descriptors that they have, one record's behind the other's
 unfoldable pub withDescriptors : List Record.Held → List ℕ → List Held
 withDescriptors [] fds = []
-withDescriptors (h ∷ l) fds = record { number = h .number; packet = h .packet; descriptors = take (h .fds) fds } ∷ withDescriptors l (drop (h .fds) fds)
+withDescriptors (h ∷ l) fds = heldWith h (take (h .fds) fds) ∷ withDescriptors l (drop (h .fds) fds)
 
 -- events have none
 abbrev pub eventOf : Record.Held → Held
-eventOf h = record { number = h .number; packet = h .packet; descriptors = [] }
+eventOf h = heldWith h []
 
 abbrev pub slotsOf : Connection → Rooms → Slots.Room
 slotsOf c r = Slots.room (r .slots) (c .counts)

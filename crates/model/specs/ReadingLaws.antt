@@ -3,16 +3,16 @@ use mathlib.Core.Path.{_≡_, refl, sym, ap, _∙_}
 use mathlib.Core.List.{List, [], _∷_, _++_, map}
 use Prim.Native.Nat.{ℕ, _+_, _≤_}
 use native.Mathlib.Omega.{arith}
-use lib.ListN.{length, take, drop, length-drop}
-use lib.Seq.{take-append-le, drop-append-le, drop-drop}
+use lib.ListN.{length, take, drop, length-drop, take-append-drop}
+use lib.Seq.{take-append-le, drop-append-le, drop-drop, drop-at, length-take-le}
 use Rattle.requests.specs.Theorems.{length-outstanding}
 use Rattle.held.specs.Head as Record
 use Rattle.held.specs.Reading as Store
 use Rattle.held.specs.Theorems as Held
 use Rattle.descriptors.specs.Room as Slots
 use Rattle.descriptors.specs.Theorems as Fds
-use Rattle.model.specs.Client.{first, costs, used, descriptorsOf, inside}
-use Rattle.model.specs.Reading.{Rooms, count, withDescriptors, eventOf, slotsOf, reads}
+use Rattle.model.specs.Client.{Held, first, costs, used, descriptorsOf, inside}
+use Rattle.model.specs.Reading.{Rooms, count, heldWith, withDescriptors, eventOf, slotsOf, reads}
 use Rattle.model.specs.Sound.{Sound, slots-there}
 use Rattle.model.specs.declared.Connection.{Connection}
 
@@ -24,7 +24,7 @@ unfolding withDescriptors Store.fdsIn
 with-append [] b fds = refl
 with-append (h ∷ a) b fds =
     let e : drop (Store.fdsIn a) (drop (h .fds) fds) ≡ drop (h .fds + Store.fdsIn a) fds = drop-drop (Store.fdsIn a) (h .fds) fds in
-    ap (λ l. record { number = h .number; packet = h .packet; descriptors = take (h .fds) fds } ∷ l)
+    ap (λ (l : List Held). heldWith h (take (h .fds) fds) ∷ l)
     (with-append a b (drop (h .fds) fds) ∙ ap (λ (x : List ℕ). withDescriptors a (drop (h .fds) fds) ++ withDescriptors b x) e)
 
 -- descriptors behind theirs do not matter
@@ -35,8 +35,26 @@ with-more (x ∷ a) fds more h =
     let t : take (x .fds) (fds ++ more) ≡ take (x .fds) fds = take-append-le (x .fds) fds more (omega arith) in
     let d : drop (x .fds) (fds ++ more) ≡ drop (x .fds) fds ++ more = drop-append-le (x .fds) fds more (omega arith) in
     let l : Store.fdsIn a ≤ length (drop (x .fds) fds) = omega (arith, length-drop (x .fds) fds) in
-    (λ k. record { number = x .number; packet = x .packet; descriptors = t k } ∷ withDescriptors a (d k))
-    ∙ ap (λ l. record { number = x .number; packet = x .packet; descriptors = take (x .fds) fds } ∷ l) (with-more a (drop (x .fds) fds) more l)
+    (λ k. heldWith x (t k) ∷ withDescriptors a (d k))
+    ∙ ap (λ (l : List Held). heldWith x (take (x .fds) fds) ∷ l) (with-more a (drop (x .fds) fds) more l)
+
+-- a row without records that stood in its midst, and without their k descriptors
+pub with-without : (before after : List Record.Held) (fds : List ℕ) (k : ℕ) → Store.fdsIn before ≤ length fds
+    → withDescriptors (before ++ after) (take (Store.fdsIn before) fds ++ drop (Store.fdsIn before + k) fds)
+    ≡ withDescriptors before fds ++ withDescriptors after (drop (Store.fdsIn before + k) fds)
+with-without before after fds k h =
+    let b : ℕ = Store.fdsIn before in
+    let x : List ℕ = take b fds in
+    let y : List ℕ = drop (b + k) fds in
+    let l : length x ≡ b = length-take-le b fds h in
+    let u : withDescriptors before (x ++ y) ≡ withDescriptors before x = with-more before x y (omega arith) in
+    let v : withDescriptors before fds ≡ withDescriptors before x = ap (withDescriptors before) (sym (take-append-drop b fds)) ∙ with-more before x (drop b fds) (omega arith) in
+    with-append before after (x ++ y) ∙ (λ j. (u ∙ sym v) j ++ withDescriptors after (drop-at x y b l j))
+
+-- events, one row behind another
+pub events-append : (a b : List Record.Held) → map eventOf (a ++ b) ≡ map eventOf a ++ map eventOf b
+events-append [] b = refl
+events-append (h ∷ a) b = ap (λ (l : List Held). eventOf h ∷ l) (events-append a b)
 
 -- all descriptors of the records are the row itself, as far as they have any
 pub descriptors-with : (a : List Record.Held) (fds : List ℕ) → descriptorsOf (withDescriptors a fds) ≡ take (Store.fdsIn a) fds

@@ -15,6 +15,7 @@ use Rattle.requests.specs.Theorems.{sized-is}
 use Rattle.descriptors.specs.Theorems as Fds
 use Rattle.held.specs.Head.{mostStore}
 use Rattle.held.specs.Reading as Store
+use Rattle.held.specs.Theorems as Held
 use Rattle.held.specs.Walk.{walked}
 use Rattle.held.specs.declared.Walked.the-variants as Walked
 use Rattle.held.specs.declared.Window.{Window}
@@ -199,3 +200,16 @@ room-there c r S = let z = sized-is (c .capacity) (r .requests) .0 (S .requests)
 
 pub slots-there : (c : Connection) (r : Rooms) → Sound c r → Slots.Sound (slotsOf c r)
 slots-there c r S = Fds.sound-is (slotsOf c r) .0 (S .slots)
+
+-- what the steps over held packets ask: the store reads as held packets, the slots are sound, and as many descriptors are held as the replies have
+pub record Ready (c : Connection) (s f : List ℕ) : Type 0 where
+  pub held : Store.Sound (c .read) (c .window) s
+  pub slots : Slots.Sound (Slots.room f (c .counts))
+  pub descriptors : Store.fdsIn (Store.replies (c .window) s) ≡ c .counts .held
+
+pub ready : (c : Connection) (r : Rooms) → Sound c r → Ready c (r .store) (r .slots)
+ready c r S = record {
+  held = Held.sound-exactly (c .read) (c .window) (r .store) .0 (S .held);
+  slots = slots-there c r S;
+  descriptors = S .descriptors;
+}

@@ -15,6 +15,9 @@ use sequence::SequenceNumber;
 pub use soundness::LEAST_STORE;
 pub use soundness::is_sound;
 
+// The first byte of an error.
+pub const ERROR_CODE: u8 = 0;
+
 // Whether a request has a reply, and whether the reply has descriptors.
 pub enum ReplyFdKind {
     NoReply,

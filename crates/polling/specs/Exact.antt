@@ -9,7 +9,6 @@ use Rattle.octets.specs.Logic.{choose, either}
 use Rattle.octets.specs.Put.{cut}
 use Rattle.refusal.specs.Answer.{Answer, gives, refuse}
 use Rattle.held.specs.Head.{headerSize}
-use Rattle.held.specs.Reading as Store
 use Rattle.held.specs.Find.{foundReply, foundEvent}
 use Rattle.held.specs.Moves.{Left, left, removed, demoted}
 use Rattle.held.specs.declared.Place.{Place}
@@ -28,12 +27,6 @@ use Rattle.model.specs.declared.Connection.{Connection}
 use Rattle.model.specs.declared.Polled.{Polled}
 use Rattle.model.specs.declared.PollReply.{PollReply}
 use Rattle.model.specs.declared.Event.{Event}
-
--- the part of soundness that a poll for a reply needs: the store reads as held packets, the slots are sound, and as many descriptors are held as the replies have
-pub record Ready (c : Connection) (s f : List ℕ) : Type 0 where
-  pub held : Store.Sound (c .read) (c .window) s
-  pub slots : Slots.Sound (Slots.room f (c .counts))
-  pub descriptors : Store.fdsIn (Store.replies (c .window) s) ≡ c .counts .held
 
 -- what is left where nothing moves, and where records and descriptors did
 abbrev pub stays : {A : Type 0} → A → Connection → Rooms → Done A

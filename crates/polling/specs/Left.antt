@@ -17,23 +17,19 @@ use Rattle.descriptors.specs.Room as Slots
 use Rattle.descriptors.specs.Theorems as Fds
 use Rattle.model.specs.Client.{setReplies, setEvents}
 use Rattle.model.specs.Model as Model
-use Rattle.packet.specs.Packet.{errorCode}
-use Rattle.model.specs.Model.{find}
-use Rattle.model.specs.Reading.{Rooms, rooms, slotsOf, withDescriptors, eventOf, reads}
-use Rattle.model.specs.Sound.{Sound}
+use Rattle.model.specs.Model.{find, errorCode}
+use Rattle.model.specs.Reading.{Rooms, rooms, slotsOf, heldWith, withDescriptors, eventOf, reads}
+use Rattle.model.specs.ReadingLaws.{with-without, events-append}
+use Rattle.model.specs.Sound.{Sound, Ready, ready}
 use Rattle.model.specs.declared.Connection.{Connection}
 use Rattle.model.specs.Moved.{movedState, moved-read, moved-sound}
-use Rattle.polling.specs.Exact.{Ready, packetAt, eventAt, replyAt, without, turnedEvent, handingOut, closing, errorAt}
-use Rattle.polling.specs.Rows.{events-append, heldWith, find-at, with-split, with-without}
+use Rattle.polling.specs.Exact.{packetAt, eventAt, replyAt, without, turnedEvent, handingOut, closing, errorAt}
+use Rattle.polling.specs.Rows.{find-at, with-split}
 
 module _ (c : Connection) (r : Rooms) (S : Sound c r) where
   -- the part that a poll needs
-  pub parts : Ready c (r .store) (r .slots)
-  parts = record {
-    held = Held.sound-exactly (c .read) (c .window) (r .store) .0 (S .held);
-    slots = Fds.sound-is (slotsOf c r) .0 (S .slots);
-    descriptors = S .descriptors;
-  }
+  abbrev parts : Ready c (r .store) (r .slots)
+  parts = ready c r S
 
   -- ---- the oldest event
 

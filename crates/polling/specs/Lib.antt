@@ -3,9 +3,3 @@ pub mod Steps
 pub mod Rows
 pub mod Left
 pub mod Theorems
-pub mod Runs
-pub mod Discard
-pub mod DiscardRows
-pub mod DiscardTheorems
-pub mod DiscardSteps
-pub mod DiscardExact

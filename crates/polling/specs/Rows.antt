@@ -1,12 +1,11 @@
--- Laws of lists that the theorems cite: the oldest of a number in a row with descriptors, and the row without it. Assumes nothing.
-use mathlib.Core.Path.{_≡_, refl, sym, ap, _∙_}
+-- Laws of lists that the theorems cite: the oldest of a number in a row with descriptors. Assumes nothing.
+use mathlib.Core.Path.{_≡_, refl, ap, _∙_}
 use mathlib.Core.Bool.{Bool, true, false}
-use mathlib.Core.List.{List, [], _∷_, _++_, map}
-use Prim.Native.Nat.{ℕ, _+_, _≤_}
-use native.Mathlib.Omega.{arith}
+use mathlib.Core.List.{List, [], _∷_, _++_}
+use Prim.Native.Nat.{ℕ, _+_}
 use lib.Dec.{eqb}
-use lib.ListN.{length, take, drop, take-append-drop}
-use lib.Seq.{drop-at, drop-drop, length-take-le}
+use lib.ListN.{take, drop}
+use lib.Seq.{drop-drop}
 use borrow.Author.Tests.{eq-eqb, ne-eqb}
 use Rattle.octets.specs.Logic.{choose}
 use Rattle.octets.specs.Put.{cut}
@@ -17,8 +16,8 @@ use Rattle.held.specs.Reading.{All, fdsIn}
 use Rattle.held.specs.Lies.{Other}
 use Rattle.model.specs.Client.{Held}
 use Rattle.model.specs.Model.{nothing, at, behind, find}
-use Rattle.model.specs.Reading.{withDescriptors, eventOf}
-use Rattle.model.specs.ReadingLaws.{with-append, with-more}
+use Rattle.model.specs.Reading.{heldWith, withDescriptors}
+use Rattle.model.specs.ReadingLaws.{with-append}
 use Rattle.model.specs.Promise.{Done, modelOf}
 
 -- ---- answers
@@ -28,17 +27,7 @@ unfolding choose
 model-choose true x y = refl
 model-choose false x y = refl
 
--- ---- events
-
-pub events-append : (a b : List Record.Held) → map eventOf (a ++ b) ≡ map eventOf a ++ map eventOf b
-events-append [] b = refl
-events-append (h ∷ a) b = ap (λ (l : List Held). eventOf h ∷ l) (events-append a b)
-
 -- ---- rows of records with their descriptors
-
--- a record with these descriptors
-abbrev pub heldWith : Record.Held → List ℕ → Held
-heldWith h fds = record { number = h .number; packet = h .packet; descriptors = fds }
 
 -- the first of a number is found behind those of other numbers,
 pub find-at : (n : ℕ) (before : List Record.Held) (fds : List ℕ) (h : Held) (l : List Held) → All (Other n) before → h .number ≡ n
@@ -69,15 +58,3 @@ module _ (before : List Record.Held) (it : Record.Held) (after : List Record.Hel
   with-split =
       with-append before (it ∷ after) fds
       ∙ ap (λ (x : List ℕ). withDescriptors before fds ++ (heldWith it (take (it .fds) (drop (fdsIn before) fds)) ∷ withDescriptors after x)) (drop-drop (it .fds) (fdsIn before) fds)
-
--- a row without records that stood in its midst, and without their k descriptors
-pub with-without : (before after : List Record.Held) (fds : List ℕ) (k : ℕ) → fdsIn before ≤ length fds → withDescriptors (before ++ after) (take (fdsIn before) fds ++ drop (fdsIn before + k) fds)
-    ≡ withDescriptors before fds ++ withDescriptors after (drop (fdsIn before + k) fds)
-with-without before after fds k h =
-    let b : ℕ = fdsIn before in
-    let x : List ℕ = take b fds in
-    let y : List ℕ = drop (b + k) fds in
-    let l : length x ≡ b = length-take-le b fds h in
-    let u : withDescriptors before (x ++ y) ≡ withDescriptors before x = with-more before x y (omega arith) in
-    let v : withDescriptors before fds ≡ withDescriptors before x = ap (withDescriptors before) (sym (take-append-drop b fds)) ∙ with-more before x (drop b fds) (omega arith) in
-    with-append before after (x ++ y) ∙ (λ j. (u ∙ sym v) j ++ withDescriptors after (drop-at x y b l j))

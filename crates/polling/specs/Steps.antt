@@ -28,6 +28,7 @@ use Rattle.descriptors.specs.declared.Counts.{Counts}
 use Rattle.model.specs.Model as Model
 use Rattle.packet.specs.Packet.{errorCode}
 use Rattle.model.specs.Reading.{Rooms, rooms, slotsOf}
+use Rattle.model.specs.Sound.{Ready}
 use Rattle.model.specs.Promise.{Done, Exact, answerOf, roomsOf, outputOf, exact-refused}
 use Rattle.model.specs.Says.{shownTaken, shownPoll, shownEvent, bytesOfTaken, descriptorsOfTaken, bytesOfPoll}
 use Rattle.model.specs.Says as Says
@@ -36,7 +37,7 @@ use Rattle.model.specs.declared.Polled.the-variants as Polled
 use Rattle.model.specs.declared.PollReply.the-variants as PollReply
 use Rattle.model.specs.declared.Event.the-variants as Event
 use Rattle.model.specs.Moved.{movedState}
-use Rattle.polling.specs.Exact.{Ready, stays, moved, packetAt, eventAt, replyAt, without, turnedEvent, handingOut, closing, eventFrom, eventExact, takenFrom, takenExact, checkedFrom, checkedExact, errorAt, repliedFrom, repliedExact, EventStep, TakenStep, CheckedStep, RepliedStep}
+use Rattle.polling.specs.Exact.{stays, moved, packetAt, eventAt, replyAt, without, turnedEvent, handingOut, closing, eventFrom, eventExact, takenFrom, takenExact, checkedFrom, checkedExact, errorAt, repliedFrom, repliedExact, EventStep, TakenStep, CheckedStep, RepliedStep}
 
 -- ---- outcomes
 

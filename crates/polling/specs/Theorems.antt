@@ -18,18 +18,14 @@ use Rattle.model.specs.Model as Model
 use Rattle.model.specs.Model.{find, takenBy, pollForReplyOrError, checkedBy, pollCheck, repliedBy, pollForReply, eventBy, pollForEvent}
 use Rattle.model.specs.Reading.{Rooms, rooms, slotsOf, withDescriptors, eventOf, reads}
 use Rattle.model.specs.Promise.{Done, modelOf, model-refuse}
-use Rattle.model.specs.Sound.{Sound}
+use Rattle.model.specs.Sound.{Sound, ready}
 use Rattle.model.specs.declared.Connection.{Connection}
 use Rattle.model.specs.Moved.{movedState}
-use Rattle.polling.specs.Exact.{Ready, replyAt, closing, eventFrom, eventExact, takenFrom, takenExact, checkedFrom, checkedExact, errorAt, repliedFrom, repliedExact}
+use Rattle.polling.specs.Exact.{replyAt, closing, eventFrom, eventExact, takenFrom, takenExact, checkedFrom, checkedExact, errorAt, repliedFrom, repliedExact}
 use Rattle.polling.specs.Rows.{model-choose, find-none}
-use Rattle.polling.specs.Left.{parts, event-is, event-left, event-sound, found-read, taken-left, closed-left, turned-left, taken-sound, closed-sound, turned-sound, same-error, bytes-is, places-is}
+use Rattle.polling.specs.Left.{event-is, event-left, event-sound, found-read, taken-left, closed-left, turned-left, taken-sound, closed-sound, turned-sound, same-error, bytes-is, places-is}
 
 module _ (c : Connection) (r : Rooms) (S : Sound c r) where
-  -- A sound state is ready for a poll.
-  pub ready : Ready c (r .store) (r .slots)
-  ready = parts c r S
-
   -- ---- the oldest event
 
   module _ (bytes : ℕ) where
@@ -62,7 +58,7 @@ module _ (c : Connection) (r : Rooms) (S : Sound c r) where
     found = foundReply n (c .window) (r .store)
 
     found-is : FindsReply n (c .window) (r .store) found
-    found-is = Held.find-reply-law n (c .read) (c .window) (r .store) (ready .held)
+    found-is = Held.find-reply-law n (c .read) (c .window) (r .store) (ready c r S .held)
 
     none-read : Store.All (Other n) (Store.replies (c .window) (r .store)) → find n (withDescriptors (Store.replies (c .window) (r .store)) (Slots.holding (slotsOf c r))) ≡ Model.nothing
     none-read F = find-none n (Store.replies (c .window) (r .store)) (Slots.holding (slotsOf c r)) F

@@ -1,15 +1,13 @@
 // Inside: the steps of a connection that hand out what is held, for a state that was found sound:
-// the polls, oldest packet first, and the discarding of answers.
+// the polls, oldest packet first.
 //
 // A step asks only for what it needs, touches only the rooms it writes, and is exact: its answer,
 // those rooms and the lent outputs at exit are one definition of what it was given. Laws say what
 // it is in the model's terms, and that the state it leaves is sound. (01, Numbering and filing; the
 // order of refusals is 01's for taking: nothing found, then 8.)
-mod discard;
-
-pub use discard::discard_reply;
 use held::Found;
 use model::Connection;
+use model::ERROR_CODE;
 use model::Event;
 use model::PollReply;
 use model::Polled;
@@ -19,10 +17,8 @@ use sequence::SequenceNumber;
 ghost use mathlib.Core.Path.{_≡_};
 ghost use Prim.Native.Nat.{_<_};
 ghost use Rattle.held.specs.Reading as Store;
-ghost use Rattle.polling.specs.Exact.{Ready, EventStep, TakenStep, CheckedStep, RepliedStep};
-
-// The first byte of an error.
-pub(crate) const ERROR_CODE: u8 = 0;
+ghost use Rattle.model.specs.Sound.{Ready};
+ghost use Rattle.polling.specs.Exact.{EventStep, TakenStep, CheckedStep, RepliedStep};
 
 // The oldest event, with its number. Refused by 8 for an output that is too small.
 pub fn poll_for_event(c: Connection, store: &mut [u8], out: &mut [u8]) -> Event

@@ -21,7 +21,7 @@ use Rattle.model.specs.declared.Connection.{Connection}
 use Rattle.sending.specs.Theorems as Sending
 use Rattle.intake.specs.Exact.{enqueueExact}
 use Rattle.intake.specs.Theorems as Intake
-use Rattle.polling.specs.DiscardTheorems.{discard-leaves}
+use Rattle.discarding.specs.Theorems.{discard-leaves}
 use Rattle.polling.specs.Exact.{eventExact}
 use Rattle.polling.specs.Theorems as Polling
 use Rattle.batch.specs.Theorems as Batch

@@ -5,10 +5,9 @@ use Rattle.refusal.specs.Answer.{gives}
 use Rattle.requests.specs.Theorems.{sized-is}
 use Rattle.held.specs.Tally.{tallied}
 use Rattle.held.specs.declared.Tally.{Tally}
-use Rattle.polling.specs.DiscardTheorems.{discard-model}
-use Rattle.polling.specs.Theorems.{ready}
+use Rattle.discarding.specs.Theorems.{discard-model}
 use Rattle.model.specs.Promise.{answerOf, roomsOf, promise-unsound, promise-sound}
-use Rattle.model.specs.Sound.{sound-is, sound-seen, unsound-seen}
+use Rattle.model.specs.Sound.{sound-is, sound-seen, unsound-seen, ready}
 use borrow.Author.Needs.{needs}
 use Rattle.connection.proofs.discard_reply.Statement.{statement}
 use Rattle.connection.proofs.discard_reply.Tie as tie

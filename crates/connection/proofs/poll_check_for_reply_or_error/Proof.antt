@@ -1,7 +1,7 @@
 -- `connection::poll_check_for_reply_or_error` meets its contract. Assumes nothing.
-use Rattle.polling.specs.Theorems.{ready, checked-model}
+use Rattle.polling.specs.Theorems.{checked-model}
 use Rattle.connection.specs.Laws.{hands-unsound, hands-sound}
-use Rattle.model.specs.Sound.{sound-is, sound-seen, unsound-seen}
+use Rattle.model.specs.Sound.{sound-is, sound-seen, unsound-seen, ready}
 use borrow.Author.Needs.{needs}
 use Rattle.connection.proofs.poll_check_for_reply_or_error.Statement.{statement}
 use Rattle.connection.proofs.poll_check_for_reply_or_error.Tie as tie

@@ -1,7 +1,7 @@
 -- `connection::poll_for_event_with_sequence` meets its contract. Assumes nothing.
-use Rattle.polling.specs.Theorems.{ready, event-model}
+use Rattle.polling.specs.Theorems.{event-model}
 use Rattle.connection.specs.Laws.{hands-unsound, hands-sound}
-use Rattle.model.specs.Sound.{sound-is, sound-seen, unsound-seen}
+use Rattle.model.specs.Sound.{sound-is, sound-seen, unsound-seen, ready}
 use borrow.Author.Needs.{needs}
 use Rattle.connection.proofs.poll_for_event_with_sequence.Statement.{statement}
 use Rattle.connection.proofs.poll_for_event_with_sequence.Tie as tie

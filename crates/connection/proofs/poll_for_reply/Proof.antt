@@ -1,7 +1,7 @@
 -- `connection::poll_for_reply` meets its contract. Assumes nothing.
-use Rattle.polling.specs.Theorems.{ready, replied-model}
+use Rattle.polling.specs.Theorems.{replied-model}
 use Rattle.connection.specs.Laws.{hands-unsound, hands-sound}
-use Rattle.model.specs.Sound.{sound-is, sound-seen, unsound-seen}
+use Rattle.model.specs.Sound.{sound-is, sound-seen, unsound-seen, ready}
 use borrow.Author.Needs.{needs}
 use Rattle.connection.proofs.poll_for_reply.Statement.{statement}
 use Rattle.connection.proofs.poll_for_reply.Tie as tie

@@ -1,7 +1,7 @@
 -- `connection::poll_for_reply_or_error` meets its contract. Assumes nothing.
-use Rattle.polling.specs.Theorems.{ready, taken-model}
+use Rattle.polling.specs.Theorems.{taken-model}
 use Rattle.connection.specs.Laws.{polls-unsound, polls-sound}
-use Rattle.model.specs.Sound.{sound-is, sound-seen, unsound-seen}
+use Rattle.model.specs.Sound.{sound-is, sound-seen, unsound-seen, ready}
 use borrow.Author.Needs.{needs}
 use Rattle.connection.proofs.poll_for_reply_or_error.Statement.{statement}
 use Rattle.connection.proofs.poll_for_reply_or_error.Tie as tie

@@ -1,7 +1,7 @@
 -- `batch::events::turn` meets its contract. Assumes nothing.
 use Rattle.batch.specs.Events.{roomLeft}
 use Rattle.batch.specs.EventsLaws.{turn-markable, turn-is, room-most}
-use Rattle.polling.specs.Theorems.{ready}
+use Rattle.model.specs.Sound.{ready}
 use native.Mathlib.Omega.{arith}
 use mathlib.Core.Path.{_≡_, _∙_}
 use Prim.Native.Nat.{_+_, _-_, _≤_}

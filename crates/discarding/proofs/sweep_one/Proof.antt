@@ -1,9 +1,9 @@
--- `polling::discard::sweep_one` meets its contract. Assumes nothing.
+-- `discarding::sweep_one` meets its contract. Assumes nothing.
 use mathlib.Core.Path.{_∙_, sym}
-use Rattle.polling.specs.DiscardSteps.{clear-place, one-found, one-none}
+use Rattle.discarding.specs.Steps.{clear-place, one-found, one-none}
 use borrow.Author.Needs.{needs}
-use Rattle.polling.proofs.discard.sweep_one.Statement.{statement}
-use Rattle.polling.proofs.discard.sweep_one.Tie as tie
+use Rattle.discarding.proofs.sweep_one.Statement.{statement}
+use Rattle.discarding.proofs.sweep_one.Tie as tie
 
 find-reply-requires : tie.Need-find-reply-requires
 find-reply-requires c κs = search needs

@@ -22,14 +22,14 @@ use Rattle.descriptors.specs.Room as Slots
 use Rattle.descriptors.specs.Theorems as Fds
 use Rattle.descriptors.specs.declared.Counts.{Counts}
 use Rattle.model.specs.Reading.{rooms}
+use Rattle.model.specs.Sound.{Ready}
 use Rattle.model.specs.declared.Connection.{Connection}
 use Rattle.model.specs.declared.DiscardMode.{DiscardMode}
 use Rattle.model.specs.Moved.{movedState}
-use Rattle.polling.specs.Exact.{Ready}
-use Rattle.polling.specs.Runs.{no-lower, lower-is, lower-not, rising-split}
-use Rattle.polling.specs.Discard.{modeSet, turnOf, turnAt, fdsBelow, fdsBefore, fdsFrom, closedRound, discardSlots, cleared, discardLeft, discardExact, Counted, Sweepable, Sweeps, DiscardStep}
-use Rattle.polling.specs.DiscardRows.{own-none, own-found}
-use Rattle.polling.specs.DiscardSteps.{Keeps, cleared-keeps, cleared-add}
+use Rattle.discarding.specs.Runs.{no-lower, lower-is, lower-not, rising-split}
+use Rattle.discarding.specs.Exact.{modeSet, turnOf, turnAt, fdsBelow, fdsBefore, fdsFrom, closedRound, discardSlots, cleared, discardLeft, discardExact, Counted, Sweepable, Sweeps, DiscardStep}
+use Rattle.discarding.specs.Rows.{own-none, own-found}
+use Rattle.discarding.specs.Steps.{Keeps, cleared-keeps, cleared-add}
 
 -- before the first of a number stand those of lower numbers
 rising-on : (from : ℕ) (a : List Record.Held) (it : Record.Held) (b : List Record.Held) → Rising from (a ++ (it ∷ b)) → (from ≤ it .number) × Rising (it .number) b

@@ -27,13 +27,12 @@ use Rattle.descriptors.specs.Theorems as Fds
 use Rattle.model.specs.Client.{descriptorsOf}
 use Rattle.model.specs.Client as Client
 use Rattle.packet.specs.Packet.{errorCode}
-use Rattle.model.specs.Reading.{withDescriptors}
+use Rattle.model.specs.Reading.{heldWith, withDescriptors}
 use Rattle.model.specs.ReadingLaws.{descriptors-with}
 use Rattle.model.specs.declared.DiscardMode.{DiscardMode}
 use Rattle.model.specs.declared.DiscardMode.the-variants as DiscardMode
-use Rattle.polling.specs.Runs.{own-is, own-not, lower-not, higher-not, rising-split}
-use Rattle.polling.specs.Rows.{heldWith}
-use Rattle.polling.specs.Discard.{closedRound, clearedAt, clearedFrom, cleared}
+use Rattle.discarding.specs.Runs.{own-is, own-not, lower-not, higher-not, rising-split}
+use Rattle.discarding.specs.Exact.{closedRound, clearedAt, clearedFrom, cleared}
 
 -- ---- descriptors of a part of a row
 

@@ -26,20 +26,18 @@ use Rattle.model.specs.Client as Client
 use Rattle.packet.specs.Packet.{errorCode}
 use Rattle.model.specs.Model.{withMode, modeOf, joining, ofNumber, notOf, above, errorsOf, closingOrder, discarding, discardReply}
 use Rattle.model.specs.Model as Model
-use Rattle.model.specs.Reading.{Rooms, count, slotsOf, withDescriptors, eventOf, reads}
-use Rattle.model.specs.ReadingLaws.{first-read}
+use Rattle.model.specs.Reading.{Rooms, count, slotsOf, heldWith, withDescriptors, eventOf, reads}
+use Rattle.model.specs.ReadingLaws.{with-without, events-append, first-read}
 use Rattle.model.specs.Promise.{modelOf}
 use Rattle.model.specs.Moved.{moved-sound-with}
-use Rattle.model.specs.Sound.{Sound}
+use Rattle.model.specs.Sound.{Sound, ready}
 use Rattle.model.specs.declared.Connection.{Connection}
 use Rattle.model.specs.declared.ReplyFdKind.the-variants as ReplyFdKind
 use Rattle.model.specs.declared.DiscardMode.{DiscardMode}
 use Rattle.model.specs.declared.DiscardMode.the-variants as DiscardMode
-use Rattle.polling.specs.Rows.{events-append, heldWith, with-without}
-use Rattle.polling.specs.Left.{parts}
-use Rattle.polling.specs.Runs.{rising-split, of-read, not-read, above-read, length-with}
-use Rattle.polling.specs.Discard.{modeSet, turnAt, fdsBelow, fdsBefore, fdsFrom, discardSlots, repliesOf, discardLeft, discardExact}
-use Rattle.polling.specs.DiscardRows.{descriptors-round, round-lists, round-sound, round-held, errorsIn, becoming, Cleared, cleared-law}
+use Rattle.discarding.specs.Runs.{rising-split, of-read, not-read, above-read, length-with}
+use Rattle.discarding.specs.Exact.{modeSet, turnAt, fdsBelow, fdsBefore, fdsFrom, discardSlots, repliesOf, discardLeft, discardExact}
+use Rattle.discarding.specs.Rows.{descriptors-round, round-lists, round-sound, round-held, errorsIn, becoming, Cleared, cleared-law}
 
 -- the errors of a row, as the model reads them
 errors-read : (a : List Record.Held) (fds : List ℕ) → map eventOf (errorsIn a) ≡ errorsOf (withDescriptors a fds)
@@ -69,7 +67,7 @@ module _ (c : Connection) (r : Rooms) (S : Sound c r) (n : ℕ) (m : DiscardMode
   v = fdsFrom m n rs
 
   rising : Store.Rising 0 rs
-  rising = parts c r S .held .rising
+  rising = ready c r S .held .rising
 
   -- all that the replies have
   own-fds : fdsIn (own n rs) ≡ u + v
@@ -84,16 +82,16 @@ module _ (c : Connection) (r : Rooms) (S : Sound c r) (n : ℕ) (m : DiscardMode
   some = omega (arith, all-fds)
 
   lists : Slots.Lists (discardSlots m n rs (slotsOf c r)) (Slots.closing (slotsOf c r) ++ (take v (drop (b + u) fds) ++ take u (drop b fds))) (take b fds ++ drop (b + (u + v)) fds) (Slots.waiting (slotsOf c r))
-  lists = round-lists (slotsOf c r) (parts c r S .slots) b u v some
+  lists = round-lists (slotsOf c r) (ready c r S .slots) b u v some
 
   clear : Cleared (c .read) n m (left (c .window) (r .store)) (discardLeft c r n m)
-  clear = cleared-law (c .read) n m (length (own n rs)) (left (c .window) (r .store)) (parts c r S .held) refl
+  clear = cleared-law (c .read) n m (length (own n rs)) (left (c .window) (r .store)) (ready c r S .held) refl
 
   -- ---- as it is read
 
   replies-read : withDescriptors (Store.replies (discardLeft c r n m .window) (discardLeft c r n m .store)) (Slots.holding (discardSlots m n rs (slotsOf c r))) ≡ notOf n (withDescriptors rs fds)
   replies-read =
-      let l = Fds.length-holding (slotsOf c r) (parts c r S .slots) in
+      let l = Fds.length-holding (slotsOf c r) (ready c r S .slots) in
       let e : drop (fdsIn (own n rs)) (drop b fds) ≡ drop (b + (u + v)) fds = drop-drop (fdsIn (own n rs)) b fds ∙ ap (λ (x : ℕ). drop (b + x) fds) own-fds in
       (λ k. withDescriptors (clear .replies k) (lists .holding-is k))
       ∙ with-without (lower n rs) (higher n rs) fds (u + v) (omega (arith, all-fds))
@@ -197,11 +195,11 @@ module _ (c : Connection) (r : Rooms) (S : Sound c r) (n : ℕ) where
     left-fds =
         ap fdsIn (clear c r S n m .replies) ∙ fdsIn-append (lower n (repliesOf c r)) (higher n (repliesOf c r))
         ∙ (let a = all-fds c r S n m in let z : fdsBelow n (repliesOf c r) + fdsIn (higher n (repliesOf c r)) ≡ c .counts .held - (u c r S n m + v c r S n m) = omega arith in z)
-        ∙ sym (round-held (slotsOf c r) (parts c r S .slots) (b c r S n m) (u c r S n m) (v c r S n m) (some c r S n m))
+        ∙ sym (round-held (slotsOf c r) (ready c r S .slots) (b c r S n m) (u c r S n m) (v c r S n m) (some c r S n m))
 
     -- and leaves a sound state.
     pub discard-leaves : Sound (discardExact c r n m .state) (discardExact c r n m .left)
     unfolding discardExact
     discard-leaves =
         moved-sound-with c r S (discardLeft c r n m) (discardSlots m n (repliesOf c r) (slotsOf c r)) (clear c r S n m .long) (clear c r S n m .sound)
-        (round-sound (slotsOf c r) (parts c r S .slots) (b c r S n m) (u c r S n m) (v c r S n m) (some c r S n m)) left-fds (modeSet c (r .requests) n m) set-sized set-legal
+        (round-sound (slotsOf c r) (ready c r S .slots) (b c r S n m) (u c r S n m) (v c r S n m) (some c r S n m)) left-fds (modeSet c (r .requests) n m) set-sized set-legal

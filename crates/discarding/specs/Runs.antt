@@ -16,8 +16,7 @@ use Rattle.held.specs.Rows.{all-map}
 use Rattle.held.specs.Tally.{own, lower, higher}
 use Rattle.model.specs.Client.{Held}
 use Rattle.model.specs.Model.{ofNumber, notOf, above}
-use Rattle.model.specs.Reading.{withDescriptors}
-use Rattle.polling.specs.Rows.{heldWith}
+use Rattle.model.specs.Reading.{heldWith, withDescriptors}
 use Rattle.model.specs.ReadingLaws.{with-append}
 
 -- one step of each

@@ -33,8 +33,8 @@ use Rattle.model.specs.Model.{modeOf}
 use Rattle.model.specs.declared.Connection.{Connection}
 use Rattle.model.specs.declared.DiscardMode.{DiscardMode}
 use Rattle.model.specs.declared.DiscardMode.the-variants as DiscardMode
-use Rattle.polling.specs.Discard.{modeSet, turnOf, clearedAt, clearedFrom, cleared, fdsFound, Sweepable, SweepsOne, Sweeps}
-use Rattle.polling.specs.DiscardRows.{one-step, own-none, own-found}
+use Rattle.discarding.specs.Exact.{modeSet, turnOf, clearedAt, clearedFrom, cleared, fdsFound, Sweepable, SweepsOne, Sweeps}
+use Rattle.discarding.specs.Rows.{one-step, own-none, own-found}
 
 -- ---- the mode
 

@@ -1,10 +1,16 @@
-// Discarding: the mode set, the packets of the number gone, and their descriptors closed.
-use crate::ERROR_CODE;
+// Inside: the step of a connection that discards the answers to a request, for a state that was
+// found sound (01, Numbering and filing): the mode is set, held packets of the number go, and their
+// descriptors are closed, in the order in which the Rust would close them.
+//
+// The step is never refused. It is exact: the state and the rooms at exit are one definition of
+// what it was given. Laws say what it is in the model's terms, and that the state it leaves is
+// sound.
 use held::Found;
 use held::Place;
 use held::Window;
 use model::Connection;
 use model::DiscardMode;
+use model::ERROR_CODE;
 use model::moved;
 use requests::Mode;
 ghost use mathlib.Core.Path.{_≡_};
@@ -14,8 +20,8 @@ ghost use Rattle.requests.specs.Room.{capacity};
 ghost use Rattle.held.specs.Head.{headerSize};
 ghost use Rattle.held.specs.Moves.{left, Within, Leaves};
 ghost use Rattle.model.specs.Model.{modeOf};
-ghost use Rattle.polling.specs.Exact.{Ready};
-ghost use Rattle.polling.specs.Discard.{modeSet, turnOf, clearedAt, Counted, Sweepable, Sweeps, SweepsOne, DiscardStep};
+ghost use Rattle.model.specs.Sound.{Ready};
+ghost use Rattle.discarding.specs.Exact.{modeSet, turnOf, clearedAt, Counted, Sweepable, Sweeps, SweepsOne, DiscardStep};
 
 // The answers to a request are discarded: those to come, and those held, of which there are so
 // many, with so many replies of higher numbers. Never refused.

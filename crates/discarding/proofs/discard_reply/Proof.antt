@@ -1,10 +1,10 @@
--- `polling::discard::discard_reply` meets its contract. Assumes nothing.
+-- `discarding::discard_reply` meets its contract. Assumes nothing.
 use native.Mathlib.Omega.{arith}
 use mathlib.Core.Path.{_∙_, sym}
-use Rattle.polling.specs.DiscardExact.{ModeSet, Met, Half, Whole, sweepable, sweepable-on, some-own, run-fits, first-close, second-close, second-long, discard-none, discard-some}
+use Rattle.discarding.specs.Whole.{ModeSet, Met, Half, Whole, sweepable, sweepable-on, some-own, run-fits, first-close, second-close, second-long, discard-none, discard-some}
 use borrow.Author.Needs.{needs}
-use Rattle.polling.proofs.discard.discard_reply.Statement.{statement}
-use Rattle.polling.proofs.discard.discard_reply.Tie as tie
+use Rattle.discarding.proofs.discard_reply.Statement.{statement}
+use Rattle.discarding.proofs.discard_reply.Tie as tie
 
 -- where the mode is set, a reply is found, the first are gone, and all are
 abbrev mode-set : tie.After-set-mode → ModeSet

@@ -1,8 +1,8 @@
--- `polling::discard::clear` meets its contract. Assumes nothing.
-use Rattle.polling.specs.DiscardSteps.{clear-error, clear-reply, clear-any}
+-- `discarding::clear` meets its contract. Assumes nothing.
+use Rattle.discarding.specs.Steps.{clear-error, clear-reply, clear-any}
 use borrow.Author.Needs.{needs}
-use Rattle.polling.proofs.discard.clear.Statement.{statement}
-use Rattle.polling.proofs.discard.clear.Tie as tie
+use Rattle.discarding.proofs.clear.Statement.{statement}
+use Rattle.discarding.proofs.clear.Tie as tie
 
 enum-told : tie.Need-enum-told
 enum-told c = search needs

@@ -1,8 +1,8 @@
--- `polling::discard::set_mode` meets its contract. Assumes nothing.
-use Rattle.polling.specs.DiscardSteps.{mode-below, mode-past, mode-set}
+-- `discarding::set_mode` meets its contract. Assumes nothing.
+use Rattle.discarding.specs.Steps.{mode-below, mode-past, mode-set}
 use borrow.Author.Needs.{needs}
-use Rattle.polling.proofs.discard.set_mode.Statement.{statement}
-use Rattle.polling.proofs.discard.set_mode.Tie as tie
+use Rattle.discarding.proofs.set_mode.Statement.{statement}
+use Rattle.discarding.proofs.set_mode.Tie as tie
 
 returns : tie.Need-returns
 returns c = mode-below _ _ _ _ (c .if1 .taken)

@@ -1,8 +1,8 @@
--- `polling::discard::turn` meets its contract. Assumes nothing.
-use Rattle.polling.specs.DiscardSteps.{turn-round}
+-- `discarding::turn` meets its contract. Assumes nothing.
+use Rattle.discarding.specs.Steps.{turn-round}
 use borrow.Author.Needs.{needs}
-use Rattle.polling.proofs.discard.turn.Statement.{statement}
-use Rattle.polling.proofs.discard.turn.Tie as tie
+use Rattle.discarding.proofs.turn.Statement.{statement}
+use Rattle.discarding.proofs.turn.Tie as tie
 
 enum-told : tie.Need-enum-told
 enum-told c = search needs

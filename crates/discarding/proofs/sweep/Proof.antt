@@ -1,9 +1,9 @@
--- `polling::discard::sweep` meets its contract. Assumes nothing.
+-- `discarding::sweep` meets its contract. Assumes nothing.
 use native.Mathlib.Omega.{arith}
 use Prim.Native.Nat.{_-_}
-use Rattle.polling.specs.DiscardSteps.{Sweeping, sweeping-start, sweeping-ready, sweeping-ends, sweeping-sum, sweeping-next}
-use Rattle.polling.proofs.discard.sweep.Statement.{statement}
-use Rattle.polling.proofs.discard.sweep.Tie as tie
+use Rattle.discarding.specs.Steps.{Sweeping, sweeping-start, sweeping-ready, sweeping-ends, sweeping-sum, sweeping-next}
+use Rattle.discarding.proofs.sweep.Statement.{statement}
+use Rattle.discarding.proofs.sweep.Tie as tie
 
 abbrev Inv-loop : tie.InvT-loop
 Inv-loop store₀ number mode count rest₀ fds₀ i₀ store rest fds i = Sweeping number mode count rest₀ store₀ rest store fds i

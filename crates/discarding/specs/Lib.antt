@@ -1,0 +1,6 @@
+pub mod Exact
+pub mod Runs
+pub mod Rows
+pub mod Steps
+pub mod Whole
+pub mod Theorems
