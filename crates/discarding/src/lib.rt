@@ -10,7 +10,6 @@ use held::Place;
 use held::Window;
 use model::Connection;
 use model::DiscardMode;
-use model::ERROR_CODE;
 use model::moved;
 use requests::Mode;
 ghost use mathlib.Core.Path.{_≡_};
@@ -143,7 +142,7 @@ fn clear(store: &mut [u8], window: Window, place: Place, mode: DiscardMode) -> W
 {
     match mode {
         DiscardMode::DiscardReply => {
-            if held::first_byte(store, place) == ERROR_CODE {
+            if held::first_byte(store, place) == packet::ERROR {
                 held::demote(store, window, place);
                 return window;
             }

@@ -4,11 +4,11 @@ use mathlib.Core.List.{List, [], _∷_, _++_, append-assoc, append-nil}
 use Prim.Native.Nat.{ℕ, _+_, _-_, _≤_}
 use native.Mathlib.Omega.{arith}
 use lib.ListN.{length}
-use Rattle.held.specs.Head.{Held, Fits, cost, encoded, asEvent, fits-event}
+use Rattle.held.specs.Head.{Held, Fits, cost, encoded, asEvent, reply, fits-event}
 use Rattle.held.specs.Front.{Stands, stands}
-use Rattle.held.specs.Reading.{used, flat, records, costs, Known, Sound}
+use Rattle.held.specs.Reading.{used, flat, records, replies, costs, All, Known, Sound}
 use Rattle.held.specs.Rows.{length-flat, flat-append, all-here}
-use Rattle.held.specs.Soundness.{Fine, sound-fine, fine-later, fine-without, fine-last, Holds, holds}
+use Rattle.held.specs.Soundness.{Fine, sound-fine, fine-without, fine-last, Holds, holds}
 use Rattle.held.specs.Moves.{Left, left, Within, appended, removed, demoted}
 use Rattle.held.specs.Shows.{Shows, shows-used, shows-appended, Between, place-within, rest-is, shows-removed, shows-demoted}
 use Rattle.held.specs.Lies.{Lies}
@@ -33,14 +33,13 @@ module _ (last : ℕ) (w : Window) (s : List ℕ) (S : Sound last w s) where
         used = shows-used (length s) l x H ∙ ap length e ∙ length-flat hs;
       }
 
-  pub kept-appended : (h : Held) → Fits h → last ≤ h .number → used w + cost h ≤ length s → Kept (h .number) (length s) (appended w s h) (records w s ++ (h ∷ []))
+  pub kept-appended : (h : Held) → Fits h → Known last h → (h .kind ≡ reply → All (Known (h .number)) (replies w s)) → used w + cost h ≤ length s → Kept last (length s) (appended w s h) (records w s ++ (h ∷ []))
   unfolding flat
-  kept-appended h f n r =
+  kept-appended h f k n r =
       let hs : List Held = records w s in
-      let F : Fine (h .number) hs = fine-later last (h .number) hs n (sound-fine last w s S) in
-      kept (h .number) (appended w s h) (hs ++ (h ∷ [])) (flat hs ++ encoded h) (shows-appended (length s) w s (flat hs) h shown r)
+      kept last (appended w s h) (hs ++ (h ∷ [])) (flat hs ++ encoded h) (shows-appended (length s) w s (flat hs) h shown r)
       (sym (flat-append hs (h ∷ []) ∙ ap (λ (l : List ℕ). flat hs ++ l) (append-nil (encoded h))))
-      (fine-last (h .number) hs h F f (omega arith) (λ e. F .known))
+      (fine-last last hs h (sound-fine last w s S) f k n)
 
   module _ (kind : ℕ) (p : Place) (before : List Held) (it : Held) (after : List Held) (L : Lies kind w s p before it after) where
     was : Fine last (L .front ++ (it ∷ L .back))

@@ -12,7 +12,7 @@ use Rattle.octets.specs.Put.{length-cut}
 use Rattle.held.specs.General.{same-is, same-yes}
 use Rattle.held.specs.Head.{Held, Fits, fits-is, fits-so, reply, mostStore}
 use Rattle.held.specs.Reading.{inside, used, flat, readAll, records, replies, only, costs, All, Rising, Known, Readable, Sound, rising, known, fine, soundb}
-use Rattle.held.specs.Rows.{length-flat, read-flat, only-append, only-is, only-other, all-is, all-so, all-map, all-append, all-without, all-only, rising-is, rising-so, rising-without, rising-last}
+use Rattle.held.specs.Rows.{length-flat, read-flat, only-append, only-is, only-other, all-is, all-so, all-map, all-append, all-without, rising-is, rising-so, rising-without, rising-last}
 use Rattle.held.specs.declared.Window.{Window}
 
 -- ---- the test
@@ -86,8 +86,8 @@ fine-without last a h b F =
     other : (h .kind ≡ reply → ⊥) → Rising 0 (only reply a ++ only reply b)
     other n = subst (Rising 0) (only-append reply a (h ∷ b) ∙ ap (λ (l : List Held). only reply a ++ l) (only-other reply h b n)) (F .rising)
 
--- A record may come last: an event, or a reply whose number none is above.
-pub fine-last : (last : ℕ) (hs : List Held) (h : Held) → Fine last hs → Fits h → h .number ≤ last → (h .kind ≡ reply → All (Known (h .number)) hs) → Fine last (hs ++ (h ∷ []))
+-- A record of a known number may come last: an event, or a reply whose number no other reply's is above.
+pub fine-last : (last : ℕ) (hs : List Held) (h : Held) → Fine last hs → Fits h → Known last h → (h .kind ≡ reply → All (Known (h .number)) (only reply hs)) → Fine last (hs ++ (h ∷ []))
 unfolding All only
 fine-last last hs h F f k r =
     record {
@@ -99,7 +99,7 @@ fine-last last hs h F f k r =
     one : h .kind ≡ reply → Rising 0 (only reply hs ++ only reply (h ∷ []))
     one e =
         subst (λ (l : List Held). Rising 0 (only reply hs ++ l)) (sym (only-is reply h [] e))
-        (rising-last 0 (only reply hs) h (omega arith) (F .rising) (all-only (Known (h .number)) reply hs (r e)))
+        (rising-last 0 (only reply hs) h (omega arith) (F .rising) (r e))
 
     other : (h .kind ≡ reply → ⊥) → Rising 0 (only reply hs ++ only reply (h ∷ []))
     other n = subst (λ (l : List Held). Rising 0 (only reply hs ++ l)) (sym (only-other reply h [] n)) (subst (Rising 0) (sym (append-nil (only reply hs))) (F .rising))

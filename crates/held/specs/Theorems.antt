@@ -11,8 +11,8 @@ use Rattle.octets.specs.Put.{put, cut, cut-none, getD-cut}
 use Rattle.held.specs.General.{choose-either}
 use Rattle.held.specs.Head.{Held, Fits, cost, asEvent, reply, event, headerSize, mostStore}
 use Rattle.held.specs.Front.{Stands}
-use Rattle.held.specs.Reading.{used, flat, records, replies, events, only, fdsIn, costs, All, Rising, Sound, soundb}
-use Rattle.held.specs.Rows.{only-append, only-is, only-other, costs-append, costs-kinds}
+use Rattle.held.specs.Reading.{used, flat, records, replies, events, only, fdsIn, costs, All, Known, Rising, Sound, soundb}
+use Rattle.held.specs.Rows.{only-append, only-is, only-other, costs-append, costs-kinds, all-only}
 use Rattle.held.specs.Soundness.{sound-is, sound-so, sound-fine, Fine, fine-later, Holds, holds, used-costs}
 use Rattle.held.specs.Walk.{walked}
 use Rattle.held.specs.Find.{foundReply, foundEvent}
@@ -61,21 +61,25 @@ sound-empty last w s m e i =
 
 -- ---- append
 
--- The new record is the last of its list, the other list is as it was, and its cost is used.
-pub record Appended (w : Window) (s : List ℕ) (h : Held) (l : Left) : Type 0 where
-  pub sound : Sound (h .number) (l .window) (l .store)
+-- The new record is the last of its list, the other list is as it was, its cost is used, and the state is sound with the last read given.
+pub record AppendedUnder (last : ℕ) (w : Window) (s : List ℕ) (h : Held) (l : Left) : Type 0 where
+  pub sound : Sound last (l .window) (l .store)
   pub all : records (l .window) (l .store) ≡ records w s ++ (h ∷ [])
   pub own : only (h .kind) (records (l .window) (l .store)) ≡ only (h .kind) (records w s) ++ (h ∷ [])
   pub other : (kind : ℕ) → (h .kind ≡ kind → ⊥) → only kind (records (l .window) (l .store)) ≡ only kind (records w s)
   pub used : used (l .window) ≡ used w + cost h
   pub long : length (l .store) ≡ length s
 
+-- so with the new record's number as the last read
+abbrev pub Appended : Window → List ℕ → Held → Left → Type 0
+Appended w s h = AppendedUnder (h .number) w s h
+
 module _ (last : ℕ) (w : Window) (s : List ℕ) (S : Sound last w s) (h : Held) (f : Fits h) (r : used w + cost h ≤ length s) where
-  -- A record that fits, of a number at or above the last read, is appended; its number is then the last read.
-  pub append-law : last ≤ h .number → Appended w s h (appended w s h)
+  -- A record that fits is appended if its number is not above the last read, and for a reply not below another reply's; an event's may be lower than those of the records before it. The last read stays.
+  pub append-known-law : Known last h → (h .kind ≡ reply → All (Known (h .number)) (replies w s)) → AppendedUnder last w s h (appended w s h)
   unfolding only costs
-  append-law n =
-      let K : Kept (h .number) (length s) (appended w s h) (records w s ++ (h ∷ [])) = kept-appended last w s S h f n r in
+  append-known-law k n =
+      let K : Kept last (length s) (appended w s h) (records w s ++ (h ∷ [])) = kept-appended last w s S h f k n r in
       record {
         sound = K .holds .sound;
         all = K .holds .reads;
@@ -87,6 +91,12 @@ module _ (last : ℕ) (w : Window) (s : List ℕ) (S : Sound last w s) (h : Held
         used = K .used ∙ costs-append (records w s) (h ∷ []) ∙ omega (arith, used-costs w s (S .readable));
         long = K .long;
       }
+
+-- A record that fits, of a number at or above the last read, is appended; its number is then the last read.
+pub append-law : (last : ℕ) (w : Window) (s : List ℕ) → Sound last w s → (h : Held) → Fits h → used w + cost h ≤ length s → last ≤ h .number → Appended w s h (appended w s h)
+append-law last w s S h f r n =
+    let T : Sound (h .number) w s = sound-later last (h .number) w s n S in
+    append-known-law (h .number) w s T h f r (omega arith) (λ e. all-only (Known (h .number)) reply (records w s) (T .known))
 
 -- ---- find
 

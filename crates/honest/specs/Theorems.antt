@@ -7,7 +7,7 @@ use Prim.Native.Nat.{ℕ}
 use lib.Dec.{ltb}
 use lib.ListN.{length}
 use Rattle.refusal.specs.Answer.{Answer, gives, refuses, refuse, pass, gives-same}
-use Rattle.packet.specs.Packet.{codeOf, leastPacket, mostPacket, unnumbered}
+use Rattle.packet.specs.Packet.{leastPacket, mostPacket, codeOf, unnumbered}
 use Rattle.model.specs.Client.{Client}
 use Rattle.packet.specs.Laws.{number-full}
 use Rattle.model.specs.Model.{packetNumber, askedOf, Filing, takeIn, enqueuePacket}

@@ -1,7 +1,6 @@
 pub mod Descriptors
 pub mod Room
 pub mod Sends
-pub mod Encoding
 pub mod State
 pub mod Saying
 pub mod Promised
@@ -15,7 +14,6 @@ pub mod SendsLaws
 pub mod Outcomes
 pub mod Many
 pub mod Again
-pub mod EncodingLaws
 pub mod StateLaws
 pub mod Needed
 pub mod Theorems

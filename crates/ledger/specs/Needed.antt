@@ -27,7 +27,7 @@ use Rattle.model.specs.declared.DiscardMode.the-variants.{DiscardReply, Discard
 use Rattle.model.specs.declared.ReplyFdKind.the-variants.{NoReply}
 use Rattle.model.specs.declared.Place.the-variants.{Replies, Events, Dropped}
 use Rattle.model.specs.Batch.{Each}
-use Rattle.ledger.specs.Encoding.{ReplyFits, EventFits, NeverFall, InRange}
+use Rattle.model.specs.Encoding.{ReplyFits, EventFits, NeverFall, InRange}
 use Rattle.ledger.specs.State.{Needed, withOrder, withK, withS, withWritten, withExpected, withRead, withOutstanding, withDescribed, withRequestMode, withDiscard, withReplies, withEvents, withNumber, withPacket, withHeld, withTurn, withWaiting, withClosing}
 
 -- ---- the ranges as a test

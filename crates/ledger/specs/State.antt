@@ -14,7 +14,6 @@ use Rattle.model.specs.Model.{modeOf, Filing}
 use Rattle.model.specs.Calls.{Call, run}
 use Rattle.model.specs.Reading.{Rooms, reads}
 use Rattle.model.specs.Says.{Shown, ShownEvent, ShownPoll}
-use Rattle.model.specs.Sound.{Sound}
 use Rattle.model.specs.SendRequests.{ShownSendings}
 use Rattle.model.specs.PollForEvents.{ShownHandings}
 use Rattle.model.specs.Feed.{ShownFed}
@@ -23,7 +22,7 @@ use Rattle.model.specs.declared.DiscardMode.{DiscardMode}
 use Rattle.model.specs.declared.ReplyFdKind.{ReplyFdKind}
 use Rattle.connection.specs.Calls.{Sends, EnqueuesFds, Enqueues, Discards, Polls, Checks, PollsReply, PollsEvent, Closes, Prepares, SendsMany, EnqueuesMany, PollsEvents}
 use Rattle.honest.specs.Public.{stateOf}
-use Rattle.ledger.specs.Encoding.{InRange}
+use Rattle.model.specs.Encoding.{InRange, Alike}
 
 -- ---- An outcome as it is read
 
@@ -50,14 +49,6 @@ shownBy f m (refuses n) = record { answer = refuses n; next = m }
 unfoldable pub writtenBy : {A : Type 0} → (A → List ℕ) → Answer (A × Client) → List ℕ → List ℕ
 writtenBy g (gives x) out = put out 0 (g (x .0))
 writtenBy g (refuses n) out = out
-
--- ---- Alike
-
--- ALIKE: two states, each sound with its rooms, that are read as the same. Where their records stand in the store, where the window begins, where a request's byte is and what unused bytes and slots hold may differ.
-pub record Alike (c : Connection) (r : Rooms) (d : Connection) (q : Rooms) : Type 0 where
-  pub sound : Sound c r
-  pub other-sound : Sound d q
-  pub same : reads c r ≡ reads d q
 
 -- SAME: two calls, of states c and d, tell the same and leave states that are alike with the rooms r and q that they leave.
 pub record Same {B : Type 0} (c : Connection) (a : Answer (B × Connection)) (r : Rooms) (d : Connection) (b : Answer (B × Connection)) (q : Rooms) : Type 0 where

@@ -10,6 +10,7 @@ use Rattle.requests.specs.Room.{capacity}
 use Rattle.descriptors.specs.Room.{mostDescriptors}
 use Rattle.model.specs.Client.{Client}
 use Rattle.model.specs.Model.{fresh, new, Filing, Taken, sendRequest, enqueueFds, takeClosed, enqueuePacket, discardReply, pollForReplyOrError, pollCheck, pollForReply, prepareCheck, pollForEvent}
+use Rattle.model.specs.Encoding.{Alike}
 use Rattle.model.specs.Promise.{Done, answerOf, roomsOf, outputOf, modelOf, guarded, guarded-on, Promise, same}
 use Rattle.model.specs.Reading.{Rooms, reads}
 use Rattle.model.specs.Says.{Shown, shownTaken, ShownEvent, shownEvent, ShownPoll, shownPoll, bytesOfTaken, descriptorsOfTaken, bytesOfPoll}
@@ -39,7 +40,7 @@ use Rattle.connection.specs.Calls.{openExact, opened, Opens, Hands, Sends, Enqu
 use Rattle.connection.specs.Opening.{opens-sound, opens-fresh}
 use Rattle.connection.specs.Theorems.{refusal-leaves, state-sound}
 use Rattle.honest.specs.Public.{stateOf}
-use Rattle.ledger.specs.State.{told, Seen, asRead, shownBy, writtenBy, Alike, Same, Ask, send-request, enqueue-fds, enqueue-packet, discard-reply, poll-for-reply-or-error, poll-check-for-reply-or-error, poll-for-reply, poll-for-event-with-sequence, take-closed-fds, prepare-check-for-reply-or-error, send-requests, enqueue-packets, poll-for-events, Value, Outputs, Answers, AllHeard, Row, none, call}
+use Rattle.ledger.specs.State.{told, Seen, asRead, shownBy, writtenBy, Same, Ask, send-request, enqueue-fds, enqueue-packet, discard-reply, poll-for-reply-or-error, poll-check-for-reply-or-error, poll-for-reply, poll-for-event-with-sequence, take-closed-fds, prepare-check-for-reply-or-error, send-requests, enqueue-packets, poll-for-events, Value, Outputs, Answers, AllHeard, Row, none, call}
 
 -- ---- the model's of the state as it is read
 

@@ -13,6 +13,8 @@ use Rattle.descriptors.specs.Room as Slots
 use Rattle.model.specs.Client.{Held, Client, used, costs}
 use Rattle.model.specs.Model.{fresh, hasReply, Filing, isError, at, find}
 use Rattle.model.specs.Calls.{Call, send, enqueue-fds, enqueue, discard, poll-reply, Said, number, done, absent, refused, step, run}
+use Rattle.model.specs.Encoding.{InRange, Encodes, Alike}
+use Rattle.model.specs.EncodingLaws as EncodingLaws
 use Rattle.model.specs.Promise.{Done, Promise, same}
 use Rattle.model.specs.Reading.{Rooms, slotsOf, reads}
 use Rattle.model.specs.ReadingLaws.{used-read}
@@ -49,9 +51,7 @@ use Rattle.session.specs.Theorems as Session
 use Rattle.ledger.specs.Descriptors.{within, accepted, handedOut, acceptedIn, handedIn, Neither, brought, foundWith, foundClosed, sessionAccepted, sessionHanded}
 use Rattle.ledger.specs.Room.{filled, kept, SendShort, PacketShort, NoRoom, added, givenBack, NoDiscard}
 use Rattle.ledger.specs.Sends.{mostSends, withoutReply, numbersFrom, sendsOf, allNoRoom, SendsRow}
-use Rattle.ledger.specs.Encoding.{InRange, Encodes}
-use Rattle.ledger.specs.State.{told, asRead, shownBy, writtenBy, Alike, Same, Ask, AllHeard, Row, Needed, withOrder, withK, withS, withWritten, withExpected, withRead, withOutstanding, withDescribed, withRequestMode, withDiscard, withReplies, withEvents, withNumber, withPacket, withHeld, withTurn, withWaiting, withClosing}
-use Rattle.ledger.specs.EncodingLaws as EncodingLaws
+use Rattle.ledger.specs.State.{told, asRead, shownBy, writtenBy, Same, Ask, AllHeard, Row, Needed, withOrder, withK, withS, withWritten, withExpected, withRead, withOutstanding, withDescribed, withRequestMode, withDiscard, withReplies, withEvents, withNumber, withPacket, withHeld, withTurn, withWaiting, withClosing}
 use Rattle.ledger.specs.Balance as Balance
 use Rattle.ledger.specs.Sessions as Sessions
 use Rattle.ledger.specs.RoomLaws as RoomLaws

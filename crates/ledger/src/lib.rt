@@ -3,7 +3,7 @@
 // where it is short, a promise allows one outcome, and what is read as state decides it.
 //
 // To believe: `specs/Descriptors.antt`, what is inside, what a call accepts and what it hands out;
-// `specs/Room.antt`, when a call lacks room; `specs/Encoding.antt`, when state and rooms encode a
-// model's state; `specs/Sends.antt`, rows of sends; `specs/State.antt`, outcomes as they are read,
-// states that are alike and rows of calls. `specs/Theorems.antt` says what is then certain,
+// `specs/Room.antt`, when a call lacks room; `specs/Sends.antt`, rows of sends; `specs/State.antt`,
+// outcomes as they are read and rows of calls; and of the model `specs/Encoding.antt`, when state
+// and rooms encode a state and when two are alike. `specs/Theorems.antt` says what is then certain,
 // statements alone.

@@ -14,3 +14,5 @@ pub mod SendRequests
 pub mod PollForEvents
 pub mod SaysBatch
 pub mod Feed
+pub mod Encoding
+pub mod EncodingLaws

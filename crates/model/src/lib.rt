@@ -2,7 +2,8 @@
 // as the model's state.
 //
 // The pages to believe are `specs/Client.antt`, the state as the rules speak of it, and
-// `specs/Model.antt`, one executable function for each call. Nothing there knows a room.
+// `specs/Model.antt`, one executable function for each call. Nothing there knows a room. Beside them,
+// `specs/Encoding.antt` says when state and rooms encode such a state, and when two are alike.
 
 mod soundness;
 
@@ -15,8 +16,6 @@ use sequence::SequenceNumber;
 pub use soundness::LEAST_STORE;
 pub use soundness::is_sound;
 
-// The first byte of an error.
-pub const ERROR_CODE: u8 = 0;
 
 // Whether a request has a reply, and whether the reply has descriptors.
 pub enum ReplyFdKind {

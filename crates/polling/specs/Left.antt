@@ -17,7 +17,8 @@ use Rattle.descriptors.specs.Room as Slots
 use Rattle.descriptors.specs.Theorems as Fds
 use Rattle.model.specs.Client.{setReplies, setEvents}
 use Rattle.model.specs.Model as Model
-use Rattle.model.specs.Model.{find, errorCode}
+use Rattle.packet.specs.Packet.{errorCode}
+use Rattle.model.specs.Model.{find}
 use Rattle.model.specs.Reading.{Rooms, rooms, slotsOf, heldWith, withDescriptors, eventOf, reads}
 use Rattle.model.specs.ReadingLaws.{with-without, events-append}
 use Rattle.model.specs.Sound.{Sound, Ready, ready}

@@ -7,7 +7,6 @@
 // order of refusals is 01's for taking: nothing found, then 8.)
 use held::Found;
 use model::Connection;
-use model::ERROR_CODE;
 use model::Event;
 use model::PollReply;
 use model::Polled;
@@ -125,7 +124,7 @@ pub fn poll_for_reply(
         Found::At(place) => {
             let len = place.len;
             let n = place.fds as usize;
-            if held::first_byte(store, place) == ERROR_CODE {
+            if held::first_byte(store, place) == packet::ERROR {
                 let rest = descriptors::close_held(slots, counts, place.before, n);
                 held::demote(store, window, place);
                 return PollReply::NoReply(moved(c, window, rest));

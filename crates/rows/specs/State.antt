@@ -1,8 +1,9 @@
 -- Rows of numbers read as states, and states put into rows. Assumes nothing.
-use mathlib.Core.Path.{_≡_, _∙_}
+use mathlib.Core.Path.{_≡_, refl, ap, _∙_}
 use mathlib.Core.Bool.{Bool, true, false}
-use mathlib.Core.List.{List}
-use Prim.Native.Nat.{ℕ, _+_, _<_}
+use mathlib.Core.List.{List, [], _∷_}
+use Prim.Native.Nat.{ℕ, zero, suc, _+_, _<_}
+use native.Mathlib.Omega.{arith}
 use lib.Dec.{eqb, ltb}
 use borrow.Author.Tests.{eqb-true, eq-eqb, ltb-true, lt-ltb}
 use lib.ListN.{length, getD, set}
@@ -64,16 +65,17 @@ connectionOf s = choose (fits s) (connectionAt s) unfit
 abbrev pub four : List ℕ → ℕ → ℕ → ℕ → ℕ → ℕ → List ℕ
 four s at a b c d = set (set (set (set s at a) (at + 1) b) (at + 2) c) (at + 3) d
 
+-- the numbers of a state, in their order
+abbrev pub connectionNumbers : Connection → List ℕ
+connectionNumbers c =
+    c .order ∷ c .capacity ∷ c .room ∷ c .written
+    ∷ c .expected ∷ c .read ∷ c .first ∷ c .window .start
+    ∷ c .window .end ∷ c .counts .closed ∷ c .counts .held ∷ c .counts .waiting
+    ∷ 0 ∷ 0 ∷ 0 ∷ 0 ∷ []
+
 -- a state put into a row of sixteen; any other row stays
 unfoldable pub connectionRow : List ℕ → Connection → List ℕ
-connectionRow s c =
-    choose (eqb (length s) connectionSlots)
-    (four (four (four (four s
-    0 (c .order) (c .capacity) (c .room) (c .written))
-    4 (c .expected) (c .read) (c .first) (c .window .start))
-    8 (c .window .end) (c .counts .closed) (c .counts .held) (c .counts .waiting))
-    12 0 0 0 0)
-    s
+connectionRow s c = choose (eqb (length s) connectionSlots) (connectionNumbers c) s
 
 -- the two numbers that a send changes
 unfoldable pub sentRow : List ℕ → Connection → List ℕ
@@ -113,6 +115,18 @@ abbrev pub idsRow : List ℕ → IdAllocator → List ℕ
 idsRow s a = row s (a .next) (a .last) (a .step)
 
 -- ---- laws
+
+-- A LIST OF n NUMBERS is its elements in a row: once they are written so, what is put into it and read from it computes.
+unfoldable pub elements : ℕ → (ℕ → ℕ) → List ℕ
+elements zero f = []
+elements (suc n) f = f 0 ∷ elements n (λ i. f (suc i))
+
+pub is-elements : (n : ℕ) (s : List ℕ) → length s ≡ n → s ≡ elements n (λ i. getD s i 0)
+unfolding elements
+is-elements zero [] l = refl
+is-elements zero (a ∷ s) l = absurd (omega (arith, l))
+is-elements (suc n) [] l = absurd (omega (arith, l))
+is-elements (suc n) (a ∷ s) l = ap (λ (t : List ℕ). a ∷ t) (is-elements n s (omega (arith, l)))
 
 -- what is known of rows that are states
 pub fits-long : (s : List ℕ) → fits s ≡ true → (length s ≡ connectionSlots) × (getD s 0 0 < 256)
@@ -158,8 +172,8 @@ handshake-off s h = simp h
 pub row-filled : (s s₁ s₂ s₃ s₄ : List ℕ) (c : Connection) → length s ≡ connectionSlots → s₁ ≡ four s 0 (c .order) (c .capacity) (c .room) (c .written)
     → s₂ ≡ four s₁ 4 (c .expected) (c .read) (c .first) (c .window .start) → s₃ ≡ four s₂ 8 (c .window .end) (c .counts .closed) (c .counts .held) (c .counts .waiting) → s₄ ≡ four s₃ 12 0 0 0 0
     → s₄ ≡ connectionRow s c
-unfolding connectionRow choose
-row-filled s s₁ s₂ s₃ s₄ c h e₁ e₂ e₃ e₄ = simp (eq-eqb _ _ h) (rw (e₄, e₃, e₂, e₁))
+unfolding connectionRow choose elements
+row-filled s s₁ s₂ s₃ s₄ c h e₁ e₂ e₃ e₄ = rw (e₄, e₃, e₂, e₁, is-elements connectionSlots s h)
 
 -- the test of a row, once its last part is left
 pub fits-last : (s : List ℕ) → length s ≡ connectionSlots → getD s 0 0 < 256 → getD s 12 0 ≡ 0 → getD s 13 0 ≡ 0 → getD s 14 0 ≡ 0 → eqb (getD s 15 0) 0 ≡ fits s

@@ -22,13 +22,13 @@ use Rattle.held.specs.Theorems as Stores
 use Rattle.descriptors.specs.Room as Slots
 use Rattle.descriptors.specs.Parts as Parts
 use Rattle.descriptors.specs.Theorems as Fds
 use Rattle.model.specs.Client.{Held, Client, first, descriptorsOf}
 use Rattle.model.specs.Reading.{Rooms, count, withDescriptors, eventOf, slotsOf, reads}
 use Rattle.model.specs.ReadingLaws.{length-out, first-read, used-read, descriptors-read, length-wait, length-close, inside-read}
 use Rattle.model.specs.Sound.{Sound, soundb, sound-is, is-sound, slots-there}
 use Rattle.model.specs.declared.Connection.{Connection}
 use Rattle.model.specs.Batch.{Each}
-use Rattle.ledger.specs.Encoding.{ReplyFits, EventFits, NeverFall, InRange, replyRow, eventRow, Mixed, none, a-reply, an-event, Encodes}
+use Rattle.model.specs.Encoding.{ReplyFits, EventFits, NeverFall, InRange, replyRow, eventRow, Mixed, none, a-reply, an-event, Encodes}
 
 -- ---- records of two lists
 
