@@ -28,9 +28,9 @@ use Rattle.octets.specs.Put.{put, put-more}
 use Rattle.octets.specs.Lent.{leaves}
 use Rattle.refusal.specs.Answer.{Answer, gives, refuses, refuse, gives-past, gives-rest, decides}
 use Rattle.refusal.specs.Numbers.{numberOf, refusalOf, listed}
-use Rattle.connect.specs.Pad.{pad, zeros, padded, length-zeros, length-padded}
-use Rattle.connect.specs.declared.request.Written.{Written}
-use Rattle.connect.specs.declared.request.Written.the-variants as Written
+use Rattle.setup_request.specs.Pad.{pad, zeros, padded, length-zeros, length-padded}
+use Rattle.setup_request.specs.declared.Written.{Written}
+use Rattle.setup_request.specs.declared.Written.the-variants as Written
 
 -- 01, Framing and handshake: the client speaks version 11, 0
 abbrev pub majorVersion : ℕ

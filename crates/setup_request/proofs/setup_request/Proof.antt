@@ -1,9 +1,9 @@
--- `connect::request::setup_request` meets its contract. Assumes nothing.
-use Rattle.connect.specs.Request.{saysWritten, room-there, writes-given, writes-refused}
+-- `setup_request::setup_request` meets its contract. Assumes nothing.
+use Rattle.setup_request.specs.Request.{saysWritten, room-there, writes-given, writes-refused}
 use mathlib.Core.Path.{sym, ap, _∙_}
 use borrow.Author.Needs.{needs}
-use Rattle.connect.proofs.request.setup_request.Statement.{statement}
-use Rattle.connect.proofs.request.setup_request.Tie as tie
+use Rattle.setup_request.proofs.setup_request.Statement.{statement}
+use Rattle.setup_request.proofs.setup_request.Tie as tie
 
 room-for-requires : tie.Need-room-for-requires
 room-for-requires c κs = search needs

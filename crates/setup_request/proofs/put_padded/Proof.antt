@@ -1,9 +1,9 @@
--- `connect::request::put_padded` meets its contract. Assumes nothing.
-use Rattle.connect.specs.Pad.{put-padded}
+-- `setup_request::put_padded` meets its contract. Assumes nothing.
+use Rattle.setup_request.specs.Pad.{put-padded}
 use native.Mathlib.Omega.{arith}
 use borrow.Author.Needs.{needs}
-use Rattle.connect.proofs.request.put_padded.Statement.{statement}
-use Rattle.connect.proofs.request.put_padded.Tie as tie
+use Rattle.setup_request.proofs.put_padded.Statement.{statement}
+use Rattle.setup_request.proofs.put_padded.Tie as tie
 
 copy-in-requires : tie.Need-copy-in-requires
 copy-in-requires c κs = search needs

@@ -1,11 +1,16 @@
-// The setup request.
+// The setup request: the bytes that open a connection (Core, Connection Setup).
+//
+// A client sends them before all else: its byte order, the version of the protocol that it speaks,
+// and the name and data of an authorization, each padded to a multiple of four bytes. They are
+// written to the start of an output that the caller lends; a refusal leaves it as it was. Nothing
+// is kept. The server's reply is the business of `connect`.
 ghost use mathlib.Core.Path.{_≡_};
 ghost use Prim.Native.Nat.{_+_, _≤_};
 ghost use mathlib.Core.List.{[], _∷_};
 ghost use lib.ListN.{length};
 ghost use Rattle.octets.specs.Put.{put};
-ghost use Rattle.connect.specs.Pad.{pad as Pad·pad, zeros, padded};
-ghost use Rattle.connect.specs.Request.{opening, setupRequest, size as Request·size, nameAt, mostText, roomFor, saysWritten, Writes, Ready};
+ghost use Rattle.setup_request.specs.Pad.{pad as Pad·pad, zeros, padded};
+ghost use Rattle.setup_request.specs.Request.{opening, setupRequest, size as Request·size, nameAt, mostText, roomFor, saysWritten, Writes, Ready};
 use refusal::Refusal;
 
 // The version of the protocol that the client speaks.

@@ -1,9 +1,9 @@
--- `connect::request::put_order` meets its contract. Assumes nothing.
+-- `setup_request::put_order` meets its contract. Assumes nothing.
 use Rattle.octets.specs.Put.{set-two}
 use native.Mathlib.Omega.{arith}
 use borrow.Author.Needs.{needs}
-use Rattle.connect.proofs.request.put_order.Statement.{statement}
-use Rattle.connect.proofs.request.put_order.Tie as tie
+use Rattle.setup_request.proofs.put_order.Statement.{statement}
+use Rattle.setup_request.proofs.put_order.Tie as tie
 
 slice-write-out : tie.Need-slice-write-out
 slice-write-out c = search needs

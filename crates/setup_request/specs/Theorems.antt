@@ -1,14 +1,18 @@
--- A server that reads the setup request by Core's layout finds what was handed in. Assumes nothing.
+-- What is certain of a setup request. Assumes nothing.
 use mathlib.Core.Path.{_≡_, refl, sym, ap, _∙_}
 use mathlib.Core.List.{List, [], _∷_, _++_, append-assoc}
 use Prim.Native.Nat.{ℕ, _+_, _%_, _≤_}
 use native.Mathlib.Omega.{arith}
 use lib.ListN.{length, getD, length-append}
-use Rattle.octets.specs.Bytes.{bytesOf, numberIn, length-bytesOf, number-bytes}
+use Rattle.octets.specs.Logic.{either}
+use Rattle.octets.specs.Bytes.{legal, bytesOf, numberIn, length-bytesOf, number-bytes}
 use Rattle.octets.specs.Put.{cut, cut-parts}
 use Rattle.octets.specs.Field.{field}
-use Rattle.connect.specs.Pad.{pad, zeros, padded, length-padded, pad-four}
-use Rattle.connect.specs.Request.{majorVersion, minorVersion, nameAt, mostText, opening, setupRequest, size, length-head, length-request}
+use Rattle.refusal.specs.Answer.{refuses, refuse}
+use Rattle.setup_request.specs.Pad.{pad, zeros, padded, length-padded, pad-four}
+use Rattle.setup_request.specs.Request.{majorVersion, minorVersion, nameAt, mostText, opening, setupRequest, roomFor, size, length-head, length-request}
+
+-- ---- a server that reads the request by Core's layout finds what was handed in
 
 -- what stands in the bytes r of a request
 pub record ReadsBack (o : ℕ) (name «data» r : List ℕ) : Type 0 where
@@ -80,3 +84,9 @@ module _ (o : ℕ) (m d : List ℕ) (h : length m ≤ mostText) (k : length d �
         data-is = read-text _ (H ++ padded m) d (zeros (pad (length d))) _ l₄ (sym (append-assoc H (padded m) (padded d)));
         in-fours = omega (arith, length-request o m d, pad-four (length m), pad-four (length d));
       }
+
+-- ---- 01, Refusal numbers, the order of refusals: "setup request 13, 16, 8"; where two apply, the first is given
+
+pub request-order : (roomFor 0 65536 0 0 12 ≡ refuses 13) × (roomFor 108 65536 0 0 12 ≡ refuses 16) × (roomFor 108 0 65536 0 12 ≡ refuses 16) × (roomFor 108 65535 65535 0 12 ≡ refuses 8)
+unfolding roomFor legal refuse either
+request-order = (refl, refl, refl, refl)

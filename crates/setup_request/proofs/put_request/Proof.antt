@@ -1,12 +1,12 @@
--- `connect::request::put_request` meets its contract. Assumes nothing.
+-- `setup_request::put_request` meets its contract. Assumes nothing.
 use lib.ListN.{length}
 use Prim.Native.Nat.{_+_}
 use mathlib.Core.Path.{ap}
-use Rattle.connect.specs.Request.{nameAt, put-request, size}
+use Rattle.setup_request.specs.Request.{nameAt, put-request, size}
 use native.Mathlib.Omega.{arith}
 use borrow.Author.Needs.{needs}
-use Rattle.connect.proofs.request.put_request.Statement.{statement}
-use Rattle.connect.proofs.request.put_request.Tie as tie
+use Rattle.setup_request.proofs.put_request.Statement.{statement}
+use Rattle.setup_request.proofs.put_request.Tie as tie
 
 cast-put-head : tie.Need-cast-put-head
 cast-put-head c = search needs

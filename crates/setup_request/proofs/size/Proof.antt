@@ -1,10 +1,10 @@
--- `connect::request::size` meets its contract. Assumes nothing.
-use Rattle.connect.specs.Request.{size}
-use Rattle.connect.specs.Pad.{pad-least}
+-- `setup_request::size` meets its contract. Assumes nothing.
+use Rattle.setup_request.specs.Request.{size}
+use Rattle.setup_request.specs.Pad.{pad-least}
 use native.Mathlib.Omega.{arith}
 use borrow.Author.Needs.{needs}
-use Rattle.connect.proofs.request.size.Statement.{statement}
-use Rattle.connect.proofs.request.size.Tie as tie
+use Rattle.setup_request.proofs.size.Statement.{statement}
+use Rattle.setup_request.proofs.size.Tie as tie
 
 pad-requires : tie.Need-pad-requires
 pad-requires c κs = search needs

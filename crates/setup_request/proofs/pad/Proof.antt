@@ -1,9 +1,9 @@
--- `connect::request::pad` meets its contract. Assumes nothing.
-use Rattle.connect.specs.Pad.{pad}
+-- `setup_request::pad` meets its contract. Assumes nothing.
+use Rattle.setup_request.specs.Pad.{pad}
 use mathlib.Core.Path.{refl}
 use borrow.Author.Needs.{needs}
-use Rattle.connect.proofs.request.pad.Statement.{statement}
-use Rattle.connect.proofs.request.pad.Tie as tie
+use Rattle.setup_request.proofs.pad.Statement.{statement}
+use Rattle.setup_request.proofs.pad.Tie as tie
 
 sub-result : tie.Need-sub-result
 sub-result c = search needs

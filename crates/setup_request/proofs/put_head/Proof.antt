@@ -1,9 +1,9 @@
--- `connect::request::put_head` meets its contract. Assumes nothing.
-use Rattle.connect.specs.Request.{put-head}
+-- `setup_request::put_head` meets its contract. Assumes nothing.
+use Rattle.setup_request.specs.Request.{put-head}
 use native.Mathlib.Omega.{arith}
 use borrow.Author.Needs.{needs}
-use Rattle.connect.proofs.request.put_head.Statement.{statement}
-use Rattle.connect.proofs.request.put_head.Tie as tie
+use Rattle.setup_request.proofs.put_head.Statement.{statement}
+use Rattle.setup_request.proofs.put_head.Tie as tie
 
 put-order-requires : tie.Need-put-order-requires
 put-order-requires c κs = search needs

@@ -1,13 +1,13 @@
--- `connect::request::put_zeros` meets its contract: after i turns the first i zeros are in place. Assumes nothing.
+-- `setup_request::put_zeros` meets its contract: after i turns the first i zeros are in place. Assumes nothing.
 use mathlib.Core.Path.{_≡_, refl, sym, ap, _∙_}
 use Prim.Native.Nat.{ℕ, _+_, _-_, _≤_, _<_}
 use mathlib.Core.List.{List}
 use native.Mathlib.Omega.{arith}
 use lib.ListN.{length, set, length-set}
 use Rattle.octets.specs.Put.{put, put-none, set-behind}
-use Rattle.connect.specs.Pad.{zeros, length-zeros, zeros-behind}
-use Rattle.connect.proofs.request.put_zeros.Statement.{statement}
-use Rattle.connect.proofs.request.put_zeros.Tie as tie
+use Rattle.setup_request.specs.Pad.{zeros, length-zeros, zeros-behind}
+use Rattle.setup_request.proofs.put_zeros.Statement.{statement}
+use Rattle.setup_request.proofs.put_zeros.Tie as tie
 
 record Inv (out₀ : List ℕ) (at n : ℕ) (out : List ℕ) (i : ℕ) : Type 0 where
   most : i ≤ n

@@ -1,12 +1,12 @@
--- `connect::request::room_for` meets its contract. Assumes nothing.
-use Rattle.connect.specs.Request.{roomFor}
+-- `setup_request::room_for` meets its contract. Assumes nothing.
+use Rattle.setup_request.specs.Request.{roomFor}
 use borrow.Author.Tests.{lt-ltb, le-ltb, not-true, not-false}
 use mathlib.Core.Path.{sym, _∙_}
 use Rattle.octets.specs.Logic.{either}
 use Rattle.refusal.specs.Answer.{refuse}
 use borrow.Author.Needs.{needs}
-use Rattle.connect.proofs.request.room_for.Statement.{statement}
-use Rattle.connect.proofs.request.room_for.Tie as tie
+use Rattle.setup_request.proofs.room_for.Statement.{statement}
+use Rattle.setup_request.proofs.room_for.Tie as tie
 
 is-legal-requires : tie.Need-is-legal-requires
 is-legal-requires c κs = search needs
