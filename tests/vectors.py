@@ -1,10 +1,10 @@
 #!/usr/bin/env python3
-"""Vectors for the program `drip`: cases of handshakes and readers, and the answers to them.
+"""Vectors for `drip.c`: cases of handshakes and readers, and the answers to them.
 
-  vectors.py CRATE      writes CRATE/stdin and CRATE/stdout
+  vectors.py FOLDER      writes FOLDER/drip.bin and FOLDER/drip.out
 
 The answers are this file's own reading of Core (Connection Setup, and the lengths of replies,
-events and errors), written without the engine; the gate holds the program to them.
+events and errors), written without the engine; the tests hold the program to them.
 """
 import struct
 import sys
@@ -221,8 +221,8 @@ def readers():
     yield b"l", 65536, open("tests/streams/xeyes.bin", "rb").read()
 
 
-def main(crate):
-    with open(crate + "/stdin", "wb") as cases, open(crate + "/stdout", "w") as answers:
+def main(folder):
+    with open(folder + "/drip.bin", "wb") as cases, open(folder + "/drip.out", "w") as answers:
         for kind, answer, listed in ((b"h", handshake, handshakes), (b"r", reader, readers)):
             for order, room, data in listed():
                 cases.write(kind + order + struct.pack("<II", room, len(data)) + data)

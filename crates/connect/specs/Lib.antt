@@ -1,5 +1,3 @@
-pub mod Pad
-pub mod Request
 pub mod Handshake
 pub mod Sound
 pub mod AimLaws
@@ -7,5 +5,4 @@ pub mod Setup
 pub mod SetupLaws
 pub mod Feeding
 pub mod FedLaws
-pub mod ReadBack
 pub mod Theorems

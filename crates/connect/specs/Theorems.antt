@@ -14,7 +14,6 @@ use Rattle.octets.specs.Bytes.{legal, numberIn, lowNumber, turned}
 use Rattle.octets.specs.Field.{field}
 use Rattle.octets.specs.Put.{put, cut, length-put, take-put, take-put-before}
 use Rattle.refusal.specs.Answer.{Answer, gives, refuses, refuse, gives-past, gives-rest}
-use Rattle.connect.specs.Request as Request
 use Rattle.connect.specs.Handshake.{head, replyLength, aim, room, soundb, fresh, made, Progress, waits, complete, filledTo, reached, advanced}
 use Rattle.connect.specs.Sound.{Sound, is-sound}
 use Rattle.connect.specs.AimLaws.{aim-head, aim-held}
@@ -156,11 +155,6 @@ reason-all o b h =
 -- eight bytes of a reply that begin with a status and end in a length, least significant byte first
 abbrev reply : ℕ → ℕ → List ℕ
 reply status units = status ∷ 0 ∷ 0 ∷ 0 ∷ 0 ∷ 0 ∷ units ∷ 0 ∷ []
-
--- "setup request 13, 16, 8"
-pub request-order : (Request.roomFor 0 65536 0 0 12 ≡ refuses 13) × (Request.roomFor 108 65536 0 0 12 ≡ refuses 16) × (Request.roomFor 108 0 65536 0 12 ≡ refuses 16) × (Request.roomFor 108 65535 65535 0 12 ≡ refuses 8)
-unfolding Request.roomFor legal refuse either
-request-order = (refl, refl, refl, refl)
 
 -- "advance 9, 7, 2"; "setup reading 9, 15, 14"; "elsewhere 9, then by number"
 pub handshake-order : (made 0 7 ≡ refuses 9) × (made 0 8 ≡ refuses 13) × (advanced (fresh 0) (reply 7 1) 9 ≡ refuses 9) × (advanced (fresh 108) (reply 7 1) 9 ≡ refuses 7)

@@ -1,15 +1,14 @@
-// The handshake: the request that opens a connection, the server's reply in a buffer that the
-// caller lends, and what the reply says (Core, Connection Setup).
+// The handshake: the server's reply in a buffer that the caller lends, and what the reply says
+// (Core, Connection Setup).
 //
-// A client sends the bytes that `setup_request` writes and feeds the server's reply to a `Connect`,
-// which keeps how many bytes of the buffer are filled and how many the reply will have, as far as
-// the bytes so far tell: 8 at first, and once 8 are there the whole length. The caller puts bytes
-// into the part that `buffer` lends and counts them by `advance`, which says when the reply is
-// complete. Then `setup` reads it; `vendor` and `reason` show its texts where they stand in the
-// buffer. Bytes past the filled ones mean nothing, and the buffer is never written here.
+// A client that has sent its setup request feeds the server's reply to a `Connect`, which keeps how
+// many bytes of the buffer are filled and how many the reply will have, as far as the bytes so far
+// tell: 8 at first, and once 8 are there the whole length. The caller puts bytes into the part that
+// `buffer` lends and counts them by `advance`, which says when the reply is complete. Then `setup`
+// reads it; `vendor` and `reason` show its texts where they stand in the buffer. Bytes past the
+// filled ones mean nothing, and the buffer is never written here.
 mod handshake;
 mod reply;
-mod request;
 
 pub use handshake::Advanced;
 pub use handshake::Capacity;
@@ -22,6 +21,3 @@ pub use reply::Setup;
 pub use reply::SetupAnswer;
 pub use reply::SetupAuthenticate;
 pub use reply::SetupFailed;
-pub use request::MOST_TEXT;
-pub use request::Written;
-pub use request::setup_request;

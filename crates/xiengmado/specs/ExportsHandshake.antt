@@ -6,7 +6,7 @@ use lib.ListN.{length}
 use Rattle.octets.specs.Lent.{leaves}
 use Rattle.refusal.specs.Answer.{Answer}
 use Rattle.connect.specs.Handshake.{made, capacity, advanced}
-use Rattle.connect.specs.Request.{Writes, setupRequest}
+use Rattle.setup_request.specs.Request.{Writes, setupRequest}
 use Rattle.connect.specs.Setup.{setup as Setup·setup}
 use Rattle.rows.specs.State.{threeSlots, handshakeOf, handshakeRow}
 use Rattle.answers.specs.Exported.{Exported, Kept, shown-at, exported-one, exported-left, kept-one}

@@ -1,4 +1,4 @@
-// `connect`: the setup request, and a handshake in three lent numbers beside its buffer.
+// `setup_request`, and `connect`: a handshake in three lent numbers beside its buffer.
 ghost use Rattle.xiengmado.specs.ExportsHandshake.{XmSetupRequest, XmConnectNew, XmConnectRemainingCapacity, XmConnectBuffer, XmConnectAdvance, XmConnectSetup, XmConnectVendor, XmConnectReason};
 use answers::BAD;
 use answers::DONE;
@@ -9,7 +9,7 @@ use connect::Capacity;
 use connect::Connect;
 use connect::Made;
 use connect::SetupAnswer;
-use connect::Written;
+use setup_request::Written;
 
 #[no_mangle]
 pub extern "C" fn xm_setup_request(
@@ -21,7 +21,7 @@ pub extern "C" fn xm_setup_request(
 ) -> u32
     ensures { λ r. ⌜ XmSetupRequest order (now (name .entry)) (now (auth .entry)) (now (out .entry)) (now (size .entry)) (now (out .exit)) (now (size .exit)) r ⌝ }
 {
-    let answer = connect::setup_request(order, name, auth, out);
+    let answer = setup_request::setup_request(order, name, auth, out);
     match answer {
         Written::Bytes(n) => {
             *size = n;

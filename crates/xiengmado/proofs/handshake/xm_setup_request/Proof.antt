@@ -1,6 +1,6 @@
 -- `xiengmado::handshake::xm_setup_request` meets its contract. Assumes nothing.
 use mathlib.Core.Path.{refl}
-use Rattle.connect.specs.Request.{saysWritten}
+use Rattle.setup_request.specs.Request.{saysWritten}
 use Rattle.answers.specs.Exported.{exported-at}
 use borrow.Author.Needs.{needs}
 use Rattle.xiengmado.proofs.handshake.xm_setup_request.Statement.{statement}
