@@ -35,6 +35,7 @@ use Rattle.model.specs.declared.Event.the-variants as Event
 use Rattle.model.specs.Moved.{movedState}
 use Rattle.polling.specs.Exact.{eventAt, without, stays, moved, eventFrom, eventExact, EventStep}
 use Rattle.polling.specs.Left.{event-is}
+use Rattle.packet.specs.Packet.{leastPacket}
 use Rattle.model.specs.Sound.{ready}
 use Rattle.batch.specs.Events.{placed, marked, Markable, roomLeft, TurnStep, Stored}
 
