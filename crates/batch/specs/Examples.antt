@@ -38,5 +38,5 @@ longer = 1 ∷ 0 ∷ 2 ∷ 0 ∷ 1 ∷ replicate 31 0
 
 -- two packets and part of a third; the fourth of four finds no room; of part of a packet nothing is taken; no bytes are the end
 pub feeds : (fed (event ++ longer ++ 2 ∷ 0 ∷ []) ≡ took 68 2 partial) × (fed (event ++ event ++ event ++ event) ≡ took 96 3 (refused 5)) × (fed (2 ∷ 0 ∷ []) ≡ took 0 0 partial) × (fed [] ≡ took 0 0 ended)
-unfolding enqueuePackets cutPackets cuts aim totalOf total hasLength stopAt many onTurn modelTook bytesTaken Model.enqueuePacket numberAfter unnumbered Model.numbered Model.askedOf Model.headOf Model.placeOf Model.claimed Model.takeIn pass refuse inRange full field numberIn cut turned bytesOf lowBytes lowNumber costs descriptorsOf choose both either
+unfolding enqueuePackets cutPackets cuts aim totalOf total hasLength stopAt many onTurn modelTook bytesTaken Model.enqueuePacket numberAfter unnumbered Model.numbered Model.askedOf Model.headOf Model.placeOf Model.claimed Model.takeIn Model.decide Model.decideBy pass refuse inRange full field numberIn cut turned bytesOf lowBytes lowNumber costs descriptorsOf choose both either
 feeds = (refl, refl, refl, refl)

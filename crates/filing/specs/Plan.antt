@@ -11,7 +11,7 @@ use Rattle.requests.specs.Room.{requestAt}
 use Rattle.packet.specs.Packet.{leastPacket, mostPacket, codeOf, unnumbered, numberAfter}
 use Rattle.held.specs.Head.{mostStore, headerSize}
 use Rattle.held.specs.Reading.{used}
-use Rattle.model.specs.Model.{nobody, somebody, placeOf, claimed, isHeld}
+use Rattle.model.specs.Model.{nobody, somebody, placeOf, claimed, isHeld, Task, taskBy}
 use Rattle.model.specs.Model as Model
 use Rattle.model.specs.declared.Connection.{Connection}
 use Rattle.model.specs.declared.Place.{Place}
@@ -25,12 +25,6 @@ use Rattle.filing.specs.declared.Plan.the-variants as Plan
 abbrev pub saysAsked : Asked → Model.Asked
 saysAsked Asked.Nobody = nobody
 saysAsked (Asked.Somebody r) = somebody r
-
--- how a packet is to be filed: where, under which number, and with how many descriptors
-pub record Task : Type 0 where
-  pub place : Place
-  pub number : ℕ
-  pub claimed : ℕ
 
 abbrev pub task : Place → ℕ → ℕ → Task
 task place n k = record { place = place; number = n; claimed = k }
@@ -88,7 +82,7 @@ unfoldable pub planBy : Connection → List ℕ → ℕ → Model.Asked → Answ
 planBy c p n a =
     refuse (ltb (c .counts .waiting) (claimed p a)) 4
     (refuse (overRoom c (placeOf (codeOf p) a) (length p)) 5
-    (gives (task (placeOf (codeOf p) a) n (claimed p a))))
+    (gives (taskBy p n a)))
 
 -- 1, 2, 3, 4, 5; otherwise where the packet goes, under which number, and with how many descriptors
 unfoldable pub planOf : Connection → List ℕ → List ℕ → Answer Task

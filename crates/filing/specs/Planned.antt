@@ -19,13 +19,13 @@ use Rattle.requests.specs.declared.Request.{Request}
 use Rattle.packet.specs.Packet.{leastPacket, mostPacket, codeOf, replyCode}
 use Rattle.held.specs.Head.{headerSize}
 use Rattle.held.specs.Reading.{used}
-use Rattle.model.specs.Model.{placeOf, claimed, isHeld}
+use Rattle.model.specs.Model.{placeOf, claimed, isHeld, Task}
 use Rattle.model.specs.Model as Model
 use Rattle.model.specs.declared.Connection.{Connection}
 use Rattle.model.specs.declared.Place.{Place}
 use Rattle.filing.specs.declared.Asked.{Asked}
 use Rattle.filing.specs.declared.Asked.the-variants as Asked
-use Rattle.filing.specs.Plan.{saysAsked, Task, task, packetNumberIn, askedIn, overRoom, planBy, planOf}
+use Rattle.filing.specs.Plan.{saysAsked, task, packetNumberIn, askedIn, overRoom, planBy, planOf}
 
 -- ---- what a packet claims
 

@@ -1,23 +1,27 @@
--- What the floors above may count on: how a plan comes out, refusal by refusal, and that the number is the model's. Assumes nothing.
-use mathlib.Core.Path.{_≡_, refl, ap, _∙_}
+-- What the floors above may count on: what a packet claims, and that what is decided about it is the model's. Assumes nothing.
+use mathlib.Core.Path.{_≡_, refl, sym, ap, _∙_}
 use mathlib.Core.Bool.{Bool, true, false}
 use mathlib.Core.List.{List}
-use Prim.Native.Nat.{ℕ, _≤_}
+use Prim.Native.Nat.{ℕ, _+_, _≤_}
 use native.Mathlib.Omega.{arith}
 use lib.Dec.{ltb, eqb}
 use lib.ListN.{length, getD}
 use borrow.Author.Tests.{eqb-true}
 use Rattle.octets.specs.Logic.{choose, both}
-use Rattle.refusal.specs.Answer.{Answer, refuse, pass, pass-agree, pass-refuse, pass-pass}
+use Rattle.refusal.specs.Answer.{gives, refuse, pass-agree}
+use Rattle.held.specs.Head.{headerSize}
 use Rattle.packet.specs.Packet.{leastPacket, mostPacket, codeOf, errorCode, replyCode}
-use Rattle.model.specs.Model.{nobody, somebody, errorPlace, replyUnder, replyPlace, placeOf, wantsDescriptors, claimed, packetNumber}
+use Rattle.model.specs.Model.{nobody, somebody, errorPlace, replyUnder, replyPlace, placeOf, wantsDescriptors, claimed, isHeld, taskBy, decideBy, decide}
 use Rattle.model.specs.Model as Model
 use Rattle.model.specs.Reading.{Rooms, reads}
+use Rattle.model.specs.ReadingLaws.{used-read, length-wait}
+use Rattle.model.specs.Sound.{Sound}
 use Rattle.model.specs.declared.Connection.{Connection}
 use Rattle.model.specs.declared.Place.the-variants as Place
 use Rattle.requests.specs.declared.Mode.{Mode}
 use Rattle.requests.specs.declared.Mode.the-variants as Mode
-use Rattle.filing.specs.Plan.{Task, task, packetNumberIn, askedIn, overRoom, planBy, planOf}
+use Rattle.filing.specs.Plan.{packetNumberIn, askedIn, overRoom, planBy, planOf}
+use Rattle.filing.specs.Numbered.{asked-read}
 
 -- ---- what a packet claims
 
@@ -54,31 +58,18 @@ event-claims p a = go (eqb (codeOf p) errorCode) refl (eqb (codeOf p) replyCode)
         absurd z
     go false e true f h = absurd (reply-never a h)
 
--- ---- the chain of refusals
+-- ---- the plan
 
-by-pass : {B : Type 0} (c : Connection) (p : List ℕ) (n : ℕ) (a : Model.Asked) (f : Task → Answer B) → pass (planBy c p n a) f
-    ≡ refuse (ltb (c .counts .waiting) (claimed p a)) 4 (refuse (overRoom c (placeOf (codeOf p) a) (length p)) 5 (f (task (placeOf (codeOf p) a) n (claimed p a))))
-unfolding planBy pass
-by-pass c p n a f =
-    pass-refuse (ltb (c .counts .waiting) (claimed p a)) 4 _ f
-    ∙ ap (refuse (ltb (c .counts .waiting) (claimed p a)) 4) (pass-refuse (overRoom c (placeOf (codeOf p) a) (length p)) 5 _ f)
+module _ (c : Connection) (r : Rooms) (S : Sound c r) (p : List ℕ) where
+  by-read : (n : ℕ) (a : Model.Asked) → planBy c p n a ≡ decideBy (reads c r) p n a
+  unfolding planBy decideBy overRoom reads
+  by-read n a = λ i.
+      refuse (ltb (sym (length-wait c r S) i) (claimed p a)) 4
+      (refuse (both (isHeld (placeOf (codeOf p) a)) (ltb (c .room) (sym (used-read c r S) i + (headerSize + length p)))) 5 (gives (taskBy p n a)))
 
--- what comes of a plan, refusal by refusal
-pub plan-pass : {B : Type 0} (c : Connection) (q p : List ℕ) (f : Task → Answer B) → pass (planOf c q p) f
-    ≡ refuse (ltb (length p) leastPacket) 1
-    (refuse (ltb mostPacket (length p)) 2
-    (pass (packetNumberIn c p)
-    (λ n.
-    refuse (ltb (c .counts .waiting) (claimed p (askedIn c q n))) 4
-    (refuse (overRoom c (placeOf (codeOf p) (askedIn c q n)) (length p)) 5 (f (task (placeOf (codeOf p) (askedIn c q n)) n (claimed p (askedIn c q n))))))))
-unfolding planOf
-plan-pass c q p f =
-    pass-refuse (ltb (length p) leastPacket) 1 _ f
-    ∙ ap (refuse (ltb (length p) leastPacket) 1)
-    (pass-refuse (ltb mostPacket (length p)) 2 _ f
-    ∙ ap (refuse (ltb mostPacket (length p)) 2) (pass-pass (packetNumberIn c p) _ f ∙ pass-agree (packetNumberIn c p) _ _ (λ n e. by-pass c p n (askedIn c q n) f)))
-
--- The number is the model's.
-pub number-read : (c : Connection) (r : Rooms) (p : List ℕ) → packetNumberIn c p ≡ packetNumber (reads c r) p
-unfolding reads
-number-read c r p = refl
+  -- WHAT IS DECIDED is what the model decides, of the state as it is read.
+  pub plan-read : planOf c (r .requests) p ≡ decide (reads c r) p
+  unfolding planOf decide reads
+  plan-read =
+      ap (λ x. refuse (ltb (length p) leastPacket) 1 (refuse (ltb mostPacket (length p)) 2 x))
+      (pass-agree (packetNumberIn c p) _ _ (λ n e. by-read n (askedIn c (r .requests) n) ∙ ap (decideBy (reads c r) p n) (asked-read c r S n)))

@@ -12,6 +12,7 @@ use Rattle.sequence.specs.Numbering.{full, inRange}
 use Rattle.model.specs.Client.{Held, Client, setWaiting}
 use Rattle.packet.specs.Packet.{codeOf, unnumbered, wireOf}
 use Rattle.packet.specs.Laws.{number-last, number-full}
+use Rattle.model.specs.Deciding.{enqueue-chain}
 use Rattle.model.specs.Model.{hasReply, sendRequest, enqueueFds, takeClosed, packetNumber, numbered, askedOf, placeOf, claimed, filed, Filing, takeIn, enqueuePacket, withMode, discarding, discardReply, Found, nothing, at, find, takenBy, pollForReplyOrError, checkedBy, pollCheck, repliedBy, pollForReply, eventBy, pollForEvent}
 use Rattle.model.specs.Calls.{send, enqueue-fds, enqueue, discard, poll, check, poll-reply, prepare, poll-event, take-closed, Said, step, outcome}
 use Rattle.model.specs.declared.ReplyFdKind.{ReplyFdKind}
@@ -134,9 +135,9 @@ pub record Taking (c : Client) (p : List ℕ) (x : Filing × Client) : Type 0 wh
   pub next-is : x .1 ≡ filed (placeOf (codeOf p) (askedOf c n)) (heldAs c p n) (countedAs c p n)
 
 pub taking : (c : Client) (p : List ℕ) (x : Filing × Client) → gives x ≡ enqueuePacket c p → Taking c p x
-unfolding enqueuePacket takeIn
+unfolding takeIn
 taking c p x e =
-    let g = pass-given _ _ (gives-rest _ 2 _ (gives-rest _ 1 _ e)) in
+    let g = pass-given _ _ (gives-rest _ 2 _ (gives-rest _ 1 _ (e ∙ enqueue-chain c p))) in
     let h = gives-same (gives-rest _ 5 _ (gives-rest _ 4 _ (g .2))) in
     record { n = g .0; number-is = g .1; filing-is = ap (λ k. k .0) h; next-is = ap (λ k. k .1) h }
 

@@ -10,7 +10,8 @@ use Rattle.refusal.specs.Answer.{Answer, gives, refuses, refuse, pass, gives-sa
 use Rattle.packet.specs.Packet.{leastPacket, mostPacket, codeOf, unnumbered}
 use Rattle.model.specs.Client.{Client}
 use Rattle.packet.specs.Laws.{number-full}
-use Rattle.model.specs.Model.{packetNumber, askedOf, Filing, takeIn, enqueuePacket}
+use Rattle.model.specs.Model.{packetNumber, askedOf, Filing, enqueuePacket}
+use Rattle.model.specs.Deciding.{filedBy, enqueue-chain}
 use Rattle.model.specs.Calls.{Call, step}
 use Rattle.model.specs.Promise.{Done, Promise}
 use Rattle.model.specs.Reading.{Rooms, reads}
@@ -36,13 +37,12 @@ module _ {c : Client} {log : List Entry} (r : Runs c log) (h : Honest (c .order)
   next-number = number-full (c .order) (c .numbers .read) p carries ∙ true-range (c .order) (c .numbers) log (ruled-inv (runs-ruled r) h) t p fair
 
   -- So 1 and 2 apart, intake is the taking in under the true number,
-  pub next-packet : enqueuePacket c p ≡ refuse (ltb (length p) leastPacket) 1 (refuse (ltb mostPacket (length p)) 2 (takeIn c p t (askedOf c t)))
-  unfolding enqueuePacket pass
-  next-packet = rw next-number
+  pub next-packet : enqueuePacket c p ≡ refuse (ltb (length p) leastPacket) 1 (refuse (ltb mostPacket (length p)) 2 (filedBy c p t (askedOf c t)))
+  unfolding pass
+  next-packet = enqueue-chain c p ∙ rw next-number
 
   -- NEVER ENDED: it is refused by 1, 2, 4 and 5 alone, and never by 3.
   pub never-ended : (n : ℕ) → enqueuePacket c p ≡ refuses n → n ≡ 1 ⊎ n ≡ 2 ⊎ n ≡ 4 ⊎ n ≡ 5
-  unfolding takeIn
   never-ended n e = one-of _ _ _ _ _ n (sym next-packet ∙ e)
 
   -- FILED: where it is taken in, it is filed under its true number, or if dropped was reckoned by it.

@@ -10,7 +10,7 @@ use Rattle.held.specs.Head.{held, reply, event}
 use Rattle.held.specs.Moves.{Left, left, Room, appended}
 use Rattle.descriptors.specs.Room as Slots
 use Rattle.packet.specs.Packet.{codeOf}
-use Rattle.model.specs.Model.{isHeld, Filing}
+use Rattle.model.specs.Model.{isHeld, Filing, Task}
 use Rattle.model.specs.Reading.{Rooms, rooms, slotsOf}
 use Rattle.model.specs.Moved.{movedState}
 use Rattle.model.specs.Sound.{Ranges}
@@ -20,7 +20,7 @@ use Rattle.model.specs.declared.Connection.{Connection}
 use Rattle.model.specs.declared.Enqueued.{Enqueued}
 use Rattle.model.specs.declared.Place.{Place}
 use Rattle.model.specs.declared.Place.the-variants as Place
-use Rattle.filing.specs.Plan.{Task, planOf, numberedState}
+use Rattle.filing.specs.Plan.{planOf, numberedState}
 
 -- ---- the state
 

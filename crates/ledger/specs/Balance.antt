@@ -1,7 +1,7 @@
 -- Each call of the model balances: descriptors move between the three lists, come in by `enqueue_fds` and leave by two calls. Assumes nothing.
 use mathlib.Core.Bool.{Bool, true, false}
 use mathlib.Core.List.{List, [], _∷_, _++_}
-use mathlib.Core.Path.{_≡_, refl, ap, _∙_}
+use mathlib.Core.Path.{_≡_, refl, sym, ap, _∙_, subst}
 use Prim.Native.Nat.{ℕ, _+_, _%_}
 use native.Mathlib.Omega.{arith}
 use lib.Dec.{ltb, eqb}
@@ -11,6 +11,7 @@ use Rattle.refusal.specs.Answer.{Answer, refuse, pass}
 use Rattle.descriptors.specs.Room.{count}
 use Rattle.descriptors.specs.Counting.{count-append, count-split}
 use Rattle.model.specs.Client.{Held, Client, setReplies, setEvents, setWaiting, setClosing, descriptorsOf}
+use Rattle.model.specs.Deciding.{enqueue-chain}
 use Rattle.model.specs.Model as Model
 use Rattle.packet.specs.Packet.{codeOf}
 use Rattle.model.specs.Model.{fresh, sendRequest, enqueueFds, takeClosed, close, asEvent, numbered, askedOf, placeOf, claimed, Filing, takeIn, enqueuePacket, withMode, ofNumber, notOf, above, closingOrder, discarding, discardReply, Found, at, behind, find, Taken, takenBy, pollForReplyOrError, checkedBy, pollCheck, repliedBy, pollForReply, eventBy, pollForEvent}
@@ -212,15 +213,16 @@ module _ (c : Client) (p : List ℕ) (n k : ℕ) where
       omega (arith, count-within d c, count-within d (Model.filed Place.Dropped record-of waited), count-split d k (c .waiting), count-append d (c .closing) (take k (c .waiting)))
 
 balances-packet : (f : Filing → Said) (c : Client) (p : List ℕ) → Balances c (enqueue p) (outcome f c (enqueuePacket c p))
-unfolding enqueuePacket takeIn accepted handedOut
+unfolding takeIn accepted handedOut
 balances-packet f c p =
-    balances-refuse f c (enqueue p) _ 1 _
+    subst (λ (x : Answer (Filing × Client)). Balances c (enqueue p) (outcome f c x)) (sym (enqueue-chain c p))
+    (balances-refuse f c (enqueue p) _ 1 _
     (balances-refuse f c (enqueue p) _ 2 _
     (balances-pass f c (enqueue p) _ _
     (λ n.
     balances-refuse f c (enqueue p) _ 4 _
     (balances-refuse f c (enqueue p) _ 5 _
-    (λ d. ap (λ (k : ℕ). k + count d []) (within-filed c p n (claimed p (askedOf c n)) (placeOf (codeOf p) (askedOf c n)) d (event-claims p (askedOf c n))))))))
+    (λ d. ap (λ (k : ℕ). k + count d []) (within-filed c p n (claimed p (askedOf c n)) (placeOf (codeOf p) (askedOf c n)) d (event-claims p (askedOf c n)))))))))
 
 -- ---- every call, and a row of them
 

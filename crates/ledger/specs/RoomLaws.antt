@@ -18,7 +18,8 @@ use Rattle.held.specs.Head.{headerSize}
 use Rattle.descriptors.specs.Room.{mostDescriptors}
 use Rattle.model.specs.Client.{Held, Client, setNumbers, setOutstanding, used, inside}
 use Rattle.model.specs.Model as Model
-use Rattle.model.specs.Model.{hasReply, joining, sendRequest, enqueueFds, takeClosed, packetNumber, askedOf, claimed, takeIn, enqueuePacket, discardReply, Found, at, find, PollReply, takenBy, pollForReplyOrError, checkedBy, pollCheck, repliedBy, pollForReply, eventBy, pollForEvent}
+use Rattle.model.specs.Deciding.{filedBy, enqueue-chain}
+use Rattle.model.specs.Model.{hasReply, joining, sendRequest, enqueueFds, takeClosed, packetNumber, askedOf, claimed, enqueuePacket, discardReply, Found, at, find, PollReply, takenBy, pollForReplyOrError, checkedBy, pollCheck, repliedBy, pollForReply, eventBy, pollForEvent}
 use Rattle.model.specs.Calls.{Call, send, enqueue-fds, enqueue, discard, poll, check, poll-reply, prepare, poll-event, take-closed, refused, step}
 use Rattle.model.specs.Promise.{Done, Promise}
 use Rattle.model.specs.Reading.{Rooms, reads}
@@ -95,9 +96,8 @@ number-ends c p n e q = omega (arith, number-refused (c .order) (c .numbers .rea
 
 module _ (c : Client) (p : List ℕ) where
   packet-short : enqueuePacket c p ≡ refuses 5 → PacketShort (filled c) c p
-  unfolding enqueuePacket takeIn
   packet-short q =
-      let a = refused-on _ 1 5 _ (λ i. omega arith) q in
+      let a = refused-on _ 1 5 _ (λ i. omega arith) (sym (enqueue-chain c p) ∙ q) in
       let b = refused-on _ 2 5 _ (λ i. omega arith) (a .1) in
       let n = pass-refused (packetNumber c p) _ 5 (number-ends c p) (b .1) in
       let d = refused-on _ 4 5 _ (λ i. omega arith) (n .2) in
@@ -114,14 +114,15 @@ module _ (c : Client) (p : List ℕ) where
       }
 
   short-packet : PacketShort (filled c) c p → enqueuePacket c p ≡ refuses 5
-  unfolding enqueuePacket takeIn pass
+  unfolding pass
   short-packet s =
-      refused-past _ 1 5 _ (le-ltb (length p) leastPacket (s .not-short))
+      enqueue-chain c p
+      ∙ refused-past _ 1 5 _ (le-ltb (length p) leastPacket (s .not-short))
       (refused-past _ 2 5 _ (le-ltb mostPacket (length p) (s .not-long))
-      (ap (λ (y : Answer ℕ). pass y (λ n. takeIn c p n (askedOf c n))) (s .numbered)
+      (ap (λ (y : Answer ℕ). pass y (λ n. filedBy c p n (askedOf c n))) (s .numbered)
       ∙ taking))
     where
-      taking : takeIn c p (s .number) (askedOf c (s .number)) ≡ refuses 5
+      taking : filedBy c p (s .number) (askedOf c (s .number)) ≡ refuses 5
       taking =
           refused-past _ 4 5 _ (le-ltb (length (c .waiting)) (claimed p (askedOf c (s .number))) (s .enough-wait))
           (here-refused _ 5 _ (both-yes _ _ (s .to-be-held) (lt-ltb (c .most-bytes) (used c + (headerSize + length p)) (omega (arith, s .full)))))

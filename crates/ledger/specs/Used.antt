@@ -1,7 +1,7 @@
 -- What each call does to what is used. Assumes nothing.
 use mathlib.Core.Bool.{Bool, true, false}
 use mathlib.Core.List.{List, [], _∷_}
-use mathlib.Core.Path.{_≡_, refl, ap}
+use mathlib.Core.Path.{_≡_, refl, sym, ap, subst}
 use Prim.Native.Nat.{ℕ, _+_}
 use native.Mathlib.Omega.{arith}
 use lib.Dec.{ltb}
@@ -10,9 +10,10 @@ use Rattle.octets.specs.Logic.{choose}
 use Rattle.refusal.specs.Answer.{Answer, refuse}
 use Rattle.held.specs.Head.{headerSize}
 use Rattle.model.specs.Client.{Held, Client, setWaiting, costs, used}
+use Rattle.model.specs.Deciding.{enqueue-chain}
 use Rattle.model.specs.Model as Model
 use Rattle.packet.specs.Packet.{codeOf}
-use Rattle.model.specs.Model.{sendRequest, enqueueFds, takeClosed, numbered, askedOf, placeOf, claimed, isHeld, takeIn, enqueuePacket, asEvent, Found, at, find, takenBy, pollForReplyOrError, checkedBy, pollCheck, repliedBy, pollForReply, eventBy, pollForEvent}
+use Rattle.model.specs.Model.{sendRequest, enqueueFds, takeClosed, numbered, askedOf, placeOf, claimed, isHeld, Filing, takeIn, enqueuePacket, asEvent, Found, at, find, takenBy, pollForReplyOrError, checkedBy, pollCheck, repliedBy, pollForReply, eventBy, pollForEvent}
 use Rattle.model.specs.Calls.{Call, send, enqueue-fds, enqueue, discard, poll, check, poll-reply, prepare, poll-event, take-closed, Said, number, done, closed, refused, Step, step, outcome, saysFiling, saysTaken, saysPoll}
 use Rattle.model.specs.declared.Place.{Place}
 use Rattle.model.specs.declared.Place.the-variants as Place
@@ -83,14 +84,15 @@ filed-uses c p n k Place.Events =
 filed-uses c p n k Place.Dropped = omega arith
 
 packet-uses : (c : Client) (p : List ℕ) → Uses c (enqueue p) (outcome saysFiling c (enqueuePacket c p))
-unfolding enqueuePacket takeIn givenBack added costOf
+unfolding takeIn givenBack added costOf
 packet-uses c p =
-    uses-refuse saysFiling c (enqueue p) _ 1 _
+    subst (λ (x : Answer (Filing × Client)). Uses c (enqueue p) (outcome saysFiling c x)) (sym (enqueue-chain c p))
+    (uses-refuse saysFiling c (enqueue p) _ 1 _
     (uses-refuse saysFiling c (enqueue p) _ 2 _
     (by-pass (Uses c (enqueue p)) saysFiling c (uses-refused c (enqueue p)) _ _
     (λ n.
     uses-refuse saysFiling c (enqueue p) _ 4 _
-    (uses-refuse saysFiling c (enqueue p) _ 5 _ (omega (arith, filed-uses c p n (claimed p (askedOf c n)) (placeOf (codeOf p) (askedOf c n))))))))
+    (uses-refuse saysFiling c (enqueue p) _ 5 _ (omega (arith, filed-uses c p n (claimed p (askedOf c n)) (placeOf (codeOf p) (askedOf c n)))))))))
 
 -- ---- every call but a discard
 

@@ -193,7 +193,7 @@ table = row1 ∷ row2 ∷ row3 ∷ row4 ∷ row5 ∷ row6 ∷ row7 ∷ row8 ∷ 
 
 -- THE EXAMPLES: each row runs as it says.
 pub examples : All table
-unfolding run step Model.sendRequest Model.enqueueFds Model.enqueuePacket Model.discardReply Model.takeClosed Model.pollForReplyOrError Model.pollCheck Model.pollForReply Model.prepareCheck Model.pollForEvent Model.find pass refuse sending mustSync both either choose numberAfter unnumbered inRange full field numberIn cut turned bytesOf lowBytes lowNumber Model.numbered Model.askedOf Model.headOf Model.placeOf Model.claimed Model.takeIn costs descriptorsOf Model.withMode underMode Model.ofNumber Model.notOf Model.above Model.errorsOf Model.closingOrder
+unfolding run step Model.sendRequest Model.enqueueFds Model.enqueuePacket Model.discardReply Model.takeClosed Model.pollForReplyOrError Model.pollCheck Model.pollForReply Model.prepareCheck Model.pollForEvent Model.find pass refuse sending mustSync both either choose numberAfter unnumbered inRange full field numberIn cut turned bytesOf lowBytes lowNumber Model.numbered Model.askedOf Model.headOf Model.placeOf Model.claimed Model.takeIn Model.decide Model.decideBy costs descriptorsOf Model.withMode underMode Model.ofNumber Model.notOf Model.above Model.errorsOf Model.closingOrder
 examples = (refl, (refl, (refl, (refl, (refl, (refl, (refl, (refl, (refl, (refl, (refl, (refl, (refl, (refl, (refl, (refl, (refl, (refl, (refl, tt)))))))))))))))))))
 
 -- `new`: the ranges of the two rooms to their ends, 9 before 13
@@ -204,11 +204,11 @@ starts = (refl, refl, refl, refl, refl, refl, refl, refl)
 
 -- A packet over 65,536 bytes is refused by 2, whatever its number would be; one of 32 to 65,536 is refused for no length.
 pub long-first : (c : Client) (p : List ℕ) → 65536 < length p → Model.enqueuePacket c p ≡ refuses 2
-unfolding Model.enqueuePacket refuse
+unfolding Model.enqueuePacket Model.decide refuse pass
 long-first c p h = let l : 32 ≤ length p = omega arith in simp (le-ltb (length p) 32 l, lt-ltb 65536 (length p) h)
 
-pub any-length : (c : Client) (p : List ℕ) → 32 ≤ length p → length p ≤ 65536 → Model.enqueuePacket c p ≡ pass (Model.packetNumber c p) (λ n. Model.takeIn c p n (Model.askedOf c n))
-unfolding Model.enqueuePacket refuse
+pub any-length : (c : Client) (p : List ℕ) → 32 ≤ length p → length p ≤ 65536 → Model.decide c p ≡ pass (Model.packetNumber c p) (λ n. Model.decideBy c p n (Model.askedOf c n))
+unfolding Model.decide refuse
 any-length c p h k = simp (le-ltb (length p) 32 h, le-ltb 65536 (length p) k)
 
 -- ---- calls that make many steps

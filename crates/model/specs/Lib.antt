@@ -1,5 +1,6 @@
 pub mod Client
 pub mod Model
+pub mod Deciding
 pub mod Calls
 pub mod Examples
 pub mod Reading

@@ -151,21 +151,40 @@ pub record Filing : Type 0 where
   pub place : Place
   pub number : ℕ
 
--- A packet that has its number and whose request is known: 4 where it claims more descriptors than wait, 5 where it is to be held and its cost does not fit.
-unfoldable pub takeIn : Client → List ℕ → ℕ → Asked → Answer (Filing × Client)
-takeIn c p n a =
-    let place = placeOf (codeOf p) a in
-    let k = claimed p a in
-    refuse (ltb (length (c .waiting)) k) 4
-    (refuse (both (isHeld place) (ltb (c .most-bytes) (used c + (headerSize + length p)))) 5
-    (gives (record { place = place; number = n }, filed place (record { number = n; packet = p; descriptors = take k (c .waiting) }) (setWaiting (numbered c p n) (drop k (c .waiting))))))
+-- What is decided about a packet before anything changes: where it goes, under which number, and how many descriptors go with it.
+pub record Task : Type 0 where
+  pub place : Place
+  pub number : ℕ
+  pub claimed : ℕ
 
--- `enqueue_packet`: 1, 2, 3, 4, 5
-unfoldable pub enqueuePacket : Client → List ℕ → Answer (Filing × Client)
-enqueuePacket c p =
+-- as the request a of the number n has it
+abbrev pub taskBy : List ℕ → ℕ → Asked → Task
+taskBy p n a = record { place = placeOf (codeOf p) a; number = n; claimed = claimed p a }
+
+-- A packet that has its number and whose request is known: 4 where it claims more descriptors than wait, 5 where it is to be held and its cost does not fit.
+unfoldable pub decideBy : Client → List ℕ → ℕ → Asked → Answer Task
+decideBy c p n a =
+    refuse (ltb (length (c .waiting)) (claimed p a)) 4
+    (refuse (both (isHeld (placeOf (codeOf p) a)) (ltb (c .most-bytes) (used c + (headerSize + length p)))) 5
+    (gives (taskBy p n a)))
+
+-- 1, 2, 3, 4, 5
+unfoldable pub decide : Client → List ℕ → Answer Task
+decide c p =
     refuse (ltb (length p) leastPacket) 1
     (refuse (ltb mostPacket (length p)) 2
-    (pass (packetNumber c p) (λ n. takeIn c p n (askedOf c n))))
+    (pass (packetNumber c p) (λ n. decideBy c p n (askedOf c n))))
+
+-- What was decided is carried out: the state gets the number, the claimed descriptors leave the waiting queue, and the packet is filed with them.
+unfoldable pub takeIn : Client → List ℕ → Task → Filing × Client
+takeIn c p t = (
+  record { place = t .place; number = t .number },
+  filed (t .place) (record { number = t .number; packet = p; descriptors = take (t .claimed) (c .waiting) }) (setWaiting (numbered c p (t .number)) (drop (t .claimed) (c .waiting))),
+)
+
+-- `enqueue_packet`
+unfoldable pub enqueuePacket : Client → List ℕ → Answer (Filing × Client)
+enqueuePacket c p = pass (decide c p) (λ t. gives (takeIn c p t))
 
 -- ---- Discarding
 

@@ -30,10 +30,10 @@ taken t p n = took t p (record { place = Events; number = n })
 
 -- true numbers 70, 80 and 90 of a run of three events, of which that of code 11 carries no number; the engine reads 1 and 2 from the wire
 pub fed : noteFed (70 ∷ 80 ∷ 90 ∷ []) (Model.fresh 108 4 500) (event 2 1 ++ (event 11 0 ++ event 3 2)) (gives (tt {0})) [] ≡ taken 90 (event 3 2) 2 ∷ taken 70 (event 2 1) 1 ∷ []
-unfolding noteFed notes notePacket tookOf noteTook enqueuePackets cutPackets cuts aim totalOf total hasLength field numberIn cut lowNumber turned bytesOf lowBytes choose both either many onTurn modelTook stopAt Model.enqueuePacket numberAfter unnumbered inRange full Model.numbered Model.askedOf Model.headOf Model.placeOf Model.claimed Model.takeIn costs refuse pass
+unfolding noteFed notes notePacket tookOf noteTook enqueuePackets cutPackets cuts aim totalOf total hasLength field numberIn cut lowNumber turned bytesOf lowBytes choose both either many onTurn modelTook stopAt Model.enqueuePacket numberAfter unnumbered inRange full Model.numbered Model.askedOf Model.headOf Model.placeOf Model.claimed Model.takeIn Model.decide Model.decideBy costs refuse pass
 fed = refl
 
 -- a packet alone, taken and refused
 pub alone : (noteTook 70 (event 2 1) (gives (record { place = Events; number = 1 }, tt {0})) [] ≡ taken 70 (event 2 1) 1 ∷ []) × (noteTook {A = Unit {0}} 70 (event 2 1) (refuses 5) [] ≡ [])
-unfolding noteTook choose bytesOf lowBytes turned
+unfolding noteTook unnumbered choose bytesOf lowBytes turned
 alone = (refl, refl)
