@@ -5,14 +5,13 @@ pub mod State
 pub mod Saying
 pub mod Promised
 pub mod Balance
-pub mod Sessions
 pub mod RoomLaws
-pub mod Leaving
 pub mod Moving
 pub mod Used
 pub mod SendsLaws
 pub mod Outcomes
 pub mod Many
+pub mod Sessions
 pub mod Again
 pub mod StateLaws
 pub mod Needed

@@ -21,7 +21,8 @@ use Rattle.model.specs.declared.Connection.{Connection}
 use Rattle.model.specs.declared.DiscardMode.{DiscardMode}
 use Rattle.model.specs.declared.DiscardMode.the-variants as DiscardMode
 use Rattle.connection.specs.Calls.{Discards, PollsReply}
-use Rattle.ledger.specs.Leaving.{discard-left, reply-leaves}
+use Rattle.session.specs.Ask.{discard-reply, poll-for-reply}
+use Rattle.session.specs.AskLaws.{handed-sound}
 use Rattle.ledger.specs.Promised.{promise-refuses, promise-gave}
 
 -- ---- costs
@@ -140,7 +141,7 @@ module _ (c : Connection) (r : Rooms) (n : ℕ) where
   discards-used mode c' r' h =
       let g = promise-gave _ _ _ c r tt c' r' h in
       let e : reads c' r' ≡ discarding mode n (withMode (reads c r) n mode) = sym (ap (λ y. y .1) (gives-same (g .model))) in
-      omega (arith, used-read c r (g .was-sound), used-read c' r' (discard-left c r c' r' n mode h), ap used e, discarding-used mode n (withMode (reads c r) n mode), mode-used (reads c r) n mode)
+      omega (arith, used-read c r (g .was-sound), used-read c' r' (handed-sound (discard-reply n mode) tt c r tt c' r' tt h), ap used e, discarding-used mode n (withMode (reads c r) n mode), mode-used (reads c r) n mode)
 
   pub moves-by : (out : List ℕ) (x : Held) (l : List Held) → find n (reads c r .replies) ≡ at x l → isError x ≡ true
       → (a : Answer (ShownPoll × Connection)) (r' : Rooms) (out' : List ℕ) → PollsReply c r n out a r' out' → (k : ℕ) → a ≡ refuses k → k ≡ 9
@@ -153,4 +154,4 @@ module _ (c : Connection) (r : Rooms) (n : ℕ) where
   moves-used out x l found error v c' r' out' h =
       let g = promise-gave _ _ _ c r v c' r' (h .promise) in
       let e : reads c' r' ≡ movedOver (reads c r) x l = ap (λ y. y .1) (gives-same (sym (g .model) ∙ move-gives (reads c r) n (length out) x l found error)) in
-      omega (arith, used-read c r (g .was-sound), used-read c' r' (reply-leaves c r c' r' n out v out' h), ap used e, move-used (reads c r) n (length out) x l found error)
+      omega (arith, used-read c r (g .was-sound), used-read c' r' (handed-sound (poll-for-reply n out) tt c r v c' r' out' h), ap used e, move-used (reads c r) n (length out) x l found error)
