@@ -2,6 +2,7 @@ pub mod Descriptors
 pub mod Room
 pub mod Sends
 pub mod State
+pub mod Sums
 pub mod Saying
 pub mod Promised
 pub mod Balance

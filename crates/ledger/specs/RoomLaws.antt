@@ -29,7 +29,7 @@ use Rattle.model.specs.declared.ReplyFdKind.{ReplyFdKind}
 use Rattle.batch.specs.Feed.{enqueuePackets}
 use Rattle.session.specs.Ask.{Ask, enqueue-fds, send-request, enqueue-packet, discard-reply, poll-for-reply-or-error, poll-check-for-reply-or-error, poll-for-reply, poll-for-event-with-sequence, take-closed-fds, prepare-check-for-reply-or-error, send-requests, enqueue-packets, poll-for-events, form, Value, Outputs, Answers}
 use Rattle.session.specs.AskLaws.{keeps}
-use Rattle.ledger.specs.Promised.{refused-on, refused-past, refused-here, here-refused, promise-by}
+use Rattle.ledger.specs.Promised.{refused-on, refused-past, refused-here, here-refused, refused-alone, promise-by}
 use Rattle.ledger.specs.Room.{Filled, filled, kept, SendShort, PacketShort, NoRoom}
 
 -- ---- sending
@@ -136,27 +136,22 @@ module _ (c : Client) (p : List ℕ) where
 -- ---- the others
 
 -- by 8 alone
-eight-alone : {A : Type 0} (b : Bool) (x : A) (k : ℕ) → refuse b 8 (gives x) ≡ refuses k → k ≡ 8
-unfolding refuse
-eight-alone true x k e = cc
-eight-alone false x k e = absurd (let z : _≡_ {A = ℕ} 0 1 = cc in omega arith)
-
 closed-by : (c : Client) (places k : ℕ) → takeClosed c places ≡ refuses k → k ≡ 8
 unfolding takeClosed
-closed-by c places k e = eight-alone _ _ k e
+closed-by c places k e = refused-alone _ 8 _ k e
 
 taken-by : (c : Client) (bytes places k : ℕ) (f : Found) → takenBy c bytes places f ≡ refuses k → k ≡ 8
 taken-by c bytes places k Model.nothing e = absurd (let z : _≡_ {A = ℕ} 0 1 = cc in omega arith)
-taken-by c bytes places k (at h l) e = eight-alone _ _ k e
+taken-by c bytes places k (at h l) e = refused-alone _ 8 _ k e
 
 checked-by : (c : Client) (n bytes k : ℕ) (f : Found) → checkedBy c n bytes f ≡ refuses k → k ≡ 8
 checked-by c n bytes k Model.nothing e = absurd (let z : _≡_ {A = ℕ} 0 1 = cc in omega arith)
-checked-by c n bytes k (at h l) e = eight-alone _ _ k e
+checked-by c n bytes k (at h l) e = refused-alone _ 8 _ k e
 
 replied-choose : (b t : Bool) (x y : PollReply × Client) (k : ℕ) → choose b (gives x) (refuse t 8 (gives y)) ≡ refuses k → k ≡ 8
 unfolding choose
 replied-choose true t x y k q = absurd (let z : _≡_ {A = ℕ} 0 1 = cc in omega arith)
-replied-choose false t x y k q = eight-alone t y k q
+replied-choose false t x y k q = refused-alone t 8 y k q
 
 replied-by : (c : Client) (bytes k : ℕ) (f : Found) → repliedBy c bytes f ≡ refuses k → k ≡ 8
 replied-by c bytes k Model.nothing e = absurd (let z : _≡_ {A = ℕ} 0 1 = cc in omega arith)
@@ -164,7 +159,7 @@ replied-by c bytes k (at h l) e = replied-choose _ _ _ _ k e
 
 event-by : (c : Client) (bytes k : ℕ) (l : List Held) → eventBy c bytes l ≡ refuses k → k ≡ 8
 event-by c bytes k [] e = absurd (let z : _≡_ {A = ℕ} 0 1 = cc in omega arith)
-event-by c bytes k (h ∷ l) e = eight-alone _ _ k e
+event-by c bytes k (h ∷ l) e = refused-alone _ 8 _ k e
 
 never : {A : Type 0} {a : Answer A} → ((k : ℕ) → a ≡ refuses k → k ≡ 8) → (a ≡ refuses 5) ↔ ⊥
 never h = (λ e. (let z = h 5 e in omega arith), λ z. absurd z)

@@ -157,13 +157,17 @@ module _ (c : Connection) (r : Rooms) (n : ℕ) where
   pub discard-used : (mode : DiscardMode) (c' : Connection) (r' : Rooms) → Discards c r n mode (gives (tt, c')) r' → c' .window .end - c' .window .start ≤ c .window .end - c .window .start
   discard-used mode c' r' h = Moving.discards-used c r n mode c' r' h
 
--- ---- 6. ONE OUTCOME, AND A REFUSAL LEAVES ALL AS FOUND
+-- ---- 6. ONE OUTCOME: there is one, and only one; a refusal leaves all as found
 
 -- Any two answers that the promise of `new` allows are equal.
 pub new-one : (o : ℕ) (r : Rooms) (a b : Next) → Opens o r (saysNext a) → Opens o r (saysNext b) → a ≡ b
 new-one o r a b p q = Outcomes.new-one o r a b p q
 
--- Any two that the promise of any other public call allows are equal, with the rooms that it leaves and every output.
+-- Whatever state and rooms any other public call is given, there is an outcome that its promise allows,
+pub call-answers : (x : Ask) → OfBytes x → (c : Connection) (r : Rooms) → (a : Answer (Value x × Connection)) × (r' : Rooms) × (o : Outputs x) × Answers x c r a r' o
+call-answers x b c r = AskLaws.answered x b c r
+
+-- and any two answers that it allows are equal, with the rooms that it leaves and every output.
 pub call-one : (x : Ask) (c : Connection) (r : Rooms) (a b : spoken x .Enum) (s t : Rooms) (o p : Outputs x) → Answers x c r (spoken x .says c a) s o → Answers x c r (spoken x .says c b) t p → (a ≡ b) × (s ≡ t) × (o ≡ p)
 call-one x c r a b s t o p h i = Outcomes.call-one x c r a b s t o p h i
 

@@ -14,10 +14,10 @@ use Rattle.model.specs.Sound.{Sound, soundb}
 use Rattle.model.specs.declared.Connection.{Connection}
 use Rattle.sending.specs.Theorems as Sending
 use Rattle.intake.specs.Theorems as Intake
-use Rattle.polling.specs.DiscardTheorems.{discard-leaves}
+use Rattle.polling.specs.DiscardTheorems.{discard-model, discard-leaves}
 use Rattle.polling.specs.Theorems as Polling
 use Rattle.batch.specs.Theorems as Batch
-use Rattle.batch.specs.FeedLaws.{feed-sound}
+use Rattle.batch.specs.FeedLaws.{feed-model, feed-sound}
 use Rattle.connection.specs.Calls.{Prepares}
 use Rattle.connection.specs.Theorems.{refusal-leaves, state-sound}
 use Rattle.honest.specs.Public.{stateOf}
@@ -57,7 +57,7 @@ checks c r n a r' h i j = record { exact = go a (soundb c r) h i; model = guarde
     go (refuses k) true p q = absurd (let z : _≡_ {A = ℕ} 0 1 = cc in omega arith)
     go (refuses k) false p q = record { answers = (let z : k ≡ 9 = cc in ap refuses z); leaves = j }
 
--- EVERY PUBLIC CALL keeps such a promise.
+-- EVERY PUBLIC CALL keeps such a promise,
 pub keeps : (x : Ask) (c : Connection) (r : Rooms) (a : Answer (Value x × Connection)) (r' : Rooms) (o : Outputs x) → Answers x c r a r' o → Keeps (form x) c r a r' o
 keeps (send-request kind) c r a r' o h = record { promise = h; outputs = refl }
 keeps (enqueue-fds list) c r a r' o h = record { promise = h; outputs = refl }
@@ -72,6 +72,64 @@ keeps (prepare-check-for-reply-or-error n) c r a r' o h = record { promise = che
 keeps (send-requests bytes) c r a r' o h = record { promise = h; outputs = refl }
 keeps (enqueue-packets bytes) c r a r' o h = record { promise = h; outputs = refl }
 keeps (poll-for-events out marks) c r a r' o h = record { promise = h .packets .promise; outputs = (λ i. (h .packets .output i, h .marked i)) ∙ left-two _ _ out marks _ }
+
+-- and what keeps it is an answer.
+unchecked : (c : Connection) (r : Rooms) (n : ℕ) (a : Answer (Bool × Connection)) (r' : Rooms) → Exact same (guarded c r (form (prepare-check-for-reply-or-error n) .exactly c r)) r a r'
+    → Prepares c r n (told a) × (stateOf a c ≡ c) × (r' ≡ r)
+unfolding answerOf roomsOf guarded refuse told stateOf
+unchecked c r n a r' x = rw (x .answers, x .leaves) (go (soundb c r))
+  where
+    go : (s : Bool) → (told (answerOf same (refuse (not s) 9 (form (prepare-check-for-reply-or-error n) .exactly c r))) ≡ refuse (not s) 9 (gives (prepareCheck (reads c r) n)))
+        × (stateOf (answerOf same (refuse (not s) 9 (form (prepare-check-for-reply-or-error n) .exactly c r))) c ≡ c) × (roomsOf (refuse (not s) 9 (form (prepare-check-for-reply-or-error n) .exactly c r)) r ≡ r)
+    go true = (refl, refl, refl)
+    go false = (refl, refl, refl)
+
+kept : (x : Ask) (c : Connection) (r : Rooms) (a : Answer (Value x × Connection)) (r' : Rooms) (o : Outputs x) → Keeps (form x) c r a r' o → Answers x c r a r' o
+kept (send-request kind) c r a r' o k = k .promise
+kept (enqueue-fds list) c r a r' o k = k .promise
+kept (enqueue-packet p) c r a r' o k = k .promise
+kept (discard-reply n mode) c r a r' o k = k .promise
+kept (poll-for-reply-or-error n out fds) c r a r' o k =
+    let z = k .outputs ∙ sym (left-two _ _ out fds _) in
+    record { packet = record { promise = k .promise; output = ap (λ y. y .0) z }; descriptors = ap (λ y. y .1) z }
+kept (poll-check-for-reply-or-error n out) c r a r' o k = record { promise = k .promise; output = k .outputs ∙ sym (left-one _ out _) }
+kept (poll-for-reply n out) c r a r' o k = record { promise = k .promise; output = k .outputs ∙ sym (left-one _ out _) }
+kept (poll-for-event-with-sequence out) c r a r' o k = record { promise = k .promise; output = k .outputs ∙ sym (left-one _ out _) }
+kept (take-closed-fds out) c r a r' o k = record { promise = k .promise; output = k .outputs ∙ sym (left-one _ out _) }
+kept (prepare-check-for-reply-or-error n) c r a r' o k = unchecked c r n a r' (k .promise .exact)
+kept (send-requests bytes) c r a r' o k = k .promise
+kept (enqueue-packets bytes) c r a r' o k = k .promise
+kept (poll-for-events out marks) c r a r' o k =
+    let z = k .outputs ∙ sym (left-two _ _ out marks _) in
+    record { packets = record { promise = k .promise; output = ap (λ y. y .0) z }; marked = ap (λ y. y .1) z }
+
+-- ---- There is an outcome
+
+-- each exact outcome is the model's
+exactly-model : (x : Ask) → OfBytes x → (c : Connection) (r : Rooms) → Sound c r → modelOf (form x .exactly c r) ≡ form x .modelled (reads c r)
+unfolding modelOf
+exactly-model (send-request kind) b c r S = Sending.send-model c r S kind
+exactly-model (enqueue-fds list) b c r S = Sending.enqueue-model c r S list
+exactly-model (enqueue-packet p) b c r S = Intake.enqueue-model c r S p b
+exactly-model (discard-reply n mode) b c r S = discard-model c r S n mode
+exactly-model (poll-for-reply-or-error n out fds) b c r S = Polling.taken-model c r S n (length out) (length fds)
+exactly-model (poll-check-for-reply-or-error n out) b c r S = Polling.checked-model c r S n (length out)
+exactly-model (poll-for-reply n out) b c r S = Polling.replied-model c r S n (length out)
+exactly-model (poll-for-event-with-sequence out) b c r S = Polling.event-model c r S (length out)
+exactly-model (take-closed-fds out) b c r S = Sending.close-model c r S (length out)
+exactly-model (prepare-check-for-reply-or-error n) b c r S = refl
+exactly-model (send-requests bytes) b c r S = Batch.sends-model c r S bytes
+exactly-model (enqueue-packets bytes) b c r S = feed-model c r S bytes b
+exactly-model (poll-for-events out marks) b c r S = Batch.events-model c r S (length out) (length marks)
+
+pub answered : (x : Ask) → OfBytes x → (c : Connection) (r : Rooms) → (a : Answer (Value x × Connection)) × (r' : Rooms) × (o : Outputs x) × Answers x c r a r' o
+answered x b c r =
+    let g : Answer (Done (form x .Given)) = guarded c r (form x .exactly c r) in (
+      answerOf (form x .shows) g,
+      roomsOf g r,
+      left (form x .lent) (form x .written) g,
+      kept x c r _ _ _ (record { promise = record { exact = record { answers = refl; leaves = refl }; model = guarded-model _ (form x .modelled) c r (exactly-model x b c r) }; outputs = refl }),
+    )
 
 -- ---- Soundness
 
