@@ -4,7 +4,7 @@ use mathlib.Core.List.{List, [], _∷_, _++_}
 use mathlib.Core.Path.{_≡_, refl, sym, ap, _∙_, subst}
 use Prim.Native.Nat.{ℕ, _+_, _%_}
 use native.Mathlib.Omega.{arith}
-use lib.Dec.{ltb, eqb}
+use lib.Dec.{ltb}
 use lib.ListN.{length, take, drop, take-append-drop}
 use Rattle.octets.specs.Logic.{choose}
 use Rattle.refusal.specs.Answer.{Answer, refuse, pass}
@@ -14,7 +14,7 @@ use Rattle.model.specs.Client.{Held, Client, setReplies, setEvents, setWaiting,
 use Rattle.model.specs.Deciding.{enqueue-chain}
 use Rattle.model.specs.Model as Model
 use Rattle.packet.specs.Packet.{codeOf}
-use Rattle.model.specs.Model.{fresh, sendRequest, enqueueFds, takeClosed, close, asEvent, numbered, askedOf, placeOf, claimed, Filing, takeIn, enqueuePacket, withMode, ofNumber, notOf, above, closingOrder, discarding, discardReply, Found, at, behind, find, Taken, takenBy, pollForReplyOrError, checkedBy, pollCheck, repliedBy, pollForReply, eventBy, pollForEvent}
+use Rattle.model.specs.Model.{fresh, sendRequest, enqueueFds, takeClosed, close, asEvent, numbered, askedOf, placeOf, claimed, Filing, takeIn, enqueuePacket, withMode, ofNumber, notOf, above, closingOrder, discarding, discardReply, Found, at, find, Taken, takenBy, pollForReplyOrError, checkedBy, pollCheck, repliedBy, pollForReply, eventBy, pollForEvent}
 use Rattle.model.specs.Calls.{Call, send, enqueue-fds, enqueue, discard, poll, check, poll-reply, prepare, poll-event, take-closed, Said, done, closed, refused, step, outcome, run, saysTaken, saysPoll}
 use Rattle.model.specs.declared.ReplyFdKind.{ReplyFdKind}
 use Rattle.model.specs.declared.DiscardMode.{DiscardMode}
@@ -22,6 +22,7 @@ use Rattle.model.specs.declared.DiscardMode.the-variants as DiscardMode
 use Rattle.model.specs.declared.Place.{Place}
 use Rattle.model.specs.declared.Place.the-variants as Place
 use Rattle.filing.specs.Theorems.{event-claims}
+use Rattle.ledger.specs.Sums.{Adds, sum-append, sum-number, sum-find}
 use Rattle.ledger.specs.Saying.{by-refuse, by-choose, by-pass}
 use Rattle.ledger.specs.Descriptors.{within, unlessRefused, accepted, tookWith, closedBy, handedOut, Balances, acceptedIn, handedIn}
 
@@ -57,29 +58,25 @@ module _ {A : Type 0} (f : A → Said) (c : Client) (x : Call) where
 
 -- ---- lists of held packets
 
-pub count-of-append : (d : ℕ) (a b : List Held) → count d (descriptorsOf (a ++ b)) ≡ count d (descriptorsOf a) + count d (descriptorsOf b)
-unfolding descriptorsOf count
-count-of-append d [] b = omega arith
-count-of-append d (h ∷ a) b = omega (arith, count-of-append d a b, count-append d (h .descriptors) (descriptorsOf (a ++ b)), count-append d (h .descriptors) (descriptorsOf a))
-
-pub count-of-cons : (d : ℕ) (h : Held) (l : List Held) → count d (descriptorsOf (h ∷ l)) ≡ count d (h .descriptors) + count d (descriptorsOf l)
-unfolding descriptorsOf
-count-of-cons d h l = count-append d (h .descriptors) (descriptorsOf l)
-
 count-of-none : (d : ℕ) → count d (descriptorsOf []) ≡ 0
 unfolding descriptorsOf count
 count-of-none d = refl
 
--- those of a number and the others
+count-of-cons : (d : ℕ) (h : Held) (l : List Held) → count d (descriptorsOf (h ∷ l)) ≡ count d (h .descriptors) + count d (descriptorsOf l)
+unfolding descriptorsOf
+count-of-cons d h l = count-append d (h .descriptors) (descriptorsOf l)
+
+count-of-append : (d : ℕ) (a b : List Held) → count d (descriptorsOf (a ++ b)) ≡ count d (descriptorsOf a) + count d (descriptorsOf b)
+count-of-append d = sum-append (λ h. count d (h .descriptors)) (λ l. count d (descriptorsOf l)) (count-of-none d) (count-of-cons d)
+
 count-of-number : (d n : ℕ) (l : List Held) → count d (descriptorsOf (ofNumber n l)) + count d (descriptorsOf (notOf n l)) ≡ count d (descriptorsOf l)
-unfolding ofNumber notOf descriptorsOf count choose
-count-of-number d n [] = omega arith
-count-of-number d n (h ∷ l) = go (eqb (h .number) n) (count-of-number d n l)
-  where
-    go : (b : Bool) → count d (descriptorsOf (ofNumber n l)) + count d (descriptorsOf (notOf n l)) ≡ count d (descriptorsOf l)
-        → count d (descriptorsOf (choose b (h ∷ ofNumber n l) (ofNumber n l))) + count d (descriptorsOf (choose b (notOf n l) (h ∷ notOf n l))) ≡ count d (h .descriptors ++ descriptorsOf l)
-    go true k = omega (arith, count-append d (h .descriptors) (descriptorsOf l), count-append d (h .descriptors) (descriptorsOf (ofNumber n l)))
-    go false k = omega (arith, count-append d (h .descriptors) (descriptorsOf l), count-append d (h .descriptors) (descriptorsOf (notOf n l)))
+count-of-number d = sum-number (λ h. count d (h .descriptors)) (λ l. count d (descriptorsOf l)) (count-of-none d) (count-of-cons d)
+
+abbrev CountFound : ℕ → ℕ → Found → Type 0
+CountFound d = Adds (λ h. count d (h .descriptors)) (λ l. count d (descriptorsOf l))
+
+count-find : (d n : ℕ) (l : List Held) → CountFound d (count d (descriptorsOf l)) (find n l)
+count-find d = sum-find (λ h. count d (h .descriptors)) (λ l. count d (descriptorsOf l)) (count-of-none d) (count-of-cons d)
 
 -- in whatever turn
 count-order : (d k : ℕ) (l : List Held) → count d (descriptorsOf (closingOrder k l)) ≡ count d (descriptorsOf l)
@@ -87,24 +84,6 @@ unfolding closingOrder
 count-order d k l =
     let i : ℕ = k % length l in
     omega (arith, count-of-append d (drop i l) (take i l), count-of-append d (take i l) (drop i l), ap (λ (y : List Held). count d (descriptorsOf y)) (take-append-drop i l))
-
--- the one that is found and those that stay
-abbrev CountFound : ℕ → ℕ → Found → Type 0
-CountFound d m Model.nothing = Unit {0}
-CountFound d m (at h l) = count d (h .descriptors) + count d (descriptorsOf l) ≡ m
-
-count-behind : (d m : ℕ) (h : Held) (f : Found) → CountFound d m f → CountFound d (count d (h .descriptors) + m) (behind h f)
-count-behind d m h Model.nothing k = tt
-count-behind d m h (at x l) k = omega (arith, count-of-cons d h l)
-
-count-find : (d n : ℕ) (l : List Held) → CountFound d (count d (descriptorsOf l)) (find n l)
-unfolding find choose
-count-find d n [] = tt
-count-find d n (h ∷ l) = rw (count-of-cons d h l) (go (eqb (h .number) n) (count-find d n l))
-  where
-    go : (b : Bool) → CountFound d (count d (descriptorsOf l)) (find n l) → CountFound d (count d (h .descriptors) + count d (descriptorsOf l)) (choose b (at h l) (behind h (find n l)))
-    go true k = refl
-    go false k = count-behind d (count d (descriptorsOf l)) h (find n l) k
 
 -- ---- calls that move no descriptor
 

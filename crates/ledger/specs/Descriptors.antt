@@ -11,8 +11,9 @@ use Rattle.model.specs.Reading.{Rooms}
 use Rattle.model.specs.Says.{Shown, none, packet}
 use Rattle.model.specs.declared.Connection.{Connection}
 use Rattle.honest.specs.Run.{Entry}
-use Rattle.session.specs.Session.{Session, new, send-request, enqueue-packet, discard-reply, poll-for-reply-or-error, poll-check-for-reply-or-error, poll-for-reply, poll-for-event, take-closed-fds, send-requests, enqueue-packets, poll-for-events, prepare-check}
-use Rattle.session.specs.Session as Public
+use Rattle.session.specs.Ask.{Ask, send-request, enqueue-packet, discard-reply, poll-for-reply-or-error, poll-check-for-reply-or-error, poll-for-reply, poll-for-event-with-sequence, take-closed-fds, prepare-check-for-reply-or-error, send-requests, enqueue-packets, poll-for-events, Value, Outputs}
+use Rattle.session.specs.Ask as Asked
+use Rattle.session.specs.Session.{Session, new, call}
 
 -- ---- Of a state
 
@@ -102,69 +103,57 @@ handedIn [] said = []
 handedIn (x ∷ xs) [] = []
 handedIn (x ∷ xs) (s ∷ said) = handedOut x s ++ handedIn xs said
 
--- ---- Of the public calls: what the caller brought, and what it found in its outputs
+-- ---- Of the public calls: what the caller brings, and what it finds in its outputs
 
--- a list, unless the call was refused
-unfoldable pub brought : {B : Type 0} → List ℕ → Answer (B × Connection) → List ℕ
-brought list (gives x) = list
-brought list (refuses n) = []
+abbrev pub brings : Ask → List ℕ
+brings (send-request kind) = []
+brings (Asked.enqueue-fds list) = list
+brings (enqueue-packet p) = []
+brings (discard-reply n mode) = []
+brings (poll-for-reply-or-error n out fds) = []
+brings (poll-check-for-reply-or-error n out) = []
+brings (poll-for-reply n out) = []
+brings (poll-for-event-with-sequence out) = []
+brings (take-closed-fds out) = []
+brings (prepare-check-for-reply-or-error n) = []
+brings (send-requests bytes) = []
+brings (enqueue-packets bytes) = []
+brings (poll-for-events out marks) = []
 
 -- how many descriptors an answer says are at the start of the output
 abbrev pub placesOf : Shown → ℕ
 placesOf none = 0
 placesOf (packet z) = z .places
 
-unfoldable pub foundWith : Answer (Shown × Connection) → List ℕ → List ℕ
-foundWith (gives x) fds = take (placesOf (x .0)) fds
-foundWith (refuses n) fds = []
+abbrev pub finds : (x : Ask) → Value x → Outputs x → List ℕ
+finds (send-request kind) v o = []
+finds (Asked.enqueue-fds list) v o = []
+finds (enqueue-packet p) v o = []
+finds (discard-reply n mode) v o = []
+finds (poll-for-reply-or-error n out fds) v o = take (placesOf v) (o .1)
+finds (poll-check-for-reply-or-error n out) v o = []
+finds (poll-for-reply n out) v o = []
+finds (poll-for-event-with-sequence out) v o = []
+finds (take-closed-fds out) v o = take v o
+finds (prepare-check-for-reply-or-error n) v o = []
+finds (send-requests bytes) v o = []
+finds (enqueue-packets bytes) v o = []
+finds (poll-for-events out marks) v o = []
 
-unfoldable pub foundClosed : Answer (ℕ × Connection) → List ℕ → List ℕ
-foundClosed (gives x) out = take (x .0) out
-foundClosed (refuses n) out = []
+-- unless it was refused
+unfoldable pub brought : (x : Ask) → Answer (Value x × Connection) → List ℕ
+brought x (gives y) = brings x
+brought x (refuses n) = []
 
--- a call that neither brings descriptors nor hands any out
-abbrev pub Neither : Call → Type 0
-Neither (send kind) = Unit {0}
-Neither (enqueue-fds list) = ⊥
-Neither (enqueue p) = Unit {0}
-Neither (discard n m) = Unit {0}
-Neither (poll n bytes places) = ⊥
-Neither (check n bytes) = Unit {0}
-Neither (poll-reply n bytes) = Unit {0}
-Neither (prepare n) = Unit {0}
-Neither (poll-event bytes) = Unit {0}
-Neither (take-closed places) = ⊥
+unfoldable pub found : (x : Ask) → Answer (Value x × Connection) → Outputs x → List ℕ
+found x (gives y) o = finds x (y .0) o
+found x (refuses n) o = []
 
--- all that the session accepted
+-- all that a session accepted, and all that it handed out
 unfoldable pub sessionAccepted : {c : Connection} {r : Rooms} {l : List Entry} → Session c r l → List ℕ
 sessionAccepted (new o r c h) = []
-sessionAccepted (send-request kind a r' h k) = sessionAccepted k
-sessionAccepted (Public.enqueue-fds list a r' h k) = brought list a ++ sessionAccepted k
-sessionAccepted (enqueue-packet t p b a r' h k) = sessionAccepted k
-sessionAccepted (discard-reply n mode a r' h k) = sessionAccepted k
-sessionAccepted (poll-for-reply-or-error n out fds a r' out' fds' h k) = sessionAccepted k
-sessionAccepted (poll-check-for-reply-or-error n out a r' out' h k) = sessionAccepted k
-sessionAccepted (poll-for-reply n out a r' out' h k) = sessionAccepted k
-sessionAccepted (poll-for-event out a r' out' h k) = sessionAccepted k
-sessionAccepted (take-closed-fds out a r' out' h k) = sessionAccepted k
-sessionAccepted (send-requests bytes a r' h k) = sessionAccepted k
-sessionAccepted (enqueue-packets ts bytes b a r' h k) = sessionAccepted k
-sessionAccepted (poll-for-events out marks a r' out' marks' h k) = sessionAccepted k
-sessionAccepted (prepare-check n a h k) = sessionAccepted k
+sessionAccepted (call x b ts a r' o h k) = brought x a ++ sessionAccepted k
 
--- all that it handed out
 unfoldable pub sessionHanded : {c : Connection} {r : Rooms} {l : List Entry} → Session c r l → List ℕ
 sessionHanded (new o r c h) = []
-sessionHanded (send-request kind a r' h k) = sessionHanded k
-sessionHanded (Public.enqueue-fds list a r' h k) = sessionHanded k
-sessionHanded (enqueue-packet t p b a r' h k) = sessionHanded k
-sessionHanded (discard-reply n mode a r' h k) = sessionHanded k
-sessionHanded (poll-for-reply-or-error n out fds a r' out' fds' h k) = foundWith a fds' ++ sessionHanded k
-sessionHanded (poll-check-for-reply-or-error n out a r' out' h k) = sessionHanded k
-sessionHanded (poll-for-reply n out a r' out' h k) = sessionHanded k
-sessionHanded (poll-for-event out a r' out' h k) = sessionHanded k
-sessionHanded (take-closed-fds out a r' out' h k) = foundClosed a out' ++ sessionHanded k
-sessionHanded (send-requests bytes a r' h k) = sessionHanded k
-sessionHanded (enqueue-packets ts bytes b a r' h k) = sessionHanded k
-sessionHanded (poll-for-events out marks a r' out' marks' h k) = sessionHanded k
-sessionHanded (prepare-check n a h k) = sessionHanded k
+sessionHanded (call x b ts a r' o h k) = found x a o ++ sessionHanded k

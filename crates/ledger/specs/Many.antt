@@ -10,11 +10,12 @@ use Rattle.octets.specs.Logic.{choose}
 use Rattle.octets.specs.Put.{put}
 use Rattle.refusal.specs.Answer.{Answer, gives, refuses, gives-rest, gives-same}
 use Rattle.model.specs.Client.{Held, Client, setEvents}
-use Rattle.model.specs.Model.{Taken, none, packet, sendRequest, eventBy, pollForEvent}
+use Rattle.model.specs.Model.{Taken, none, packet, Filing, sendRequest, eventBy, pollForEvent}
 use Rattle.model.specs.Promise.{Done, answerOf, roomsOf, outputOf, modelOf, guarded}
 use Rattle.model.specs.Reading.{Rooms, reads}
 use Rattle.model.specs.Batch.{Turn, goes, stops, Many, onward, onTurn, many, Stop, ended, refused, meaningless, modelTurn}
 use Rattle.model.specs.BatchLaws.{goes-one}
+use Rattle.model.specs.Feed.{Took, modelTook}
 use Rattle.model.specs.SendRequests.{kinds, kindOf, sendTurn, sendings, sendRequests, Sendings, ShownSendings, shownSendings}
 use Rattle.model.specs.PollForEvents.{turns, Lent, lent, roomFor, eventTurn, Handings, orRefused, handed, pollForEvents, packetsOf, marksOf, ShownHandings, shownHandings, packetsOfHandings, marksOfHandings}
 use Rattle.model.specs.declared.Connection.{Connection}
@@ -31,6 +32,13 @@ model-gives (gives x) a c q =
     let z = goes-one q in
     (λ k. gives (z .0 k, z .1 k))
 model-gives (refuses n) a c q = absurd (let z : _≡_ {A = ℕ} 0 1 = cc in omega arith)
+
+pub took-given : (n : ℕ) (e : Answer (Filing × Client)) (v : Took) (c : Client) → goes v c ≡ modelTook n e → gives (v .filing, c) ≡ e
+unfolding modelTook
+took-given n (gives x) v c q =
+    let z = goes-one q in
+    (λ k. gives (z .0 k .filing, z .1 k))
+took-given n (refuses k) v c q = absurd (let z : _≡_ {A = ℕ} 0 1 = cc in omega arith)
 
 -- ---- events
 
@@ -56,7 +64,7 @@ pub record First (c : Client) (events : List Held) (c' : Client) : Type 0 where
   pub in-order : c .events ≡ events ++ c' .events
   pub all-else : c' ≡ setEvents c (c' .events)
 
-event-given : (t : Lent Client) (b : Bool) (h : Held) (t' : Lent Client) → goes h t' ≡ eventTurn t b → gives (packet h, t' .at) ≡ pollForEvent (t .at) (roomFor b (t .room))
+pub event-given : (t : Lent Client) (b : Bool) (h : Held) (t' : Lent Client) → goes h t' ≡ eventTurn t b → gives (packet h, t' .at) ≡ pollForEvent (t .at) (roomFor b (t .room))
 unfolding eventTurn
 event-given t b h t' q = model-gives _ (packet h) (t' .at) (handing-gave (t .room) _ h t' q)
 
@@ -78,7 +86,7 @@ row-first t (b ∷ xs) = go (eventTurn t b) refl (λ h t' q. row-first t' xs)
         }
     go (stops w) q rest = record { in-order = refl; all-else = refl }
 
-handed-gives : (y : Many Held Stop (Lent Client)) (x : Handings) (c : Client) → handed y ≡ gives (x, c) → (y .values ≡ x .events) × (y .end .at ≡ c)
+pub handed-gives : (y : Many Held Stop (Lent Client)) (x : Handings) (c : Client) → handed y ≡ gives (x, c) → (y .values ≡ x .events) × (y .end .at ≡ c)
 unfolding handed orRefused
 handed-gives y x c e = go (y .values) (y .stopped) e
   where
@@ -150,7 +158,7 @@ pub record Next (c : Client) (numbers : List ℕ) (c' : Client) : Type 0 where
   pub counted : numbers ≡ counting (c .numbers .written + 1) (length numbers)
   pub written : c' .numbers .written ≡ c .numbers .written + length numbers
 
-send-given : (c : Client) (byte n : ℕ) (c' : Client) → goes n c' ≡ sendTurn c byte → gives (n, c') ≡ sendRequest c (kindOf byte)
+pub send-given : (c : Client) (byte n : ℕ) (c' : Client) → goes n c' ≡ sendTurn c byte → gives (n, c') ≡ sendRequest c (kindOf byte)
 unfolding sendTurn choose
 send-given c byte n c' e = go (ltb byte kinds) e
   where

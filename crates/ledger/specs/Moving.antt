@@ -4,14 +4,14 @@ use mathlib.Core.List.{List, [], _∷_, _++_}
 use mathlib.Core.Path.{_≡_, refl, sym, ap, _∙_, subst}
 use Prim.Native.Nat.{ℕ, _+_, _-_, _≤_}
 use native.Mathlib.Omega.{arith}
-use lib.Dec.{ltb, eqb}
+use lib.Dec.{ltb}
 use lib.ListN.{length}
 use Rattle.octets.specs.Logic.{choose}
 use Rattle.refusal.specs.Answer.{Answer, gives, refuses, refuse, gives-same}
 use Rattle.held.specs.Head.{headerSize}
 use Rattle.model.specs.Client.{Held, Client, setReplies, setEvents, costs, used}
 use Rattle.model.specs.Model as Model
-use Rattle.model.specs.Model.{withMode, ofNumber, notOf, isError, asEvent, errorsOf, discarding, discardReply, Found, at, behind, find, noReply, repliedBy, pollForReply}
+use Rattle.model.specs.Model.{withMode, ofNumber, notOf, isError, asEvent, errorsOf, discarding, discardReply, Found, at, find, noReply, repliedBy, pollForReply}
 use Rattle.model.specs.Calls.{discard, poll-reply, done, absent, step}
 use Rattle.model.specs.Promise.{guarded}
 use Rattle.model.specs.Reading.{Rooms, reads}
@@ -21,29 +21,34 @@ use Rattle.model.specs.declared.Connection.{Connection}
 use Rattle.model.specs.declared.DiscardMode.{DiscardMode}
 use Rattle.model.specs.declared.DiscardMode.the-variants as DiscardMode
 use Rattle.connection.specs.Calls.{Discards, PollsReply}
-use Rattle.ledger.specs.Leaving.{discard-left, reply-leaves}
-use Rattle.ledger.specs.Promised.{promise-refuses, promise-gave}
+use Rattle.session.specs.Ask.{discard-reply, poll-for-reply}
+use Rattle.session.specs.AskLaws.{handed-sound}
+use Rattle.ledger.specs.Promised.{refused-alone, promise-refuses, promise-gave}
+use Rattle.ledger.specs.Sums.{Adds, sum-append, sum-number, sum-find}
 
 -- ---- costs
 
+abbrev pub costOne : Held → ℕ
+costOne h = headerSize + length (h .packet)
+
 pub costs-append : (a b : List Held) → costs (a ++ b) ≡ costs a + costs b
 unfolding costs
-costs-append [] b = omega arith
-costs-append (h ∷ a) b = omega (arith, costs-append a b)
+costs-append = sum-append costOne costs refl (λ h l. refl)
 
 pub costs-one : (h : Held) → costs (h ∷ []) ≡ headerSize + length (h .packet)
 unfolding costs
 costs-one h = omega arith
 
--- those of a number and the others
 costs-of-number : (n : ℕ) (l : List Held) → costs (ofNumber n l) + costs (notOf n l) ≡ costs l
-unfolding ofNumber notOf costs choose
-costs-of-number n [] = refl
-costs-of-number n (h ∷ l) = go (eqb (h .number) n) (costs-of-number n l)
-  where
-    go : (b : Bool) → costs (ofNumber n l) + costs (notOf n l) ≡ costs l → costs (choose b (h ∷ ofNumber n l) (ofNumber n l)) + costs (choose b (notOf n l) (h ∷ notOf n l)) ≡ headerSize + length (h .packet) + costs l
-    go true k = omega arith
-    go false k = omega arith
+unfolding costs
+costs-of-number = sum-number costOne costs refl (λ h l. refl)
+
+abbrev pub CostsFound : ℕ → Found → Type 0
+CostsFound = Adds costOne costs
+
+pub costs-find : (n : ℕ) (l : List Held) → CostsFound (costs l) (find n l)
+unfolding costs
+costs-find = sum-find costOne costs refl (λ h l. refl)
 
 -- an event costs what it did as a reply, and the errors are among the others
 costs-errors : (l : List Held) → costs (errorsOf l) ≤ costs l
@@ -54,25 +59,6 @@ costs-errors (h ∷ l) = go (isError h) (costs-errors l)
     go : (b : Bool) → costs (errorsOf l) ≤ costs l → costs (choose b (asEvent h ∷ errorsOf l) (errorsOf l)) ≤ headerSize + length (h .packet) + costs l
     go true k = omega arith
     go false k = omega arith
-
--- the one that is found and those that stay
-abbrev pub CostsFound : ℕ → Found → Type 0
-CostsFound m Model.nothing = Unit {0}
-CostsFound m (at h l) = headerSize + length (h .packet) + costs l ≡ m
-
-costs-behind : (m : ℕ) (h : Held) (f : Found) → CostsFound m f → CostsFound (headerSize + length (h .packet) + m) (behind h f)
-unfolding costs
-costs-behind m h Model.nothing k = tt
-costs-behind m h (at x l) k = omega arith
-
-pub costs-find : (n : ℕ) (l : List Held) → CostsFound (costs l) (find n l)
-unfolding find choose costs
-costs-find n [] = tt
-costs-find n (h ∷ l) = go (eqb (h .number) n) (costs-find n l)
-  where
-    go : (b : Bool) → CostsFound (costs l) (find n l) → CostsFound (headerSize + length (h .packet) + costs l) (choose b (at h l) (behind h (find n l)))
-    go true k = refl
-    go false k = costs-behind (costs l) h (find n l) k
 
 -- ---- a discard
 
@@ -124,15 +110,10 @@ module _ (c : Client) (n bytes : ℕ) (h : Held) (l : List Held) (found : find n
 
 -- ---- the public calls
 
-nine-alone : {A : Type 0} (b : Bool) (x : A) (k : ℕ) → refuse b 9 (gives x) ≡ refuses k → k ≡ 9
-unfolding refuse
-nine-alone true x k e = cc
-nine-alone false x k e = absurd (let z : _≡_ {A = ℕ} 0 1 = cc in omega arith)
-
 module _ (c : Connection) (r : Rooms) (n : ℕ) where
   pub discards-by : (mode : DiscardMode) (a : Answer (Unit × Connection)) (r' : Rooms) → Discards c r n mode a r' → (k : ℕ) → a ≡ refuses k → k ≡ 9
   unfolding guarded discardReply
-  discards-by mode a r' h k e = nine-alone _ _ k (promise-refuses _ _ _ c r a r' h k .0 e)
+  discards-by mode a r' h k e = refused-alone _ 9 _ k (promise-refuses _ _ _ c r a r' h k .0 e)
 
   -- what the window has after it
   pub discards-used : (mode : DiscardMode) (c' : Connection) (r' : Rooms) → Discards c r n mode (gives (tt, c')) r' → c' .window .end - c' .window .start ≤ c .window .end - c .window .start
@@ -140,17 +121,17 @@ module _ (c : Connection) (r : Rooms) (n : ℕ) where
   discards-used mode c' r' h =
       let g = promise-gave _ _ _ c r tt c' r' h in
       let e : reads c' r' ≡ discarding mode n (withMode (reads c r) n mode) = sym (ap (λ y. y .1) (gives-same (g .model))) in
-      omega (arith, used-read c r (g .was-sound), used-read c' r' (discard-left c r c' r' n mode h), ap used e, discarding-used mode n (withMode (reads c r) n mode), mode-used (reads c r) n mode)
+      omega (arith, used-read c r (g .was-sound), used-read c' r' (handed-sound (discard-reply n mode) tt c r tt c' r' tt h), ap used e, discarding-used mode n (withMode (reads c r) n mode), mode-used (reads c r) n mode)
 
   pub moves-by : (out : List ℕ) (x : Held) (l : List Held) → find n (reads c r .replies) ≡ at x l → isError x ≡ true
       → (a : Answer (ShownPoll × Connection)) (r' : Rooms) (out' : List ℕ) → PollsReply c r n out a r' out' → (k : ℕ) → a ≡ refuses k → k ≡ 9
   unfolding guarded
   moves-by out x l found error a r' out' h k e =
-      nine-alone _ _ k (ap (guarded c r) (sym (move-gives (reads c r) n (length out) x l found error)) ∙ promise-refuses _ _ _ c r a r' (h .promise) k .0 e)
+      refused-alone _ 9 _ k (ap (guarded c r) (sym (move-gives (reads c r) n (length out) x l found error)) ∙ promise-refuses _ _ _ c r a r' (h .promise) k .0 e)
 
   pub moves-used : (out : List ℕ) (x : Held) (l : List Held) → find n (reads c r .replies) ≡ at x l → isError x ≡ true
       → (v : ShownPoll) (c' : Connection) (r' : Rooms) (out' : List ℕ) → PollsReply c r n out (gives (v, c')) r' out' → c' .window .end - c' .window .start ≡ c .window .end - c .window .start
   moves-used out x l found error v c' r' out' h =
       let g = promise-gave _ _ _ c r v c' r' (h .promise) in
       let e : reads c' r' ≡ movedOver (reads c r) x l = ap (λ y. y .1) (gives-same (sym (g .model) ∙ move-gives (reads c r) n (length out) x l found error)) in
-      omega (arith, used-read c r (g .was-sound), used-read c' r' (reply-leaves c r c' r' n out v out' h), ap used e, move-used (reads c r) n (length out) x l found error)
+      omega (arith, used-read c r (g .was-sound), used-read c' r' (handed-sound (poll-for-reply n out) tt c r v c' r' out' h), ap used e, move-used (reads c r) n (length out) x l found error)

@@ -33,6 +33,12 @@ unfolding refuse
 refused-here true n x e = refl
 refused-here false n x e = absurd (let z : _≡_ {A = ℕ} 0 1 = cc in omega arith)
 
+-- by this number alone
+pub refused-alone : {A : Type 0} (b : Bool) (n : ℕ) (x : A) (k : ℕ) → refuse b n (gives x) ≡ refuses k → k ≡ n
+unfolding refuse
+refused-alone true n x k e = cc
+refused-alone false n x k e = absurd (let z : _≡_ {A = ℕ} 0 1 = cc in omega arith)
+
 pub here-refused : {A : Type 0} (b : Bool) (n : ℕ) (x : Answer A) → b ≡ true → refuse b n x ≡ refuses n
 unfolding refuse
 here-refused b n x e = rw e refl

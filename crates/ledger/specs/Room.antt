@@ -16,6 +16,8 @@ use Rattle.model.specs.Model.{hasReply, packetNumber, askedOf, claimed, placeOf
 use Rattle.model.specs.Calls.{Call, send, enqueue-fds, enqueue, discard, poll, check, poll-reply, prepare, poll-event, take-closed, Said, number, done, filed, nothing, took, again, absent, answer, closed, refused}
 use Rattle.model.specs.declared.Connection.{Connection}
 use Rattle.model.specs.declared.ReplyFdKind.{ReplyFdKind}
+use Rattle.session.specs.Ask.{Ask, send-request, enqueue-packet, discard-reply, poll-for-reply-or-error, poll-check-for-reply-or-error, poll-for-reply, poll-for-event-with-sequence, take-closed-fds, prepare-check-for-reply-or-error, send-requests, enqueue-packets, poll-for-events}
+use Rattle.session.specs.Ask as Asked
 
 -- how many requests are outstanding, how many bytes of the store are used, how many descriptors are inside
 pub record Filled : Type 0 where
@@ -51,18 +53,21 @@ pub record PacketShort (f : Filled) (c : Client) (p : List ℕ) : Type 0 where
   pub to-be-held : isHeld (placeOf (codeOf p) (askedOf c number)) ≡ true
   pub full : c .most-bytes < f .bytes + (headerSize + length p)
 
--- NO ROOM: what is filled and what a call adds is too much. No other call adds.
-abbrev pub NoRoom : Filled → Client → Call → Type 0
-NoRoom f c (send kind) = SendShort f c kind
-NoRoom f c (enqueue-fds list) = mostDescriptors < f .descriptors + length list
-NoRoom f c (enqueue p) = PacketShort f c p
-NoRoom f c (discard n m) = ⊥
-NoRoom f c (poll n bytes places) = ⊥
-NoRoom f c (check n bytes) = ⊥
-NoRoom f c (poll-reply n bytes) = ⊥
-NoRoom f c (prepare n) = ⊥
-NoRoom f c (poll-event bytes) = ⊥
-NoRoom f c (take-closed places) = ⊥
+-- NO ROOM: what is filled and what a call adds is too much. No other call adds; one that makes many steps is stopped by want of room, and not refused.
+abbrev pub NoRoom : Filled → Client → Ask → Type 0
+NoRoom f c (send-request kind) = SendShort f c kind
+NoRoom f c (Asked.enqueue-fds list) = mostDescriptors < f .descriptors + length list
+NoRoom f c (enqueue-packet p) = PacketShort f c p
+NoRoom f c (discard-reply n mode) = ⊥
+NoRoom f c (poll-for-reply-or-error n out fds) = ⊥
+NoRoom f c (poll-check-for-reply-or-error n out) = ⊥
+NoRoom f c (poll-for-reply n out) = ⊥
+NoRoom f c (poll-for-event-with-sequence out) = ⊥
+NoRoom f c (take-closed-fds out) = ⊥
+NoRoom f c (prepare-check-for-reply-or-error n) = ⊥
+NoRoom f c (send-requests bytes) = ⊥
+NoRoom f c (enqueue-packets bytes) = ⊥
+NoRoom f c (poll-for-events out marks) = ⊥
 
 -- ---- What a call adds to what is used, and what it gives back
 

@@ -17,19 +17,21 @@ use Rattle.packet.specs.Packet.{leastPacket, mostPacket}
 use Rattle.held.specs.Head.{headerSize}
 use Rattle.descriptors.specs.Room.{mostDescriptors}
 use Rattle.model.specs.Client.{Held, Client, setNumbers, setOutstanding, used, inside}
-use Rattle.model.specs.Model as Model
 use Rattle.model.specs.Deciding.{filedBy, enqueue-chain}
-use Rattle.model.specs.Model.{hasReply, joining, sendRequest, enqueueFds, takeClosed, packetNumber, askedOf, claimed, enqueuePacket, discardReply, Found, at, find, PollReply, takenBy, pollForReplyOrError, checkedBy, pollCheck, repliedBy, pollForReply, eventBy, pollForEvent}
-use Rattle.model.specs.Calls.{Call, send, enqueue-fds, enqueue, discard, poll, check, poll-reply, prepare, poll-event, take-closed, refused, step}
-use Rattle.model.specs.Promise.{Done, Promise}
+use Rattle.model.specs.Model as Model
+use Rattle.model.specs.Model.{hasReply, joining, sendRequest, enqueueFds, takeClosed, packetNumber, askedOf, claimed, takeIn, enqueuePacket, discardReply, Found, at, find, Taken, PollReply, takenBy, pollForReplyOrError, checkedBy, pollCheck, repliedBy, pollForReply, eventBy, pollForEvent}
+use Rattle.model.specs.Batch.{Turn, goes, stops, Many, onward, onTurn, many, Stop, ended, refused, meaningless, modelTurn}
+use Rattle.model.specs.SendRequests.{sendRequests}
+use Rattle.model.specs.PollForEvents.{turns, Lent, lent, roomFor, handing, eventTurn, Handings, orRefused, handed, pollForEvents}
 use Rattle.model.specs.Reading.{Rooms, reads}
 use Rattle.model.specs.ReadingLaws.{length-out, used-read, inside-read}
 use Rattle.model.specs.Sound.{Sound}
 use Rattle.model.specs.declared.Connection.{Connection}
 use Rattle.model.specs.declared.ReplyFdKind.{ReplyFdKind}
-use Rattle.honest.specs.Public.{Given, modelled}
-use Rattle.ledger.specs.Saying.{says-refused}
-use Rattle.ledger.specs.Promised.{refused-on, refused-past, refused-here, here-refused, promise-by}
+use Rattle.batch.specs.Feed.{enqueuePackets}
+use Rattle.session.specs.Ask.{Ask, enqueue-fds, send-request, enqueue-packet, discard-reply, poll-for-reply-or-error, poll-check-for-reply-or-error, poll-for-reply, poll-for-event-with-sequence, take-closed-fds, prepare-check-for-reply-or-error, send-requests, enqueue-packets, poll-for-events, form, Value, Outputs, Answers}
+use Rattle.session.specs.AskLaws.{keeps}
+use Rattle.ledger.specs.Promised.{refused-on, refused-past, refused-here, here-refused, refused-alone, promise-by}
 use Rattle.ledger.specs.Room.{Filled, filled, kept, SendShort, PacketShort, NoRoom}
 
 -- ---- sending
@@ -130,27 +132,22 @@ module _ (c : Client) (p : List ℕ) where
 -- ---- the others
 
 -- by 8 alone
-eight-alone : {A : Type 0} (b : Bool) (x : A) (k : ℕ) → refuse b 8 (gives x) ≡ refuses k → k ≡ 8
-unfolding refuse
-eight-alone true x k e = cc
-eight-alone false x k e = absurd (let z : _≡_ {A = ℕ} 0 1 = cc in omega arith)
-
 closed-by : (c : Client) (places k : ℕ) → takeClosed c places ≡ refuses k → k ≡ 8
 unfolding takeClosed
-closed-by c places k e = eight-alone _ _ k e
+closed-by c places k e = refused-alone _ 8 _ k e
 
 taken-by : (c : Client) (bytes places k : ℕ) (f : Found) → takenBy c bytes places f ≡ refuses k → k ≡ 8
 taken-by c bytes places k Model.nothing e = absurd (let z : _≡_ {A = ℕ} 0 1 = cc in omega arith)
-taken-by c bytes places k (at h l) e = eight-alone _ _ k e
+taken-by c bytes places k (at h l) e = refused-alone _ 8 _ k e
 
 checked-by : (c : Client) (n bytes k : ℕ) (f : Found) → checkedBy c n bytes f ≡ refuses k → k ≡ 8
 checked-by c n bytes k Model.nothing e = absurd (let z : _≡_ {A = ℕ} 0 1 = cc in omega arith)
-checked-by c n bytes k (at h l) e = eight-alone _ _ k e
+checked-by c n bytes k (at h l) e = refused-alone _ 8 _ k e
 
 replied-choose : (b t : Bool) (x y : PollReply × Client) (k : ℕ) → choose b (gives x) (refuse t 8 (gives y)) ≡ refuses k → k ≡ 8
 unfolding choose
 replied-choose true t x y k q = absurd (let z : _≡_ {A = ℕ} 0 1 = cc in omega arith)
-replied-choose false t x y k q = eight-alone t y k q
+replied-choose false t x y k q = refused-alone t 8 y k q
 
 replied-by : (c : Client) (bytes k : ℕ) (f : Found) → repliedBy c bytes f ≡ refuses k → k ≡ 8
 replied-by c bytes k Model.nothing e = absurd (let z : _≡_ {A = ℕ} 0 1 = cc in omega arith)
@@ -158,47 +155,82 @@ replied-by c bytes k (at h l) e = replied-choose _ _ _ _ k e
 
 event-by : (c : Client) (bytes k : ℕ) (l : List Held) → eventBy c bytes l ≡ refuses k → k ≡ 8
 event-by c bytes k [] e = absurd (let z : _≡_ {A = ℕ} 0 1 = cc in omega arith)
-event-by c bytes k (h ∷ l) e = eight-alone _ _ k e
+event-by c bytes k (h ∷ l) e = refused-alone _ 8 _ k e
 
 never : {A : Type 0} {a : Answer A} → ((k : ℕ) → a ≡ refuses k → k ≡ 8) → (a ≡ refuses 5) ↔ ⊥
 never h = (λ e. (let z = h 5 e in omega arith), λ z. absurd z)
 
+always : {A : Type 0} (x : A) → (gives x ≡ refuses 5) ↔ ⊥
+always x = (λ e. (let z : _≡_ {A = ℕ} 0 1 = cc in omega arith), λ z. absurd z)
+
+-- so a row of polls
+event-stops : (c : Client) (bytes room k : ℕ) → handing room (modelTurn (pollForEvent c bytes)) ≡ stops (refused k) → k ≡ 8
+unfolding handing modelTurn pollForEvent
+event-stops c bytes room k = go (eventBy c bytes (c .events)) (λ n. event-by c bytes n (c .events))
+  where
+    go : (a : Answer (Taken × Client)) → ((n : ℕ) → a ≡ refuses n → n ≡ 8) → handing room (modelTurn a) ≡ stops (refused k) → k ≡ 8
+    go (gives x) by e = taken (x .0) (x .1) e
+      where
+        taken : (v : Taken) (s : Client) → handing room (goes v s) ≡ stops (refused k) → k ≡ 8
+        taken Model.none s q = absurd (let z : _≡_ {A = ℕ} 0 1 = cc in omega arith)
+        taken (Model.packet h) s q = absurd (let z : _≡_ {A = ℕ} 0 1 = cc in omega arith)
+    go (refuses n) by e = by k (let z : n ≡ k = cc in ap refuses z)
+
+row-stops : (t : Lent Client) (xs : List Bool) (k : ℕ) → many eventTurn ended t xs .stopped ≡ refused k → k ≡ 8
+unfolding many onTurn eventTurn
+row-stops t [] k e = absurd (let z : _≡_ {A = ℕ} 0 1 = cc in omega arith)
+row-stops t (b ∷ xs) k e = go (eventTurn t b) refl (λ t'. row-stops t' xs k) e
+  where
+    go : (y : Turn Held Stop (Lent Client)) → y ≡ eventTurn t b → ((t' : Lent Client) → many eventTurn ended t' xs .stopped ≡ refused k → k ≡ 8)
+        → onTurn (λ a s'. onward (a ∷ []) (many eventTurn ended s' xs)) (λ w. record { values = []; stopped = w; end = t }) y .stopped ≡ refused k → k ≡ 8
+    go (goes h t') q on i = on t' i
+    go (stops w) q on i = event-stops (t .at) (roomFor b (t .room)) (t .room) k (sym q ∙ ap stops i)
+
+events-by : (c : Client) (room marks k : ℕ) → pollForEvents c room marks ≡ refuses k → k ≡ 8
+unfolding pollForEvents handed orRefused
+events-by c room marks k e = go (many eventTurn ended (lent c room) (turns marks)) (row-stops (lent c room) (turns marks) k) e
+  where
+    go : (y : Many Held Stop (Lent Client)) → (y .stopped ≡ refused k → k ≡ 8) → handed y ≡ refuses k → k ≡ 8
+    go y by i = by (last (y .values) (y .stopped) i)
+      where
+        last : (vs : List Held) (w : Stop) → orRefused {B = Handings × Client} vs w (gives (record { events = y .values; stopped = y .stopped }, y .end .at)) ≡ refuses k → w ≡ refused k
+        last [] ended q = absurd (let z : _≡_ {A = ℕ} 0 1 = cc in omega arith)
+        last [] (refused n) q = let z : n ≡ k = cc in ap refused z
+        last [] meaningless q = absurd (let z : _≡_ {A = ℕ} 0 1 = cc in omega arith)
+        last (h ∷ vs) w q = absurd (let z : _≡_ {A = ℕ} 0 1 = cc in omega arith)
+
 -- ---- every call
 
-pub model-no-room : (x : Call) (c : Client) → (modelled x c ≡ refuses 5) ↔ NoRoom (filled c) c x
-unfolding discardReply pollForReplyOrError pollCheck pollForReply pollForEvent
-model-no-room (send kind) c = (send-short c kind, short-send c kind)
-model-no-room (enqueue-fds list) c = (fds-short c list, short-fds c list)
-model-no-room (enqueue p) c = (packet-short c p, short-packet c p)
-model-no-room (discard n m) c = (λ e. (let z : _≡_ {A = ℕ} 0 1 = cc in omega arith), λ z. absurd z)
-model-no-room (poll n bytes places) c = never (λ k. taken-by c bytes places k (find n (c .replies)))
-model-no-room (check n bytes) c = never (λ k. checked-by c n bytes k (find n (c .replies)))
-model-no-room (poll-reply n bytes) c = never (λ k. replied-by c bytes k (find n (c .replies)))
-model-no-room (prepare n) c = (λ e. (let z : _≡_ {A = ℕ} 0 1 = cc in omega arith), λ z. absurd z)
-model-no-room (poll-event bytes) c = never (λ k. event-by c bytes k (c .events))
-model-no-room (take-closed places) c = never (λ k. closed-by c places k)
-
--- as it is said
-pub no-room : (c : Client) (x : Call) → (step c x .said ≡ refused 5) ↔ NoRoom (filled c) c x
-no-room c x = (λ e. model-no-room x c .0 (says-refused x c 5 .0 e), λ h. says-refused x c 5 .1 (model-no-room x c .1 h))
-
--- ---- the public calls
+pub no-room : (x : Ask) (c : Client) → (form x .modelled c ≡ refuses 5) ↔ NoRoom (filled c) c x
+unfolding discardReply pollForReplyOrError pollCheck pollForReply pollForEvent sendRequests enqueuePackets
+no-room (send-request kind) c = (send-short c kind, short-send c kind)
+no-room (enqueue-fds list) c = (fds-short c list, short-fds c list)
+no-room (enqueue-packet p) c = (packet-short c p, short-packet c p)
+no-room (discard-reply n mode) c = always _
+no-room (poll-for-reply-or-error n out fds) c = never (λ k. taken-by c (length out) (length fds) k (find n (c .replies)))
+no-room (poll-check-for-reply-or-error n out) c = never (λ k. checked-by c n (length out) k (find n (c .replies)))
+no-room (poll-for-reply n out) c = never (λ k. replied-by c (length out) k (find n (c .replies)))
+no-room (poll-for-event-with-sequence out) c = never (λ k. event-by c (length out) k (c .events))
+no-room (take-closed-fds out) c = never (λ k. closed-by c (length out) k)
+no-room (prepare-check-for-reply-or-error n) c = always _
+no-room (send-requests bytes) c = always _
+no-room (enqueue-packets bytes) c = always _
+no-room (poll-for-events out marks) c = never (λ k. events-by c (length out) (length marks) k)
 
 -- the rooms of a sound state are filled as it is read
 pub kept-filled : (c : Connection) (r : Rooms) → Sound c r → kept c ≡ filled (reads c r)
 kept-filled c r S = sym (λ i. record { requests = length-out c r S i; bytes = used-read c r S i; descriptors = inside-read c r S i })
 
-pub public-no-room : (x : Call) {B : Type 0} (f : Given x → B) (e : Answer (Done (Given x))) (c : Connection) (r : Rooms) (a : Answer (B × Connection)) (r' : Rooms) → Promise f e (modelled x) c r a r'
-    → (a ≡ refuses 5) ↔ (Sound c r × NoRoom (kept c) (reads c r) x)
-public-no-room x f e c r a r' p = (there, back)
+pub call-no-room : (x : Ask) (c : Connection) (r : Rooms) (a : Answer (Value x × Connection)) (r' : Rooms) (o : Outputs x) → Answers x c r a r' o → (a ≡ refuses 5) ↔ (Sound c r × NoRoom (kept c) (reads c r) x)
+call-no-room x c r a r' o h = (there, back)
   where
-    by : (a ≡ refuses 5) ↔ (Sound c r × (modelled x (reads c r) ≡ refuses 5))
-    by = promise-by f e (modelled x) c r a r' p 5 (λ i. omega arith)
+    by : (a ≡ refuses 5) ↔ (Sound c r × (form x .modelled (reads c r) ≡ refuses 5))
+    by = promise-by (form x .shows) _ (form x .modelled) c r a r' (keeps x c r a r' o h .promise) 5 (λ i. omega arith)
 
     there : a ≡ refuses 5 → Sound c r × NoRoom (kept c) (reads c r) x
     there i =
         let z = by .0 i in
-        (z .0, rw (kept-filled c r (z .0)) (model-no-room x (reads c r) .0 (z .1)))
+        (z .0, rw (kept-filled c r (z .0)) (no-room x (reads c r) .0 (z .1)))
 
     back : Sound c r × NoRoom (kept c) (reads c r) x → a ≡ refuses 5
-    back s = by .1 (s .0, model-no-room x (reads c r) .1 (subst (λ (y : Filled). NoRoom y (reads c r) x) (kept-filled c r (s .0)) (s .1)))
+    back s = by .1 (s .0, no-room x (reads c r) .1 (subst (λ (y : Filled). NoRoom y (reads c r) x) (kept-filled c r (s .0)) (s .1)))

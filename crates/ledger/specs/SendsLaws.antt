@@ -25,7 +25,8 @@ use Rattle.connection.specs.Calls.{Opens, Sends}
 use Rattle.connection.specs.Opening.{opens-fresh, opens-sound}
 use Rattle.connection.specs.Theorems.{refusal-leaves}
 use Rattle.honest.specs.Public.{stateOf}
-use Rattle.ledger.specs.Leaving.{send-leaves}
+use Rattle.session.specs.Ask.{send-request}
+use Rattle.session.specs.AskLaws.{goes-sound}
 use Rattle.ledger.specs.Promised.{promise-refuses, promise-gave}
 use Rattle.ledger.specs.RoomLaws.{send-row, false-no-sync}
 use Rattle.ledger.specs.Sends.{mostSends, withoutReply, numbersFrom, sendsOf, allNoRoom, saidOf, SendsRow, none, one}
@@ -149,7 +150,7 @@ says-same : (c : Connection) (r : Rooms) → Sound c r → (kind : ReplyFdKind) 
 unfolding step saidOf stateOf
 says-same c r S kind (gives x) r' h =
     let g = promise-gave same _ (λ m. sendRequest m kind) c r (x .0) (x .1) r' h in
-    record { step-is = rw (g .model) (λ k. record { said = number (sym (g .shown) k); next = reads (x .1) r' }); sound = send-leaves c r (x .1) r' kind (x .0) h }
+    record { step-is = rw (g .model) (λ k. record { said = number (sym (g .shown) k); next = reads (x .1) r' }); sound = goes-sound (send-request kind) tt c r S (gives x) r' tt h }
 says-same c r S kind (refuses n) r' h =
     let e : r' ≡ r = refusal-leaves same _ _ c r n r' h in
     let q : sendRequest (reads c r) kind ≡ refuses n = sym (guarded-on c r (sendRequest (reads c r) kind) (is-sound c r S)) ∙ promise-refuses same _ (λ m. sendRequest m kind) c r (refuses n) r' h n .0 refl in

@@ -1,35 +1,24 @@
--- What counts as state: outcomes as they are read, states that are alike, rows of public calls, and when a part of the state is needed. Definitions only. Assumes nothing.
+-- What counts as state: outcomes as they are read, rows of public calls, and when a part of the state is needed. Definitions only. Assumes nothing.
 use mathlib.Core.Bool.{Bool, true, false}
 use mathlib.Core.List.{List, [], _∷_}
 use mathlib.Core.Path.{_≡_}
-use Prim.Native.Nat.{ℕ, _<_}
-use lib.ListN.{getD, replicate}
-use Rattle.octets.specs.Put.{put}
+use Prim.Native.Nat.{ℕ}
+use lib.ListN.{replicate}
 use Rattle.refusal.specs.Answer.{Answer, gives, refuses}
 use Rattle.requests.specs.declared.Mode.{Mode}
 use Rattle.requests.specs.declared.Mode.the-variants as Mode
 use Rattle.requests.specs.declared.Request.{Request}
 use Rattle.model.specs.Client.{Numbers, Held, Client}
-use Rattle.model.specs.Model.{modeOf, Filing}
+use Rattle.model.specs.Model.{modeOf}
 use Rattle.model.specs.Calls.{Call, run}
+use Rattle.model.specs.Encoding.{InRange, Alike}
 use Rattle.model.specs.Reading.{Rooms, reads}
-use Rattle.model.specs.Says.{Shown, ShownEvent, ShownPoll}
-use Rattle.model.specs.SendRequests.{ShownSendings}
-use Rattle.model.specs.PollForEvents.{ShownHandings}
-use Rattle.model.specs.Feed.{ShownFed}
 use Rattle.model.specs.declared.Connection.{Connection}
 use Rattle.model.specs.declared.DiscardMode.{DiscardMode}
-use Rattle.model.specs.declared.ReplyFdKind.{ReplyFdKind}
-use Rattle.connection.specs.Calls.{Sends, EnqueuesFds, Enqueues, Discards, Polls, Checks, PollsReply, PollsEvent, Closes, Prepares, SendsMany, EnqueuesMany, PollsEvents}
 use Rattle.honest.specs.Public.{stateOf}
-use Rattle.model.specs.Encoding.{InRange, Alike}
+use Rattle.session.specs.Ask.{Ask, Value, Outputs, told, Answers, OfBytes}
 
 -- ---- An outcome as it is read
-
--- what an answer tells, the state apart
-unfoldable pub told : {B : Type 0} → Answer (B × Connection) → Answer B
-told (gives x) = gives (x .0)
-told (refuses n) = refuses n
 
 -- what comes of a call: what it tells, and the state that the caller goes on with
 pub record Seen (B : Type 0) : Type 0 where
@@ -45,10 +34,10 @@ unfoldable pub shownBy : {A B : Type 0} → (A → B) → Client → Answer (A �
 shownBy f m (gives x) = record { answer = gives (f (x .0)); next = x .1 }
 shownBy f m (refuses n) = record { answer = refuses n; next = m }
 
--- a lent output after what the model gives: what g takes of it stands at the start, and a refusal leaves it as found
-unfoldable pub writtenBy : {A : Type 0} → (A → List ℕ) → Answer (A × Client) → List ℕ → List ℕ
-writtenBy g (gives x) out = put out 0 (g (x .0))
-writtenBy g (refuses n) out = out
+-- its outputs after that: with what is given as w says, and after a refusal as they were lent
+unfoldable pub writtenBy : {A O : Type 0} → O → (A → O) → Answer (A × Client) → O
+writtenBy o w (gives x) = w (x .0)
+writtenBy o w (refuses n) = o
 
 -- SAME: two calls, of states c and d, tell the same and leave states that are alike with the rooms r and q that they leave.
 pub record Same {B : Type 0} (c : Connection) (a : Answer (B × Connection)) (r : Rooms) (d : Connection) (b : Answer (B × Connection)) (q : Rooms) : Type 0 where
@@ -56,70 +45,6 @@ pub record Same {B : Type 0} (c : Connection) (a : Answer (B × Connection)) (r 
   pub leaves : Alike (stateOf a c) r (stateOf b d) q
 
 -- ---- Rows of public calls
-
--- every public call that takes a state, with what it is given, its outputs as they are lent among it
-pub data Ask : Type 0 where
-  send-request : ReplyFdKind → Ask
-  enqueue-fds : List ℕ → Ask
-  enqueue-packet : List ℕ → Ask
-  discard-reply : ℕ → DiscardMode → Ask
-  poll-for-reply-or-error : ℕ → List ℕ → List ℕ → Ask
-  poll-check-for-reply-or-error : ℕ → List ℕ → Ask
-  poll-for-reply : ℕ → List ℕ → Ask
-  poll-for-event-with-sequence : List ℕ → Ask
-  take-closed-fds : List ℕ → Ask
-  prepare-check-for-reply-or-error : ℕ → Ask
-  send-requests : List ℕ → Ask
-  enqueue-packets : List ℕ → Ask
-  poll-for-events : List ℕ → List ℕ → Ask
-
--- what its answer has beside the state,
-abbrev pub Value : Ask → Type 0
-Value (send-request kind) = ℕ
-Value (enqueue-fds list) = Unit
-Value (enqueue-packet p) = Filing
-Value (discard-reply n mode) = Unit
-Value (poll-for-reply-or-error n out fds) = Shown
-Value (poll-check-for-reply-or-error n out) = ShownPoll
-Value (poll-for-reply n out) = ShownPoll
-Value (poll-for-event-with-sequence out) = ShownEvent
-Value (take-closed-fds out) = ℕ
-Value (prepare-check-for-reply-or-error n) = Bool
-Value (send-requests bytes) = ShownSendings
-Value (enqueue-packets bytes) = ShownFed
-Value (poll-for-events out marks) = ShownHandings
-
--- and its outputs
-abbrev pub Outputs : Ask → Type 0
-Outputs (send-request kind) = Unit
-Outputs (enqueue-fds list) = Unit
-Outputs (enqueue-packet p) = Unit
-Outputs (discard-reply n mode) = Unit
-Outputs (poll-for-reply-or-error n out fds) = List ℕ × List ℕ
-Outputs (poll-check-for-reply-or-error n out) = List ℕ
-Outputs (poll-for-reply n out) = List ℕ
-Outputs (poll-for-event-with-sequence out) = List ℕ
-Outputs (take-closed-fds out) = List ℕ
-Outputs (prepare-check-for-reply-or-error n) = Unit
-Outputs (send-requests bytes) = Unit
-Outputs (enqueue-packets bytes) = Unit
-Outputs (poll-for-events out marks) = List ℕ × List ℕ
-
--- The call on the state c and rooms r answers a, leaves the rooms r' and its outputs as o, by its promise. What a packet's byte 1 says, and what a run of packets is made of, are bytes. A check is not even lent state and rooms to be written.
-abbrev pub Answers : (x : Ask) → Connection → Rooms → Answer (Value x × Connection) → Rooms → Outputs x → Type 0
-Answers (send-request kind) c r a r' o = Sends c r kind a r'
-Answers (enqueue-fds list) c r a r' o = EnqueuesFds c r list a r'
-Answers (enqueue-packet p) c r a r' o = (getD p 1 0 < 256) × Enqueues c r p a r'
-Answers (discard-reply n mode) c r a r' o = Discards c r n mode a r'
-Answers (poll-for-reply-or-error n out fds) c r a r' o = Polls c r n out fds a r' (o .0) (o .1)
-Answers (poll-check-for-reply-or-error n out) c r a r' o = Checks c r n out a r' o
-Answers (poll-for-reply n out) c r a r' o = PollsReply c r n out a r' o
-Answers (poll-for-event-with-sequence out) c r a r' o = PollsEvent c r out a r' o
-Answers (take-closed-fds out) c r a r' o = Closes c r out a r' o
-Answers (prepare-check-for-reply-or-error n) c r a r' o = Prepares c r n (told a) × (stateOf a c ≡ c) × (r' ≡ r)
-Answers (send-requests bytes) c r a r' o = SendsMany c r bytes a r'
-Answers (enqueue-packets bytes) c r a r' o = ((i : ℕ) → getD bytes i 0 < 256) × EnqueuesMany c r bytes a r'
-Answers (poll-for-events out marks) c r a r' o = PollsEvents c r out marks a r' (o .0) (o .1)
 
 -- what the caller of a call has from it: what it tells, and the outputs
 abbrev pub Heard : Ask → Type 0
@@ -132,7 +57,7 @@ AllHeard (x ∷ xs) = Heard x × AllHeard xs
 -- A ROW of public calls, each given the state and rooms as the one before left them, with what is heard of each; it begins with c and r, and ends with c' and r'.
 pub data Row : (xs : List Ask) → Connection → Rooms → AllHeard xs → Connection → Rooms → Type 0 where
   none : {c : Connection} {r : Rooms} → Row [] c r tt c r
-  call : {c : Connection} {r : Rooms} (x : Ask) (a : Answer (Value x × Connection)) (r' : Rooms) (o : Outputs x) → Answers x c r a r' o → {xs : List Ask} {hs : AllHeard xs} {c' : Connection} {r'' : Rooms} → Row xs (stateOf a c) r' hs c' r''
+  call : {c : Connection} {r : Rooms} (x : Ask) (a : Answer (Value x × Connection)) (r' : Rooms) (o : Outputs x) → OfBytes x → Answers x c r a r' o → {xs : List Ask} {hs : AllHeard xs} {c' : Connection} {r'' : Rooms} → Row xs (stateOf a c) r' hs c' r''
       → Row (x ∷ xs) c r ((told a, o), hs) c' r''
 
 -- ---- Needed

@@ -1,3 +1,5 @@
+pub mod Ask
+pub mod AskLaws
 pub mod Noting
 pub mod Session
 pub mod Rows

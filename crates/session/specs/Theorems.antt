@@ -2,64 +2,40 @@
 use mathlib.Core.Bool.{false}
 use mathlib.Core.List.{List, _∷_}
 use mathlib.Core.Logic.{_⊎_}
-use mathlib.Core.Path.{_≡_, sym, subst}
+use mathlib.Core.Path.{_≡_}
 use Prim.Native.Nat.{ℕ}
 use lib.ListN.{length}
-use Rattle.refusal.specs.Answer.{Answer, gives, refuses, gives-same}
+use Rattle.refusal.specs.Answer.{Answer, gives, refuses}
 use Rattle.packet.specs.Packet.{codeOf, unnumbered}
-use Rattle.model.specs.Client.{Held, Client}
+use Rattle.model.specs.Client.{Held}
 use Rattle.model.specs.Model.{hasReply, Filing, packet, pollForEvent}
 use Rattle.model.specs.Calls as Calls
-use Rattle.model.specs.Promise.{Done, Promise, same}
+use Rattle.model.specs.Promise.{Promise, same}
 use Rattle.model.specs.Reading.{Rooms, reads}
 use Rattle.model.specs.Says.{shownTaken, shownEvent, shownPoll}
 use Rattle.model.specs.Sound.{Sound, is-sound}
-use Rattle.model.specs.SendRequests.{kindOf, shownSendings}
-use Rattle.model.specs.PollForEvents.{shownHandings}
-use Rattle.model.specs.Feed.{shownFed}
+use Rattle.model.specs.SendRequests.{kindOf}
 use Rattle.model.specs.declared.Connection.{Connection}
-use Rattle.sending.specs.Theorems as Sending
 use Rattle.intake.specs.Exact.{enqueueExact}
-use Rattle.intake.specs.Theorems as Intake
-use Rattle.discarding.specs.Theorems.{discard-leaves}
 use Rattle.polling.specs.Exact.{eventExact}
-use Rattle.polling.specs.Theorems as Polling
-use Rattle.batch.specs.Theorems as Batch
-use Rattle.batch.specs.FeedLaws.{feed-sound}
 use Rattle.connection.specs.Calls.{Sends, Enqueues}
 use Rattle.connection.specs.Opening.{opens-fresh, opens-sound}
-use Rattle.connection.specs.Theorems.{refusal-leaves, state-sound}
 use Rattle.honest.specs.Run.{Entry, sent, noteSent, noteTook, Fair, Honest, Right, Filed, Bears, Holds}
 use Rattle.honest.specs.Public.{stateOf, Public, opens, sends, takes, others}
 use Rattle.honest.specs.Theorems as Any
-use Rattle.session.specs.Session.{Session, new, send-request, enqueue-fds, enqueue-packet, discard-reply, poll-for-reply-or-error, poll-check-for-reply-or-error, poll-for-reply, poll-for-event, take-closed-fds, send-requests, enqueue-packets, poll-for-events, prepare-check}
+use Rattle.session.specs.Ask.{Ask, send-request, enqueue-fds, enqueue-packet, discard-reply, poll-for-reply-or-error, poll-check-for-reply-or-error, poll-for-reply, poll-for-event-with-sequence, take-closed-fds, prepare-check-for-reply-or-error, send-requests, enqueue-packets, poll-for-events, Value, Outputs, Answers, OfBytes}
+use Rattle.session.specs.AskLaws.{keeps, goes-sound}
+use Rattle.session.specs.Noting.{next}
+use Rattle.session.specs.Session.{logged, Session, new, call}
 use Rattle.session.specs.Rows.{sends-row, events-row}
 use Rattle.session.specs.FeedRow.{feed-row}
 
 -- ---- Soundness
 
-module _ {A B : Type 0} (f : A → B) (e : Answer (Done A)) (m : Client → Answer (A × Client)) (c : Connection) (r : Rooms) (law : Sound c r → (d : Done A) → gives d ≡ e → Sound (d .state) (d .left)) (S : Sound c r) where
-  keeps : (a : Answer (B × Connection)) (r' : Rooms) → Promise f e m c r a r' → Sound (stateOf a c) r'
-  unfolding stateOf
-  keeps (gives x) r' h = state-sound f e m c r law (x .0) (x .1) r' h
-  keeps (refuses n) r' h = subst (λ (y : Rooms). Sound c y) (sym (refusal-leaves f e m c r n r' h)) S
-
 -- SOUND: state and rooms are sound at any time, so that no call of a session is refused by 9.
 pub session-sound : {c : Connection} {r : Rooms} {l : List Entry} → Session c r l → Sound c r
 session-sound (new o r c h) = opens-sound o r c h
-session-sound (send-request {c = c} {r = r} kind a r' h k) = keeps same _ _ c r (λ S. Sending.send-sound c r S kind) (session-sound k) a r' h
-session-sound (enqueue-fds {c = c} {r = r} list a r' h k) = keeps same _ _ c r (λ S. Sending.enqueue-sound c r S list) (session-sound k) a r' h
-session-sound (enqueue-packet {c = c} {r = r} t p b a r' h k) = keeps (λ f. f) _ _ c r (λ S. Intake.enqueue-sound c r S p b) (session-sound k) a r' h
-session-sound (discard-reply {c = c} {r = r} n mode a r' h k) = keeps same _ _ c r (λ S d e. subst (λ (y : Done Unit). Sound (y .state) (y .left)) (gives-same (sym e)) (discard-leaves c r S n mode)) (session-sound k) a r' h
-session-sound (poll-for-reply-or-error {c = c} {r = r} n out fds a r' out' fds' h k) = keeps shownTaken _ _ c r (λ S. Polling.taken-leaves c r S n (length out) (length fds)) (session-sound k) a r' (h .packet .promise)
-session-sound (poll-check-for-reply-or-error {c = c} {r = r} n out a r' out' h k) = keeps shownPoll _ _ c r (λ S. Polling.checked-leaves c r S n (length out)) (session-sound k) a r' (h .promise)
-session-sound (poll-for-reply {c = c} {r = r} n out a r' out' h k) = keeps shownPoll _ _ c r (λ S. Polling.replied-leaves c r S n (length out)) (session-sound k) a r' (h .promise)
-session-sound (poll-for-event {c = c} {r = r} out a r' out' h k) = keeps shownEvent _ _ c r (λ S. Polling.event-leaves c r S (length out)) (session-sound k) a r' (h .promise)
-session-sound (take-closed-fds {c = c} {r = r} out a r' out' h k) = keeps length _ _ c r (λ S. Sending.close-sound c r S (length out)) (session-sound k) a r' (h .promise)
-session-sound (send-requests {c = c} {r = r} bytes a r' h k) = keeps shownSendings _ _ c r (λ S. Batch.sends-sound c r S bytes) (session-sound k) a r' h
-session-sound (enqueue-packets {c = c} {r = r} ts bytes b a r' h k) = keeps shownFed _ _ c r (λ S. feed-sound c r S bytes b) (session-sound k) a r' h
-session-sound (poll-for-events {c = c} {r = r} out marks a r' out' marks' h k) = keeps shownHandings _ _ c r (λ S. Batch.events-sound c r S (length out) (length marks)) (session-sound k) a r' (h .packets .promise)
-session-sound (prepare-check n a h k) = session-sound k
+session-sound (call {c = c} {r = r} x b ts a r' o h k) = goes-sound x b c r (session-sound k) a r' o h
 
 -- ---- True numbers
 
@@ -77,24 +53,27 @@ events-on : (c : Connection) (r : Rooms) (l : List Entry) (bytes : ℕ) (h : Hel
 unfolding stateOf
 events-on c r l bytes h c' r' q p = others (Calls.poll-event bytes) tt shownEvent _ (gives (shownEvent (packet h), c')) r' q p
 
+-- a call of a session, as the runs of public calls have it
+call-public : {c : Connection} {r : Rooms} {l : List Entry} (x : Ask) → OfBytes x → (ts : List ℕ) (a : Answer (Value x × Connection)) (r' : Rooms) (o : Outputs x) → Answers x c r a r' o → Sound c r → Public c r l
+    → Public (stateOf a c) r' (logged x ts (reads c r) a l)
+call-public (send-request kind) b ts a r' o h S k = sends kind _ a r' h k
+call-public (enqueue-fds list) b ts a r' o h S k = others (Calls.enqueue-fds list) tt same _ a r' h k
+call-public (enqueue-packet p) b ts a r' o h S k = takes (next ts) p _ a r' h k
+call-public (discard-reply n mode) b ts a r' o h S k = others (Calls.discard n mode) tt same _ a r' h k
+call-public (poll-for-reply-or-error n out fds) b ts a r' o h S k = others (Calls.poll n (length out) (length fds)) tt shownTaken _ a r' (h .packet .promise) k
+call-public (poll-check-for-reply-or-error n out) b ts a r' o h S k = others (Calls.check n (length out)) tt shownPoll _ a r' (h .promise) k
+call-public (poll-for-reply n out) b ts a r' o h S k = others (Calls.poll-reply n (length out)) tt shownPoll _ a r' (h .promise) k
+call-public (poll-for-event-with-sequence out) b ts a r' o h S k = others (Calls.poll-event (length out)) tt shownEvent _ a r' (h .promise) k
+call-public (take-closed-fds out) b ts a r' o h S k = others (Calls.take-closed (length out)) tt length _ a r' (h .promise) k
+call-public {c = c} {r = r} (prepare-check-for-reply-or-error n) b ts a r' o h S k = others (Calls.prepare n) tt same _ a r' (keeps (prepare-check-for-reply-or-error n) c r a r' o h .promise) k
+call-public {c = c} {r = r} {l = l} (send-requests bytes) b ts a r' o h S k = sends-row Public (λ c r l S p byte n c' r' q. sends-on c r l byte n c' r' q p) c r l S k bytes a r' h
+call-public {c = c} {r = r} {l = l} (enqueue-packets bytes) b ts a r' o h S k = feed-row Public (λ c r l S k t p b f c' r' q. packets-on c r l t p f c' r' q k) c r l S k ts bytes b a r' h
+call-public {c = c} {r = r} {l = l} (poll-for-events out marks) b ts a r' o h S k =
+    events-row (λ c r. Public c r l) (λ c r S p bytes h c' r' q. events-on c r l bytes h c' r' q p) c r S k out marks a r' (o .0) (o .1) h
+
 pub session-public : {c : Connection} {r : Rooms} {l : List Entry} → Session c r l → Public c r l
 session-public (new o r c h) = opens o _ _ (opens-fresh o r c h)
-session-public (send-request kind a r' h k) = sends kind _ a r' h (session-public k)
-session-public (enqueue-fds list a r' h k) = others (Calls.enqueue-fds list) tt same _ a r' h (session-public k)
-session-public (enqueue-packet t p b a r' h k) = takes t p _ a r' h (session-public k)
-session-public (discard-reply n mode a r' h k) = others (Calls.discard n mode) tt same _ a r' h (session-public k)
-session-public (poll-for-reply-or-error n out fds a r' out' fds' h k) = others (Calls.poll n (length out) (length fds)) tt shownTaken _ a r' (h .packet .promise) (session-public k)
-session-public (poll-check-for-reply-or-error n out a r' out' h k) = others (Calls.check n (length out)) tt shownPoll _ a r' (h .promise) (session-public k)
-session-public (poll-for-reply n out a r' out' h k) = others (Calls.poll-reply n (length out)) tt shownPoll _ a r' (h .promise) (session-public k)
-session-public (poll-for-event out a r' out' h k) = others (Calls.poll-event (length out)) tt shownEvent _ a r' (h .promise) (session-public k)
-session-public (take-closed-fds out a r' out' h k) = others (Calls.take-closed (length out)) tt length _ a r' (h .promise) (session-public k)
-session-public (send-requests {c = c} {r = r} {l = l} bytes a r' h k) =
-    sends-row Public (λ c r l S p byte n c' r' q. sends-on c r l byte n c' r' q p) c r l (session-sound k) (session-public k) bytes a r' h
-session-public (enqueue-packets {c = c} {r = r} {l = l} ts bytes b a r' h k) =
-    feed-row Public (λ c r l S k t p b f c' r' q. packets-on c r l t p f c' r' q k) c r l (session-sound k) (session-public k) ts bytes b a r' h
-session-public (poll-for-events {c = c} {r = r} {l = l} out marks a r' out' marks' h k) =
-    events-row (λ c r. Public c r l) (λ c r S p bytes h c' r' q. events-on c r l bytes h c' r' q p) c r (session-sound k) (session-public k) out marks a r' out' marks' h
-session-public (prepare-check n a h k) = session-public k
+session-public (call x b ts a r' o h k) = call-public x b ts a r' o h (session-sound k) (session-public k)
 
 -- TRUE NUMBERS: with an honest server the number of each packet taken in is its true one, however long the session is.
 pub session-true : {c : Connection} {r : Rooms} {l : List Entry} → Session c r l → Honest (c .order) l → Right l
