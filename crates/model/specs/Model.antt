@@ -17,7 +17,7 @@ use Rattle.requests.specs.declared.Mode.{Mode}
 use Rattle.requests.specs.declared.Mode.the-variants as Mode
 use Rattle.held.specs.Head.{headerSize, leastPacket, mostPacket, mostStore}
 use Rattle.descriptors.specs.Room.{mostDescriptors}
-use Rattle.model.specs.Client.{Held, Client, setNumbers, setOutstanding, setReplies, setEvents, setWaiting, setClosing, first, used, descriptorsOf, inside}
+use Rattle.model.specs.Client.{Held, Client, setNumbers, setOutstanding, setReplies, setEvents, setWaiting, setClosing, setDescriptors, arriving, first, used, descriptorsOf, inside}
 use Rattle.model.specs.declared.ReplyFdKind.{ReplyFdKind}
 use Rattle.model.specs.declared.ReplyFdKind.the-variants as ReplyFdKind
 use Rattle.model.specs.declared.DiscardMode.{DiscardMode}
@@ -172,7 +172,7 @@ takeIn c p n a =
     let k = claimed p a in
     refuse (ltb (length (c .waiting)) k) 4
     (refuse (both (isHeld place) (ltb (c .most-bytes) (used c + (headerSize + length p)))) 5
-    (gives (record { place = place; number = n }, filed place (record { number = n; packet = p; descriptors = take k (c .waiting) }) (setWaiting (numbered c p n) (drop k (c .waiting))))))
+    (gives (record { place = place; number = n }, filed place (arriving c p n k) (setWaiting (numbered c p n) (drop k (c .waiting))))))
 
 -- `enqueue_packet`: 1, 2, 3, 4, 5
 unfoldable pub enqueuePacket : Client → List ℕ → Answer (Filing × Client)
@@ -212,7 +212,7 @@ abbrev pub isError : Held → Bool
 isError h = eqb (codeOf (h .packet)) errorCode
 
 abbrev pub asEvent : Held → Held
-asEvent h = record { number = h .number; packet = h .packet; descriptors = [] }
+asEvent h = setDescriptors h []
 
 unfoldable pub errorsOf : List Held → List Held
 errorsOf [] = []
