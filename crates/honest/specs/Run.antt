@@ -4,11 +4,10 @@ use mathlib.Core.List.{List, [], _∷_, _++_}
 use mathlib.Core.Logic.{_⊎_}
 use mathlib.Core.Path.{_≡_}
 use Prim.Native.Nat.{ℕ, _+_, _%_, _≤_, _<_}
-use lib.ListN.{take}
 use Rattle.octets.specs.Logic.{choose}
 use Rattle.refusal.specs.Answer.{Answer, gives, refuses}
 use Rattle.sequence.specs.Numbering.{wireValues}
-use Rattle.model.specs.Client.{Held, Client}
+use Rattle.model.specs.Client.{Held, Client, arriving}
 use Rattle.packet.specs.Packet.{codeOf, unnumbered, wireOf}
 use Rattle.model.specs.Model.{fresh, hasReply, sendRequest, askedOf, claimed, Filing, enqueuePacket}
 use Rattle.model.specs.Calls.{Call, send, enqueue-fds, enqueue, discard, poll, check, poll-reply, prepare, poll-event, take-closed, Said, step}
@@ -120,7 +119,7 @@ Lands Place.Dropped h c c' = (c' .replies ≡ c .replies) × (c' .events ≡ c .
 
 -- the record of a packet under the number n, with the descriptors that it takes
 abbrev pub heldAs : Client → List ℕ → ℕ → Held
-heldAs c p n = record { number = n; packet = p; descriptors = take (claimed p (askedOf c n)) (c .waiting) }
+heldAs c p n = arriving c p n (claimed p (askedOf c n))
 
 -- "filed under its true number, or if dropped was reckoned by it": t is the number that the engine says, the last read, and that of the record, which has the packet whole.
 pub record Filed (c : Client) (p : List ℕ) (t : ℕ) (x : Filing × Client) : Type 0 where

@@ -16,7 +16,7 @@ use Rattle.refusal.specs.Answer.{gives, refuse, pass}
 use Rattle.sequence.specs.Numbering.{lastNumber, wireValues}
 use Rattle.packet.specs.Packet.{unnumbered, wireOf}
 use Rattle.requests.specs.declared.Request.{Request}
-use Rattle.model.specs.Client.{Client, costs, setNumbers, setOutstanding, setReplies}
+use Rattle.model.specs.Client.{Client, heldPacket, costs, setNumbers, setOutstanding, setReplies}
 use Rattle.model.specs.Model as Model
 use Rattle.model.specs.Model.{fresh, joining, sendRequest, Filing, somebody, packetNumber, enqueuePacket, packet, pollForReplyOrError}
 use Rattle.model.specs.Calls.{Call, send, enqueue-fds, enqueue, discard, poll, check, poll-reply, prepare, poll-event, take-closed, Said, number, done, filed, absent, answer, closed, refused, step, run}
@@ -58,7 +58,7 @@ abbrev brings : ℕ → List ℕ → Move
 brings t p = record { call = enqueue p; true-number = t }
 
 abbrev heldAt : ℕ → List ℕ → List ℕ → Said
-heldAt n p fds = Calls.took (record { number = n; packet = p; descriptors = fds })
+heldAt n p fds = Calls.took (heldPacket n p fds)
 
 -- Four requests; an event and a KeymapNotify fill the store; a reply is refused, an event is polled, and the reply is offered again; then an error, a reply with a descriptor, one that is discarded, and an event that is refused once.
 abbrev moves : List Move
@@ -128,7 +128,7 @@ abbrev replyTo : ℕ → List ℕ
 replyTo t = packetOf 1 0 (t % wireValues)
 
 abbrev tookOne : ℕ → Client
-tookOne n = setReplies (between n (last ∷ [])) (record { number = n; packet = replyTo n; descriptors = [] } ∷ [])
+tookOne n = setReplies (between n (last ∷ [])) (heldPacket n (replyTo n) [] ∷ [])
 
 abbrev inReplies : ℕ → Filing
 inReplies n = record { place = Replies; number = n }
@@ -158,7 +158,7 @@ module _ (n : ℕ) (rest : List Request) (short : length rest ≤ 1) (fewer : le
       let m : max (n + 1) (n + 1) ≡ n + 1 = omega arith in
       rw (e, asked-one, way, drop-at rest (last ∷ []) (length rest) refl, m)
 
-poll-one : (n : ℕ) → pollForReplyOrError (tookOne n) n 32 0 ≡ gives (packet (record { number = n; packet = replyTo n; descriptors = [] }), between n (last ∷ []))
+poll-one : (n : ℕ) → pollForReplyOrError (tookOne n) n 32 0 ≡ gives (packet (heldPacket n (replyTo n) []), between n (last ∷ []))
 unfolding computing
 poll-one n = rw (eq-eqb n n refl)
 

@@ -14,7 +14,7 @@ use Rattle.held.specs.Rows.{fdsIn-append}
 use Rattle.held.specs.Theorems as Held
 use Rattle.descriptors.specs.Room as Slots
 use Rattle.descriptors.specs.Theorems as Fds
-use Rattle.model.specs.Client.{setWaiting}
+use Rattle.model.specs.Client.{heldPacket, arriving, setWaiting}
 use Rattle.model.specs.Model.{isHeld, filed}
 use Rattle.model.specs.Reading.{Rooms, withDescriptors, eventOf, slotsOf, reads}
 use Rattle.model.specs.ReadingLaws.{with-append, with-more}
@@ -36,7 +36,7 @@ pub record Fine (c : Connection) (place : Place) (k n : ℕ) : Type 0 where
 
 -- one record more, with the descriptors that stand behind all others
 with-one : (a : List Record.Held) (h : Record.Held) (fds more : List ℕ) → Store.fdsIn a ≡ length fds
-    → withDescriptors (a ++ (h ∷ [])) (fds ++ more) ≡ withDescriptors a fds ++ (record { number = h .number; packet = h .packet; descriptors = take (h .fds) more } ∷ [])
+    → withDescriptors (a ++ (h ∷ [])) (fds ++ more) ≡ withDescriptors a fds ++ (heldPacket (h .number) (h .packet) (take (h .fds) more) ∷ [])
 unfolding withDescriptors
 with-one a h fds more e =
     with-append a (h ∷ []) (fds ++ more)
@@ -76,7 +76,7 @@ module _ (c : Connection) (r : Rooms) (S : Sound c r) where
           (ap Store.fdsIn (reply-done .own) ∙ fds-one (Store.replies (c .window) (r .store)) rec ∙ ap (λ (x : ℕ). x + k) (S .descriptors))
 
       reply-read : reads (filedAs Place.Replies c r k p .state) (filedAs Place.Replies c r k p .left)
-          ≡ filed Place.Replies (record { number = c .read; packet = p; descriptors = take k (reads c r .waiting) }) (setWaiting (reads c r) (drop k (reads c r .waiting)))
+          ≡ filed Place.Replies (arriving (reads c r) p (c .read) k) (setWaiting (reads c r) (drop k (reads c r .waiting)))
       unfolding reads
       reply-read =
           let L = Fds.hold-lists (slotsOf c r) (slots-there c r S) k some in
@@ -87,7 +87,7 @@ module _ (c : Connection) (r : Rooms) (S : Sound c r) where
           moved-read c r (appended (c .window) (r .store) rec) (Slots.hold k (slotsOf c r)) _ _ _ _
           ((λ i. withDescriptors (reply-done .own i) (L .holding-is i))
           ∙ with-one old rec fds (take k wait) f
-          ∙ ap (λ (x : List ℕ). withDescriptors old fds ++ (record { number = c .read; packet = p; descriptors = x } ∷ [])) (take-take k k wait (omega arith)))
+          ∙ ap (λ (x : List ℕ). withDescriptors old fds ++ (heldPacket (c .read) p x ∷ [])) (take-take k k wait (omega arith)))
           (ap (map eventOf) (reply-done .other Record.event (λ q. omega arith)))
           (L .waiting-is) (L .closing-is)
 
@@ -103,7 +103,7 @@ module _ (c : Connection) (r : Rooms) (S : Sound c r) where
         (ap Store.fdsIn (event-done .other Record.reply (λ q. omega arith)) ∙ S .descriptors)
 
     event-read : (k : ℕ) → reads (filedAs Place.Events c r k p .state) (filedAs Place.Events c r k p .left)
-        ≡ filed Place.Events (record { number = c .read; packet = p; descriptors = take 0 (reads c r .waiting) }) (setWaiting (reads c r) (drop 0 (reads c r .waiting)))
+        ≡ filed Place.Events (arriving (reads c r) p (c .read) 0) (setWaiting (reads c r) (drop 0 (reads c r .waiting)))
     unfolding reads
     event-read k =
         moved-read c r (appended (c .window) (r .store) ev) (slotsOf c r) _ _ _ _
@@ -120,7 +120,7 @@ module _ (c : Connection) (r : Rooms) (S : Sound c r) where
         moved-sound c r S (record { window = c .window; store = r .store }) (Slots.closeWaiting k (slotsOf c r)) refl store-sound (Fds.closeWaiting-sound (slotsOf c r) (slots-there c r S) k some) (S .descriptors)
 
     dropped-read : reads (filedAs Place.Dropped c r k p .state) (filedAs Place.Dropped c r k p .left)
-        ≡ filed Place.Dropped (record { number = c .read; packet = p; descriptors = take k (reads c r .waiting) }) (setWaiting (reads c r) (drop k (reads c r .waiting)))
+        ≡ filed Place.Dropped (arriving (reads c r) p (c .read) k) (setWaiting (reads c r) (drop k (reads c r .waiting)))
     unfolding reads
     dropped-read =
         let L = Fds.closeWaiting-lists (slotsOf c r) (slots-there c r S) k some in
@@ -138,9 +138,9 @@ module _ (c : Connection) (r : Rooms) (S : Sound c r) where
 
     -- and does as the model; an event claims nothing.
     pub filed-read : (place : Place) → (place ≡ Place.Events → k ≡ 0) → Fine c place k (length p) → reads (filedAs place c r k p .state) (filedAs place c r k p .left)
-        ≡ filed place (record { number = c .read; packet = p; descriptors = take k (reads c r .waiting) }) (setWaiting (reads c r) (drop k (reads c r .waiting)))
+        ≡ filed place (arriving (reads c r) p (c .read) k) (setWaiting (reads c r) (drop k (reads c r .waiting)))
     filed-read Place.Replies z F = reply-read p (F .least) (F .most) (F .room refl) k (F .some) (F .byte)
     filed-read Place.Events z F =
         event-read p (F .least) (F .most) (F .room refl) k
-        ∙ ap (λ (m : ℕ). filed Place.Events (record { number = c .read; packet = p; descriptors = take m (reads c r .waiting) }) (setWaiting (reads c r) (drop m (reads c r .waiting)))) (sym (z refl))
+        ∙ ap (λ (m : ℕ). filed Place.Events (arriving (reads c r) p (c .read) m) (setWaiting (reads c r) (drop m (reads c r .waiting)))) (sym (z refl))
     filed-read Place.Dropped z F = dropped-read p k (F .some)

@@ -10,7 +10,7 @@ use Rattle.packet.specs.Packet.{codeOf}
 use Rattle.held.specs.Theorems as Held
 use Rattle.descriptors.specs.Theorems as Fds
 use Rattle.packet.specs.Laws.{number-bounds}
-use Rattle.model.specs.Client.{Client, setWaiting}
+use Rattle.model.specs.Client.{Client, arriving, setWaiting}
 use Rattle.model.specs.Model.{claimed, filed, Filing, numbered, Task, takeIn, enqueuePacket}
 use Rattle.model.specs.Model as Model
 use Rattle.model.specs.Reading.{Rooms, slotsOf, reads}
@@ -75,7 +75,7 @@ module _ (c : Connection) (r : Rooms) (S : Sound c r) (p : List ℕ) (byte : get
         filed-value (t .place) (next (t .number) (P .number)) r (t .claimed) p i,
         (filed-read (next (t .number) (P .number)) r (next-sound (t .number) (P .number)) p (t .claimed) (t .place) none (fine t P)
         ∙ ap
-        (λ (x : Client). filed (t .place) (record { number = t .number; packet = p; descriptors = take (t .claimed) (x .waiting) }) (setWaiting x (drop (t .claimed) (x .waiting))))
+        (λ (x : Client). filed (t .place) (arriving x p (t .number) (t .claimed)) (setWaiting x (drop (t .claimed) (x .waiting))))
         (numbered-read c r S (t .number) p)) i,
       )
 

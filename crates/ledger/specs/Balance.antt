@@ -10,7 +10,7 @@ use Rattle.octets.specs.Logic.{choose}
 use Rattle.refusal.specs.Answer.{Answer, refuse, pass}
 use Rattle.descriptors.specs.Room.{count}
 use Rattle.descriptors.specs.Counting.{count-append, count-split}
-use Rattle.model.specs.Client.{Held, Client, setReplies, setEvents, setWaiting, setClosing, descriptorsOf}
+use Rattle.model.specs.Client.{Held, Client, setReplies, setEvents, setWaiting, setClosing, descriptorsOf, arriving}
 use Rattle.model.specs.Deciding.{enqueue-chain}
 use Rattle.model.specs.Model as Model
 use Rattle.packet.specs.Packet.{codeOf}
@@ -177,7 +177,7 @@ balances-discard f c n m d = ap (λ (k : ℕ). k + count d []) (discarding-withi
 -- the first k that wait leave the queue, for the replies or the close list
 module _ (c : Client) (p : List ℕ) (n k : ℕ) where
   abbrev record-of : Held
-  record-of = record { number = n; packet = p; descriptors = take k (c .waiting) }
+  record-of = arriving c p n k
 
   abbrev waited : Client
   waited = setWaiting (numbered c p n) (drop k (c .waiting))

@@ -19,7 +19,7 @@ use Rattle.requests.specs.declared.Mode.the-variants as Mode
 use Rattle.packet.specs.Packet.{leastPacket, mostPacket, unnumbered, numberAfter}
 use Rattle.held.specs.Head.{mostStore}
 use Rattle.descriptors.specs.Room.{mostDescriptors}
-use Rattle.model.specs.Client.{Held, Client, used, costs, descriptorsOf, inside}
+use Rattle.model.specs.Client.{Held, Client, heldPacket, used, costs, descriptorsOf, inside}
 use Rattle.model.specs.Model as Model
 use Rattle.model.specs.Model.{leastStore, joining}
 use Rattle.model.specs.Calls.{Call, send, enqueue, poll, check, prepare, poll-event, take-closed, Said, number, filed, nothing, took, again, absent, answer, closed, refused, step, run}
@@ -130,11 +130,8 @@ event = packet 2 0 1
 abbrev zeros : List ℕ
 zeros = replicate 32 0
 
-abbrev heldAs : ℕ → List ℕ → List ℕ → Held
-heldAs n p fds = record { number = n; packet = p; descriptors = fds }
-
 abbrev held : List ℕ → List ℕ → Held
-held p fds = heldAs 1 p fds
+held p fds = heldPacket 1 p fds
 
 -- packets that are handed out, and are not the same
 module _ (h k : Held) where
@@ -171,10 +168,10 @@ each-needed = (
   needed withDiscard DiscardReply DiscardReplyAndError (enqueue error ∷ []) (filed Events 1 ∷ []) (filed Dropped 1 ∷ []) refl refl refl refl (λ e. let z : _≡_ {A = ℕ} 0 1 = cc in omega arith),
   needed withReplies [] (held reply [] ∷ []) (poll 1 32 0 ∷ []) (nothing ∷ []) (took (held reply []) ∷ []) refl refl refl refl (λ e. let z : _≡_ {A = ℕ} 0 1 = cc in omega arith),
   needed withEvents [] (held event [] ∷ []) (poll-event 32 ∷ []) (nothing ∷ []) (took (held event []) ∷ []) refl refl refl refl (λ e. let z : _≡_ {A = ℕ} 0 1 = cc in omega arith),
-  needed withNumber 0 1 (poll-event 32 ∷ []) (took (heldAs 0 zeros []) ∷ []) (took (heldAs 1 zeros []) ∷ []) refl refl refl refl (number-apart (heldAs 0 zeros []) (heldAs 1 zeros []) (λ l. omega arith)),
+  needed withNumber 0 1 (poll-event 32 ∷ []) (took (heldPacket 0 zeros []) ∷ []) (took (heldPacket 1 zeros []) ∷ []) refl refl refl refl (number-apart (heldPacket 0 zeros []) (heldPacket 1 zeros []) (λ l. omega arith)),
   needed withPacket event error (poll-event 32 ∷ []) (took (held event []) ∷ []) (took (held error []) ∷ []) refl refl refl refl (packet-apart (held event []) (held error []) (λ l. let z : _≡_ {A = ℕ} 2 0 = cc in omega arith)),
   needed withHeld (8 ∷ []) (9 ∷ []) (poll 1 32 1 ∷ []) (took (held zeros (8 ∷ [])) ∷ []) (took (held zeros (9 ∷ [])) ∷ []) refl refl refl refl (descriptors-apart (held zeros (8 ∷ [])) (held zeros (9 ∷ [])) (λ l. let z : _≡_ {A = ℕ} 8 9 = cc in omega arith)),
-  needed withTurn true false (poll-event 32 ∷ []) (took (heldAs 0 zeros []) ∷ []) (took (heldAs 1 zeros []) ∷ []) refl refl refl refl (number-apart (heldAs 0 zeros []) (heldAs 1 zeros []) (λ l. omega arith)),
+  needed withTurn true false (poll-event 32 ∷ []) (took (heldPacket 0 zeros []) ∷ []) (took (heldPacket 1 zeros []) ∷ []) refl refl refl refl (number-apart (heldPacket 0 zeros []) (heldPacket 1 zeros []) (λ l. omega arith)),
   needed withWaiting (7 ∷ []) (8 ∷ []) (enqueue reply ∷ poll 1 32 1 ∷ []) (filed Replies 1 ∷ took (held reply (7 ∷ [])) ∷ []) (filed Replies 1 ∷ took (held reply (8 ∷ [])) ∷ []) refl refl refl refl (λ e. filed-apart (held reply (7 ∷ [])) (held reply (8 ∷ [])) (λ l. let z : _≡_ {A = ℕ} 7 8 = cc in omega arith) e),
   needed withClosing [] (7 ∷ []) (take-closed 9 ∷ []) (closed [] ∷ []) (closed (7 ∷ []) ∷ []) refl refl refl refl (λ e. let z : _≡_ {A = ℕ} 0 1 = cc in omega arith),
 )

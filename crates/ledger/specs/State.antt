@@ -8,7 +8,7 @@ use Rattle.refusal.specs.Answer.{Answer, gives, refuses}
 use Rattle.requests.specs.declared.Mode.{Mode}
 use Rattle.requests.specs.declared.Mode.the-variants as Mode
 use Rattle.requests.specs.declared.Request.{Request}
-use Rattle.model.specs.Client.{Numbers, Held, Client}
+use Rattle.model.specs.Client.{Numbers, Held, Client, heldPacket}
 use Rattle.model.specs.Model.{modeOf}
 use Rattle.model.specs.Calls.{Call, run}
 use Rattle.model.specs.Encoding.{InRange, Alike}
@@ -119,21 +119,18 @@ abbrev pub withEvents : List Held → Client
 withEvents l = client 108 4 500 (at 1 1 1) (asked true Mode.Keep) [] l (7 ∷ []) []
 
 -- of a held record, its number, its packet and a reply's descriptors; of two their order
-abbrev holding : ℕ → List ℕ → List ℕ → Held
-holding n p fds = record { number = n; packet = p; descriptors = fds }
-
 abbrev pub withNumber : ℕ → Client
-withNumber n = withEvents (holding n (replicate 32 0) [] ∷ [])
+withNumber n = withEvents (heldPacket n (replicate 32 0) [] ∷ [])
 
 abbrev pub withPacket : List ℕ → Client
-withPacket p = withEvents (holding 1 p [] ∷ [])
+withPacket p = withEvents (heldPacket 1 p [] ∷ [])
 
 abbrev pub withHeld : List ℕ → Client
-withHeld fds = withReplies (holding 1 (replicate 32 0) fds ∷ [])
+withHeld fds = withReplies (heldPacket 1 (replicate 32 0) fds ∷ [])
 
 abbrev pub withTurn : Bool → Client
-withTurn true = withEvents (holding 0 (replicate 32 0) [] ∷ holding 1 (replicate 32 0) [] ∷ [])
-withTurn false = withEvents (holding 1 (replicate 32 0) [] ∷ holding 0 (replicate 32 0) [] ∷ [])
+withTurn true = withEvents (heldPacket 0 (replicate 32 0) [] ∷ heldPacket 1 (replicate 32 0) [] ∷ [])
+withTurn false = withEvents (heldPacket 1 (replicate 32 0) [] ∷ heldPacket 0 (replicate 32 0) [] ∷ [])
 
 abbrev pub withWaiting : List ℕ → Client
 withWaiting l = client 108 4 500 (at 1 1 1) (asked true Mode.Keep) [] [] l []

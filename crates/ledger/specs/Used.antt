@@ -5,11 +5,11 @@ use mathlib.Core.Path.{_≡_, refl, sym, ap, subst}
 use Prim.Native.Nat.{ℕ, _+_}
 use native.Mathlib.Omega.{arith}
 use lib.Dec.{ltb}
-use lib.ListN.{length, take, drop}
+use lib.ListN.{length, drop}
 use Rattle.octets.specs.Logic.{choose}
 use Rattle.refusal.specs.Answer.{Answer, refuse}
 use Rattle.held.specs.Head.{headerSize}
-use Rattle.model.specs.Client.{Held, Client, setWaiting, costs, used}
+use Rattle.model.specs.Client.{Held, Client, setWaiting, costs, used, arriving}
 use Rattle.model.specs.Deciding.{enqueue-chain}
 use Rattle.model.specs.Model as Model
 use Rattle.packet.specs.Packet.{codeOf}
@@ -73,14 +73,12 @@ event-uses c bytes (h ∷ l) e = uses-refuse saysTaken c (poll-event bytes) _ 8 
 -- ---- intake
 
 filed-uses : (c : Client) (p : List ℕ) (n k : ℕ) (place : Place)
-    → used (Model.filed place (record { number = n; packet = p; descriptors = take k (c .waiting) }) (setWaiting (numbered c p n) (drop k (c .waiting)))) ≡ used c + choose (isHeld place) (headerSize + length p) 0
+    → used (Model.filed place (arriving c p n k) (setWaiting (numbered c p n) (drop k (c .waiting)))) ≡ used c + choose (isHeld place) (headerSize + length p) 0
 unfolding numbered choose
 filed-uses c p n k Place.Replies =
-    let h : Held = record { number = n; packet = p; descriptors = take k (c .waiting) } in
-    omega (arith, costs-append (c .replies) (h ∷ []), costs-one h)
+    omega (arith, costs-append (c .replies) (arriving c p n k ∷ []), costs-one (arriving c p n k))
 filed-uses c p n k Place.Events =
-    let h : Held = record { number = n; packet = p; descriptors = take k (c .waiting) } in
-    omega (arith, costs-append (c .events) (h ∷ []), costs-one h)
+    omega (arith, costs-append (c .events) (arriving c p n k ∷ []), costs-one (arriving c p n k))
 filed-uses c p n k Place.Dropped = omega arith
 
 packet-uses : (c : Client) (p : List ℕ) → Uses c (enqueue p) (outcome saysFiling c (enqueuePacket c p))

@@ -1,7 +1,7 @@
 -- THE STATE of a client's connection, as the rules speak of it. Assumes nothing.
 use mathlib.Core.List.{List, [], _∷_, _++_}
 use Prim.Native.Nat.{ℕ, _+_, _-_}
-use lib.ListN.{length}
+use lib.ListN.{length, take}
 use Rattle.requests.specs.declared.Request.{Request}
 use Rattle.held.specs.Head.{headerSize}
 
@@ -48,6 +48,20 @@ setWaiting c x = record { order = c .order; most-requests = c .most-requests; mo
 
 abbrev pub setClosing : Client → List ℕ → Client
 setClosing c x = record { order = c .order; most-requests = c .most-requests; most-bytes = c .most-bytes; numbers = c .numbers; outstanding = c .outstanding; replies = c .replies; events = c .events; waiting = c .waiting; closing = x }
+
+-- ---- held packets
+
+-- a held packet by its number, its bytes and its descriptors
+abbrev pub heldPacket : ℕ → List ℕ → List ℕ → Held
+heldPacket n p fds = record { number = n; packet = p; descriptors = fds }
+
+-- a held packet with other descriptors
+abbrev pub setDescriptors : Held → List ℕ → Held
+setDescriptors h fds = heldPacket (h .number) (h .packet) fds
+
+-- what an arriving packet p becomes under the number n: it has the first k of the descriptors that wait
+abbrev pub arriving : Client → List ℕ → ℕ → ℕ → Held
+arriving c p n k = heldPacket n p (take k (c .waiting))
 
 -- ---- what follows from the state
 

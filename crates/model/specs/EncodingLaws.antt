@@ -22,8 +22,8 @@ use Rattle.held.specs.Theorems as Stores
 use Rattle.descriptors.specs.Room as Slots
 use Rattle.descriptors.specs.Parts as Parts
 use Rattle.descriptors.specs.Theorems as Fds
-use Rattle.model.specs.Client.{Held, Client, first, descriptorsOf}
-use Rattle.model.specs.Reading.{Rooms, count, withDescriptors, eventOf, slotsOf, reads}
+use Rattle.model.specs.Client.{Held, Client, first, descriptorsOf, setDescriptors}
+use Rattle.model.specs.Reading.{Rooms, count, withDescriptors, eventOf, slotsOf, reads, heldWith}
 use Rattle.model.specs.ReadingLaws.{length-out, first-read, used-read, descriptors-read, length-wait, length-close, inside-read}
 use Rattle.model.specs.Sound.{Sound, soundb, sound-is, is-sound, slots-there}
 use Rattle.model.specs.declared.Connection.{Connection}
@@ -74,13 +74,13 @@ read-replies : (rs : List Held) → withDescriptors (map replyRow rs) (descripto
 unfolding withDescriptors descriptorsOf
 read-replies [] = refl
 read-replies (h ∷ rs) =
-    (λ k. record { number = h .number; packet = h .packet; descriptors = take-front (h .descriptors) (descriptorsOf rs) k } ∷ withDescriptors (map replyRow rs) (drop-front (h .descriptors) (descriptorsOf rs) k))
+    (λ k. setDescriptors h (take-front (h .descriptors) (descriptorsOf rs) k) ∷ withDescriptors (map replyRow rs) (drop-front (h .descriptors) (descriptorsOf rs) k))
     ∙ ap (λ (l : List Held). h ∷ l) (read-replies rs)
 
 read-events : (last : ℕ) (es : List Held) → Each (EventFits last) es → map eventOf (map eventRow es) ≡ es
 read-events last [] q = refl
 read-events last (h ∷ es) q =
-    (λ k. record { number = h .number; packet = h .packet; descriptors = sym (q .0 .descriptors) k } ∷ map eventOf (map eventRow es))
+    (λ k. setDescriptors h (sym (q .0 .descriptors) k) ∷ map eventOf (map eventRow es))
     ∙ ap (λ (l : List Held). h ∷ l) (read-events last es (q .1))
 
 -- ---- an encoding of what is in range is sound
@@ -169,7 +169,7 @@ module _ (m : Client) (c : Connection) (r : Rooms) (E : Encodes m c r) (I : InRa
 -- ---- a sound state is an encoding of what it is read as
 
 module _ (h : Record.Held) (rows : List Record.Held) (fds : List ℕ) where
-  row-is : h .kind ≡ Record.reply → h .fds ≤ length fds → replyRow (record { number = h .number; packet = h .packet; descriptors = take (h .fds) fds }) ≡ h
+  row-is : h .kind ≡ Record.reply → h .fds ≤ length fds → replyRow (heldWith h (take (h .fds) fds)) ≡ h
   row-is e l =
       let n : length (take (h .fds) fds) ≡ h .fds = length-take-le (h .fds) fds l in
       λ k. record { number = h .number; fds = n k; kind = sym e k; packet = h .packet }

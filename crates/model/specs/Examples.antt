@@ -15,7 +15,7 @@ use Rattle.sequence.specs.Numbering.{full, inRange}
 use Rattle.sequence.specs.Sending.{sending, mustSync}
 use Rattle.packet.specs.Packet.{unnumbered, numberAfter}
 use Rattle.requests.specs.Room.{underMode}
-use Rattle.model.specs.Client.{Held, Client, costs, descriptorsOf, setNumbers, setOutstanding, setEvents}
+use Rattle.model.specs.Client.{Client, heldPacket, costs, descriptorsOf, setNumbers, setOutstanding, setEvents}
 use Rattle.model.specs.Model as Model
 use Rattle.model.specs.Calls.{Call, send, enqueue-fds, enqueue, discard, poll, check, poll-reply, prepare, poll-event, take-closed, Said, number, done, filed, nothing, took, again, absent, answer, closed, refused, step, run}
 use Rattle.model.specs.Batch as Batch
@@ -31,9 +31,6 @@ use Rattle.model.specs.declared.Place.the-variants.{Replies, Events, Dro
 -- a packet of 32 bytes: its code, its byte 1, its wire number
 abbrev pk : ℕ → ℕ → ℕ → List ℕ
 pk code second wire = code ∷ second ∷ (bytesOf 108 2 wire ++ replicate 28 0)
-
-abbrev kept : ℕ → List ℕ → List ℕ → Held
-kept n p fds = record { number = n; packet = p; descriptors = fds }
 
 -- a state with these numbers and nothing else
 abbrev numbersAt : ℕ → ℕ → ℕ → Client
@@ -66,7 +63,7 @@ abbrev row2 : Row
 row2 = record {
   start = Model.fresh 108 4 500;
   calls = send ReplyWithFds ∷ send ReplyWithoutFds ∷ enqueue-fds (1 ∷ 2 ∷ []) ∷ enqueue (pk 1 1 1) ∷ enqueue (pk 0 7 1) ∷ enqueue (pk 1 1 1) ∷ enqueue (pk 1 0 2) ∷ discard 1 DiscardReply ∷ take-closed 9 ∷ poll-event 32 ∷ poll 2 32 0 ∷ [];
-  said = number 1 ∷ number 2 ∷ done ∷ filed Replies 1 ∷ filed Replies 1 ∷ filed Replies 1 ∷ filed Replies 2 ∷ done ∷ closed (1 ∷ 2 ∷ []) ∷ took (kept 1 (pk 0 7 1) []) ∷ took (kept 2 (pk 1 0 2) []) ∷ [];
+  said = number 1 ∷ number 2 ∷ done ∷ filed Replies 1 ∷ filed Replies 1 ∷ filed Replies 1 ∷ filed Replies 2 ∷ done ∷ closed (1 ∷ 2 ∷ []) ∷ took (heldPacket 1 (pk 0 7 1) []) ∷ took (heldPacket 2 (pk 1 0 2) []) ∷ [];
 }
 
 -- a reply taken by `poll_check` or `poll_for_reply` closes its descriptors; one taken with them does not
@@ -74,7 +71,7 @@ abbrev row3 : Row
 row3 = record {
   start = Model.fresh 108 4 500;
   calls = send ReplyWithFds ∷ enqueue-fds (3 ∷ 4 ∷ 5 ∷ 6 ∷ []) ∷ enqueue (pk 1 2 1) ∷ check 1 32 ∷ take-closed 2 ∷ enqueue (pk 1 1 1) ∷ poll-reply 1 32 ∷ take-closed 2 ∷ enqueue (pk 1 1 1) ∷ poll 1 32 1 ∷ take-closed 0 ∷ [];
-  said = number 1 ∷ done ∷ filed Replies 1 ∷ took (kept 1 (pk 1 2 1) (3 ∷ 4 ∷ [])) ∷ closed (3 ∷ 4 ∷ []) ∷ filed Replies 1 ∷ took (kept 1 (pk 1 1 1) (5 ∷ [])) ∷ closed (5 ∷ []) ∷ filed Replies 1 ∷ took (kept 1 (pk 1 1 1) (6 ∷ [])) ∷ closed [] ∷ [];
+  said = number 1 ∷ done ∷ filed Replies 1 ∷ took (heldPacket 1 (pk 1 2 1) (3 ∷ 4 ∷ [])) ∷ closed (3 ∷ 4 ∷ []) ∷ filed Replies 1 ∷ took (heldPacket 1 (pk 1 1 1) (5 ∷ [])) ∷ closed (5 ∷ []) ∷ filed Replies 1 ∷ took (heldPacket 1 (pk 1 1 1) (6 ∷ [])) ∷ closed [] ∷ [];
 }
 
 -- the answered request stays: a second reply has its mode and takes descriptors, an error is dropped
@@ -98,7 +95,7 @@ abbrev row6 : Row
 row6 = record {
   start = Model.fresh 108 4 500;
   calls = send NoReply ∷ send NoReply ∷ discard 2 DiscardReply ∷ enqueue (pk 0 0 1) ∷ enqueue (pk 0 0 2) ∷ enqueue (pk 0 0 3) ∷ poll-event 32 ∷ poll-event 32 ∷ poll-event 32 ∷ [];
-  said = number 1 ∷ number 2 ∷ done ∷ filed Replies 1 ∷ filed Events 2 ∷ filed Events 3 ∷ took (kept 2 (pk 0 0 2) []) ∷ took (kept 3 (pk 0 0 3) []) ∷ nothing ∷ [];
+  said = number 1 ∷ number 2 ∷ done ∷ filed Replies 1 ∷ filed Events 2 ∷ filed Events 3 ∷ took (heldPacket 2 (pk 0 0 2) []) ∷ took (heldPacket 3 (pk 0 0 3) []) ∷ nothing ∷ [];
 }
 
 -- code 11 carries no number and raises nothing; every other code is numbered
@@ -122,7 +119,7 @@ abbrev row9 : Row
 row9 = record {
   start = Model.fresh 108 1 48;
   calls = send NoReply ∷ send ReplyWithoutFds ∷ enqueue (pk 0 0 1) ∷ enqueue (pk 2 0 1) ∷ poll-reply 1 0 ∷ poll-event 32 ∷ discard 1 DiscardReplyAndError ∷ enqueue (pk 2 0 1) ∷ enqueue (pk 0 0 1) ∷ [];
-  said = number 1 ∷ refused 5 ∷ filed Replies 1 ∷ refused 5 ∷ absent ∷ took (kept 1 (pk 0 0 1) []) ∷ done ∷ filed Events 1 ∷ filed Dropped 1 ∷ [];
+  said = number 1 ∷ refused 5 ∷ filed Replies 1 ∷ refused 5 ∷ absent ∷ took (heldPacket 1 (pk 0 0 1) []) ∷ done ∷ filed Events 1 ∷ filed Dropped 1 ∷ [];
 }
 
 -- 8 comes after nothing was found, and leaves all
@@ -130,7 +127,7 @@ abbrev row10 : Row
 row10 = record {
   start = Model.fresh 108 4 500;
   calls = send ReplyWithFds ∷ enqueue-fds (4 ∷ []) ∷ poll 1 0 0 ∷ enqueue (pk 1 1 1) ∷ poll 1 31 1 ∷ poll 1 32 0 ∷ check 1 31 ∷ poll 1 32 1 ∷ check 1 0 ∷ enqueue (pk 2 0 2) ∷ check 1 0 ∷ poll-event 31 ∷ poll-event 32 ∷ poll-reply 1 0 ∷ [];
-  said = number 1 ∷ done ∷ nothing ∷ filed Replies 1 ∷ refused 8 ∷ refused 8 ∷ refused 8 ∷ took (kept 1 (pk 1 1 1) (4 ∷ [])) ∷ again ∷ filed Events 2 ∷ absent ∷ refused 8 ∷ took (kept 2 (pk 2 0 2) []) ∷ again ∷ [];
+  said = number 1 ∷ done ∷ nothing ∷ filed Replies 1 ∷ refused 8 ∷ refused 8 ∷ refused 8 ∷ took (heldPacket 1 (pk 1 1 1) (4 ∷ [])) ∷ again ∷ filed Events 2 ∷ absent ∷ refused 8 ∷ took (heldPacket 2 (pk 2 0 2) []) ∷ again ∷ [];
 }
 
 -- 6 without a reply and never with one; after that one more passes
@@ -185,7 +182,7 @@ abbrev row19 : Row
 row19 = record {
   start = Model.fresh 108 4 500;
   calls = send ReplyWithoutFds ∷ send ReplyWithoutFds ∷ enqueue (pk 2 0 1) ∷ enqueue (pk 0 7 1) ∷ enqueue (pk 0 8 2) ∷ discard 1 DiscardReply ∷ poll-reply 2 0 ∷ poll-event 32 ∷ poll-event 32 ∷ poll-event 32 ∷ [];
-  said = number 1 ∷ number 2 ∷ filed Events 1 ∷ filed Replies 1 ∷ filed Replies 2 ∷ done ∷ absent ∷ took (kept 1 (pk 2 0 1) []) ∷ took (kept 1 (pk 0 7 1) []) ∷ took (kept 2 (pk 0 8 2) []) ∷ [];
+  said = number 1 ∷ number 2 ∷ filed Events 1 ∷ filed Replies 1 ∷ filed Replies 2 ∷ done ∷ absent ∷ took (heldPacket 1 (pk 2 0 1) []) ∷ took (heldPacket 1 (pk 0 7 1) []) ∷ took (heldPacket 2 (pk 0 8 2) []) ∷ [];
 }
 
 abbrev pub table : List Row
@@ -231,16 +228,16 @@ sends = (refl, refl, refl, refl)
 
 -- two events, of numbers 5 and 6
 abbrev twoEvents : Client
-twoEvents = setEvents (numbersAt 9 0 6) (kept 5 (pk 2 0 5) [] ∷ kept 6 (pk 3 0 6) [] ∷ [])
+twoEvents = setEvents (numbersAt 9 0 6) (heldPacket 5 (pk 2 0 5) [] ∷ heldPacket 6 (pk 3 0 6) [] ∷ [])
 
 abbrev handings : Client → ℕ → ℕ → Answer Handings
 handings c room marks = said (λ x. x) (pollForEvents c room marks)
 
 abbrev both-events : Answer Handings
-both-events = gives (record { events = kept 5 (pk 2 0 5) [] ∷ kept 6 (pk 3 0 6) [] ∷ []; stopped = ended })
+both-events = gives (record { events = heldPacket 5 (pk 2 0 5) [] ∷ heldPacket 6 (pk 3 0 6) [] ∷ []; stopped = ended })
 
 abbrev first-event : Answer Handings
-first-event = gives (record { events = kept 5 (pk 2 0 5) [] ∷ []; stopped = Batch.refused 8 })
+first-event = gives (record { events = heldPacket 5 (pk 2 0 5) [] ∷ []; stopped = Batch.refused 8 })
 
 -- they are handed out as far as both outputs have room; 8 where there is no room for the first, and none where there is no event
 pub polls : (handings twoEvents 64 4 ≡ both-events) × (handings twoEvents 64 3 ≡ first-event) × (handings twoEvents 63 4 ≡ first-event) × (handings twoEvents 31 4 ≡ refuses 8) × (handings twoEvents 64 1 ≡ refuses 8)

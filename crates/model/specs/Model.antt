@@ -16,7 +16,7 @@ use Rattle.requests.specs.declared.Mode.the-variants as Mode
 use Rattle.packet.specs.Packet.{leastPacket, mostPacket, codeOf, errorCode, replyCode, unnumbered, numberAfter}
 use Rattle.held.specs.Head.{headerSize, mostStore}
 use Rattle.descriptors.specs.Room.{mostDescriptors}
-use Rattle.model.specs.Client.{Held, Client, setNumbers, setOutstanding, setReplies, setEvents, setWaiting, setClosing, first, used, descriptorsOf, inside}
+use Rattle.model.specs.Client.{Held, Client, setNumbers, setOutstanding, setReplies, setEvents, setWaiting, setClosing, setDescriptors, arriving, first, used, descriptorsOf, inside}
 use Rattle.model.specs.declared.ReplyFdKind.{ReplyFdKind}
 use Rattle.model.specs.declared.ReplyFdKind.the-variants as ReplyFdKind
 use Rattle.model.specs.declared.DiscardMode.{DiscardMode}
@@ -179,7 +179,7 @@ decide c p =
 unfoldable pub takeIn : Client → List ℕ → Task → Filing × Client
 takeIn c p t = (
   record { place = t .place; number = t .number },
-  filed (t .place) (record { number = t .number; packet = p; descriptors = take (t .claimed) (c .waiting) }) (setWaiting (numbered c p (t .number)) (drop (t .claimed) (c .waiting))),
+  filed (t .place) (arriving c p (t .number) (t .claimed)) (setWaiting (numbered c p (t .number)) (drop (t .claimed) (c .waiting))),
 )
 
 -- `enqueue_packet`
@@ -217,7 +217,7 @@ abbrev pub isError : Held → Bool
 isError h = eqb (codeOf (h .packet)) errorCode
 
 abbrev pub asEvent : Held → Held
-asEvent h = record { number = h .number; packet = h .packet; descriptors = [] }
+asEvent h = setDescriptors h []
 
 unfoldable pub errorsOf : List Held → List Held
 errorsOf [] = []

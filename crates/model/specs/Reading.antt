@@ -6,7 +6,7 @@ use Rattle.requests.specs.Room.{outstanding}
 use Rattle.held.specs.Head as Record
 use Rattle.held.specs.Reading as Store
 use Rattle.descriptors.specs.Room as Slots
-use Rattle.model.specs.Client.{Held, Client}
+use Rattle.model.specs.Client.{Held, Client, heldPacket}
 use Rattle.model.specs.declared.Connection.{Connection}
 
 -- the three rooms that are lent with a connection
@@ -24,7 +24,7 @@ count c = c .written + 1 - c .first
 
 -- a held record with these descriptors
 abbrev pub heldWith : Record.Held → List ℕ → Held
-heldWith h fds = record { number = h .number; packet = h .packet; descriptors = fds }
+heldWith h fds = heldPacket (h .number) (h .packet) fds
 
 -- held records with the descriptors that they have, one record's behind the other's
 unfoldable pub withDescriptors : List Record.Held → List ℕ → List Held

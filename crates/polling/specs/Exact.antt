@@ -15,7 +15,7 @@ use Rattle.held.specs.declared.Place.{Place}
 use Rattle.held.specs.declared.Found.{Found}
 use Rattle.held.specs.declared.Found.the-variants as Found
 use Rattle.descriptors.specs.Room as Slots
-use Rattle.model.specs.Client.{Held}
+use Rattle.model.specs.Client.{Held, heldPacket}
 use Rattle.model.specs.Model as Model
 use Rattle.packet.specs.Packet.{errorCode}
 use Rattle.model.specs.Model.{Taken}
@@ -39,12 +39,16 @@ moved x c r l d = record { value = x; state = movedState c (l .window) (d .count
 abbrev pub packetAt : List ℕ → Place → List ℕ
 packetAt s p = cut (p .at + headerSize) (p .len) s
 
+-- it is held with these descriptors
+abbrev pub heldAt : Rooms → Place → List ℕ → Held
+heldAt r p fds = heldPacket (p .number) (packetAt (r .store) p) fds
+
 -- an event, and a reply with its descriptors: they stand behind those of the replies before it
 abbrev pub eventAt : Rooms → Place → Held
-eventAt r p = record { number = p .number; packet = packetAt (r .store) p; descriptors = [] }
+eventAt r p = heldAt r p []
 
 abbrev pub replyAt : Connection → Rooms → Place → Held
-replyAt c r p = record { number = p .number; packet = packetAt (r .store) p; descriptors = Slots.heldRun (p .before) (p .fds) (slotsOf c r) }
+replyAt c r p = heldAt r p (Slots.heldRun (p .before) (p .fds) (slotsOf c r))
 
 -- the record at a place is removed; it becomes an event
 abbrev pub without : Connection → Rooms → Place → Left

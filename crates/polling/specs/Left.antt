@@ -15,7 +15,7 @@ use Rattle.held.specs.Theorems as Held
 use Rattle.held.specs.declared.Place.{Place}
 use Rattle.descriptors.specs.Room as Slots
 use Rattle.descriptors.specs.Theorems as Fds
-use Rattle.model.specs.Client.{setReplies, setEvents}
+use Rattle.model.specs.Client.{heldPacket, setReplies, setEvents}
 use Rattle.model.specs.Model as Model
 use Rattle.packet.specs.Packet.{errorCode}
 use Rattle.model.specs.Model.{find}
@@ -43,7 +43,7 @@ module _ (c : Connection) (r : Rooms) (S : Sound c r) where
     event-packet = sym (put-empty _) ∙ Held.take-law (c .read) (c .window) (r .store) (parts .held) Record.event p [] (F .it) (F .after) (F .lies) [] ∙ put-empty _
 
     pub event-is : eventAt r p ≡ eventOf (F .it)
-    event-is = λ k. record { number = F .number k; packet = event-packet k; descriptors = [] }
+    event-is = λ k. heldPacket (F .number k) (event-packet k) []
 
     pub event-left : reads (movedState c (without c r p .window) (c .counts)) (rooms (r .requests) (without c r p .store) (r .slots)) ≡ setEvents (reads c r) (map eventOf (F .after))
     unfolding reads
@@ -96,7 +96,7 @@ module _ (c : Connection) (r : Rooms) (S : Sound c r) where
     -- the replies, as they are read: this one, and the others without it
     reply-is : replyAt c r p ≡ heldWith it (cut (Store.fdsIn (F .before)) (it .fds) fds)
     unfolding Slots.heldRun
-    reply-is = λ k. record { number = (F .number ∙ sym (F .is)) k; packet = reply-packet k; descriptors = cut (F .count k) (F .fds k) fds }
+    reply-is = λ k. heldPacket ((F .number ∙ sym (F .is)) k) (reply-packet k) (cut (F .count k) (F .fds k) fds)
 
     pub found-read : find n (withDescriptors (Store.replies (c .window) (r .store)) fds) ≡ Model.at (replyAt c r p) (withDescriptors others keep)
     found-read =

@@ -8,7 +8,7 @@ use lib.Dec.{leb, ltb}
 use lib.ListN.{length}
 use borrow.Author.Tests.{leb-false, ltb-false}
 use Rattle.octets.specs.Logic.{choose}
-use Rattle.refusal.specs.Answer.{gives, refuse, gives-past, gives-rest, refuse-under, gives-same, pass-given, pass-agree}
+use Rattle.refusal.specs.Answer.{gives, refuse, pass, gives-past, gives-rest, gives-same, pass-given, pass-agree, pass-refuse, pass-pass}
 use Rattle.sequence.specs.Numbering.{lastNumber}
 use Rattle.sequence.specs.Sending.{Numbers, sending}
 use Rattle.requests.specs.Room.{putRequest, outstanding, capacity, legals}
@@ -23,12 +23,12 @@ use Rattle.held.specs.Moves.{left}
 use Rattle.held.specs.Theorems as Held
 use Rattle.model.specs.Reading.{Rooms, rooms, count, slotsOf, withDescriptors, reads}
 use Rattle.model.specs.ReadingLaws.{length-out, inside-read, length-close}
-use Rattle.model.specs.Moved.{movedState, moved-read, moved-sound, sentState}
+use Rattle.model.specs.Moved.{movedState, moved-read, moved-sound}
 use Rattle.model.specs.Promise.{Done, modelOf, model-pass, model-refuse}
 use Rattle.model.specs.Sound.{Sound, room-there, slots-there}
 use Rattle.model.specs.declared.Connection.{Connection}
 use Rattle.model.specs.declared.ReplyFdKind.{ReplyFdKind}
-use Rattle.sending.specs.Send.{sendExact}
+use Rattle.sending.specs.Send.{sendable, sentDone, sendExact}
 use Rattle.sending.specs.Fds.{enqueueFdsExact, closeExact}
 
 -- ---- sending
@@ -53,67 +53,85 @@ sending-gives w e hr n q =
     let x : n .number ≡ w + 1 = ap (λ (k : Numbers). k .number) m in
     record { number = x; most = omega arith; expected = λ h. either-most hr (w + 1) e (n .expected) lastNumber (ap (λ (k : Numbers). k .expected) m) (omega arith) h }
 
-module _ (c : Connection) (r : Rooms) (S : Sound c r) (kind : ReplyFdKind) where
-  -- the requests after one was sent
-  out-sent : (n : Numbers) → Given (c .written) (c .expected) n → count c < c .capacity
-      → outstanding (putRequest (r .requests) (n .number) (joining kind)) (c .first) (n .number + 1 - c .first) ≡ outstanding (r .requests) (c .first) (count c) ++ (joining kind ∷ [])
-  out-sent n g h =
-      let z = sized-is (c .capacity) (r .requests) .0 (S .requests) in
-      let N = S .numbers in
-      let a : n .number ≡ c .first + count c = omega (arith, g .number, N .first-most) in
-      let b : n .number + 1 - c .first ≡ count c + 1 = omega (arith, g .number, N .first-most) in
-      (λ k. outstanding (putRequest (r .requests) (a k) (joining kind)) (c .first) (b k))
-      ∙ outstanding-send (r .requests) (c .first) (count c) (joining kind) (omega (arith, z .holds))
+-- what may be sent, in the model's terms: the request has its number and joins
+abbrev pub sentClient : Client → ReplyFdKind → Numbers → Client
+sentClient m kind n = setOutstanding (setNumbers m (record { written = n .number; expected = n .expected; read = m .numbers .read })) (m .outstanding ++ (joining kind ∷ []))
 
-  sentClient : Numbers → Client
-  sentClient n =
-      setOutstanding (setNumbers (reads c r) (record { written = n .number; expected = n .expected; read = c .read })) (reads c r .outstanding ++ (joining kind ∷ []))
+module _ (c : Connection) (r : Rooms) (S : Sound c r) (kind : ReplyFdKind) where
+  -- WHAT WOULD BE SENT is what the model says of a send: its refusal, or the number with the state after it.
+  pub sendable-model : pass (sendable c kind) (λ n. gives (n .number, sentClient (reads c r) kind n)) ≡ sendRequest (reads c r) kind
+  unfolding sendable sendRequest reads pass
+  sendable-model =
+      pass-pass (sending (c .written) (c .expected) (hasReply kind)) _ _
+      ∙ pass-agree (sending (c .written) (c .expected) (hasReply kind)) _ _
+      (λ n e. pass-refuse (leb (c .capacity) (count c)) 5 (gives n) _ ∙ ap (λ (l : ℕ). refuse (leb (c .capacity) l) 5 (gives (n .number, sentClient (reads c r) kind n))) (sym (length-out c r S)))
+
+  -- where it may be sent the rule gave its numbers, and the room has a place
+  module _ (n : Numbers) (e : gives n ≡ sendable c kind) where
+    rule-gave : Given (c .written) (c .expected) n
+    unfolding sendable
+    rule-gave =
+        let p = pass-given (sending (c .written) (c .expected) (hasReply kind)) _ e in
+        sending-gives (c .written) (c .expected) (hasReply kind) n (gives-rest _ _ _ (p .2) ∙ p .1)
+
+    place-left : count c < c .capacity
+    unfolding sendable
+    place-left = leb-false _ _ (gives-past _ _ _ (pass-given (sending (c .written) (c .expected) (hasReply kind)) _ e .2))
+
+    number-next : n .number ≡ c .first + count c
+    number-next = omega (arith, rule-gave .number, S .numbers .first-most)
+
+    count-next : n .number + 1 - c .first ≡ count c + 1
+    count-next = omega (arith, rule-gave .number, S .numbers .first-most)
+
+    -- the state after it, as it is read,
+    sent-read : reads (sentDone c r kind n .state) (sentDone c r kind n .left) ≡ sentClient (reads c r) kind n
+    unfolding reads
+    sent-read =
+        let z = sized-is (c .capacity) (r .requests) .0 (S .requests) in
+        ap (setOutstanding (setNumbers (reads c r) (record { written = n .number; expected = n .expected; read = c .read })))
+        ((λ k. outstanding (putRequest (r .requests) (number-next k) (joining kind)) (c .first) (count-next k))
+        ∙ outstanding-send (r .requests) (c .first) (count c) (joining kind) (omega (arith, z .holds, place-left)))
+
+    -- and that it is sound
+    sent-sound : Sound (sentDone c r kind n .state) (sentDone c r kind n .left)
+    sent-sound =
+        let N = S .numbers in
+        let g = rule-gave in
+        record {
+          order = S .order;
+          requests = sized-put (r .requests) (n .number) (joining kind) (c .capacity) ∙ S .requests;
+          store = S .store;
+          numbers = record {
+            store-least = N .store-least;
+            store-most = N .store-most;
+            written-most = g .most;
+            expected-most = g .expected (N .expected-most);
+            read-most = N .read-most;
+            first-least = N .first-least;
+            first-most = omega (arith, g .number, N .first-most);
+            count-most = omega (arith, g .number, N .first-most, place-left);
+          };
+          legal-bytes = (λ k. legals (putRequest (r .requests) (number-next k) (joining kind)) (c .first) (count-next k)) ∙ legals-send (r .requests) (c .first) (count c) (S .legal-bytes) (joining kind) (room-there c r S);
+          slots = S .slots;
+          held = S .held;
+          descriptors = S .descriptors;
+        }
 
   -- SENDING is the model's.
   pub send-model : modelOf (sendExact c r kind) ≡ sendRequest (reads c r) kind
-  unfolding sendExact sendRequest reads modelOf sentClient
+  unfolding sendExact modelOf
   send-model =
-      model-pass (sending (c .written) (c .expected) (hasReply kind)) _
-      ∙ pass-agree (sending (c .written) (c .expected) (hasReply kind)) _ _
-      (λ n e.
-      model-refuse (leb (c .capacity) (count c)) 5 _
-      ∙ refuse-under (leb (c .capacity) (count c)) 5
-      (λ t. λ k. gives (n .number, setOutstanding (setNumbers (reads c r) (record { written = n .number; expected = n .expected; read = c .read })) (out-sent n (sending-gives (c .written) (c .expected) (hasReply kind) n e) (leb-false _ _ t) k)))
-      ∙ ap (λ (l : ℕ). refuse (leb (c .capacity) l) 5 (gives (n .number, sentClient n))) (sym (length-out c r S)))
+      model-pass (sendable c kind) _
+      ∙ pass-agree (sendable c kind) _ _ (λ n e. ap (λ (x : Client). gives (n .number, x)) (sent-read n e))
+      ∙ sendable-model
 
   -- The state that a send leaves is sound.
   pub send-sound : (d : Done ℕ) → gives d ≡ sendExact c r kind → Sound (d .state) (d .left)
   unfolding sendExact
   send-sound d e =
-      let p = pass-given (sending (c .written) (c .expected) (hasReply kind)) _ e in
-      let n : Numbers = p .0 in
-      let g = sending-gives (c .written) (c .expected) (hasReply kind) n (p .1) in
-      let l : count c < c .capacity = leb-false _ _ (gives-past _ _ _ (p .2)) in
-      let N = S .numbers in
-      let a : n .number ≡ c .first + count c = omega (arith, g .number, N .first-most) in
-      let b : n .number + 1 - c .first ≡ count c + 1 = omega (arith, g .number, N .first-most) in
-      let q : gives (record { value = n .number; state = sentState c (n .number) (n .expected); left = rooms (putRequest (r .requests) (n .number) (joining kind)) (r .store) (r .slots) }) ≡ gives d = sym (gives-rest _ _ _ (p .2)) in
-      let z = gives-same q in
-      subst (λ (x : Done ℕ). Sound (x .state) (x .left)) z
-      (record {
-        order = S .order;
-        requests = sized-put (r .requests) (n .number) (joining kind) (c .capacity) ∙ S .requests;
-        store = S .store;
-        numbers = record {
-          store-least = N .store-least;
-          store-most = N .store-most;
-          written-most = g .most;
-          expected-most = g .expected (N .expected-most);
-          read-most = N .read-most;
-          first-least = N .first-least;
-          first-most = omega (arith, g .number, N .first-most);
-          count-most = omega (arith, g .number, N .first-most);
-        };
-        legal-bytes = (λ k. legals (putRequest (r .requests) (a k) (joining kind)) (c .first) (b k)) ∙ legals-send (r .requests) (c .first) (count c) (S .legal-bytes) (joining kind) (room-there c r S);
-        slots = S .slots;
-        held = S .held;
-        descriptors = S .descriptors;
-      })
+      let p = pass-given (sendable c kind) _ e in
+      subst (λ (x : Done ℕ). Sound (x .state) (x .left)) (gives-same (sym (p .2))) (sent-sound (p .0) (p .1))
 
 -- ---- descriptors
 

@@ -8,7 +8,7 @@ use Rattle.octets.specs.Logic.{both, either}
 use Rattle.octets.specs.Bytes.{legal}
 use Rattle.refusal.specs.Answer.{Answer, gives, refuses, gives-same}
 use Rattle.requests.specs.Room.{capacity}
-use Rattle.model.specs.Client.{Client, setNumbers, setOutstanding, setEvents}
+use Rattle.model.specs.Client.{Client, heldPacket, setNumbers, setOutstanding, setEvents}
 use Rattle.model.specs.Model.{roomy, fresh, joining, Filing, sendRequest, enqueuePacket}
 use Rattle.model.specs.Reading.{Rooms, rooms, reads}
 use Rattle.model.specs.Sound.{Sound, is-sound}
@@ -45,7 +45,7 @@ filedAs n = record { place = Events; number = n }
 
 -- the state once an event has the number n
 abbrev after : ℕ → Client
-after n = setEvents (setNumbers (fresh 108 1 200) (record { written = 0; expected = n; read = n })) (record { number = n; packet = event n; descriptors = [] } ∷ [])
+after n = setEvents (setNumbers (fresh 108 1 200) (record { written = 0; expected = n; read = n })) (heldPacket n (event n) [] ∷ [])
 
 sends-one : sendRequest (fresh 108 1 200) NoReply ≡ gives (1, setOutstanding (setNumbers (fresh 108 1 200) (record { written = 1; expected = 0; read = 0 })) (joining NoReply ∷ []))
 unfolding computing
@@ -60,7 +60,7 @@ unfolding computing
 takes-one = refl
 
 abbrev afterTwo : Client
-afterTwo = setEvents (setNumbers (fresh 108 1 200) (record { written = 0; expected = 2; read = 2 })) (record { number = 1; packet = event 1; descriptors = [] } ∷ record { number = 2; packet = event 2; descriptors = [] } ∷ [])
+afterTwo = setEvents (setNumbers (fresh 108 1 200) (record { written = 0; expected = 2; read = 2 })) (heldPacket 1 (event 1) [] ∷ heldPacket 2 (event 2) [] ∷ [])
 
 takes-two : enqueuePacket (after 1) (event 2) ≡ gives (filedAs 2, afterTwo)
 unfolding computing

@@ -5,7 +5,7 @@ use mathlib.Core.List.{List}
 use Prim.Native.Nat.{ℕ}
 use native.Mathlib.Omega.{arith}
 use Rattle.octets.specs.Logic.{apart}
-use Rattle.refusal.specs.Answer.{Answer, gives, refuses, refuse, pass}
+use Rattle.refusal.specs.Answer.{Answer, gives, refuses, pass}
 use Rattle.sequence.specs.Sending as Rule
 use Rattle.model.specs.Reading.{Rooms}
 use Rattle.model.specs.Promise.{Done, answerOf, guarded, guarded-on, guarded-off, same}
@@ -13,7 +13,7 @@ use Rattle.model.specs.Sound.{soundb}
 use Rattle.model.specs.declared.Connection.{Connection}
 use Rattle.model.specs.declared.ReplyFdKind.{ReplyFdKind}
 use Rattle.model.specs.Moved.{sentState}
-use Rattle.sending.specs.Send.{sendExact}
+use Rattle.sending.specs.Send.{sendable, sentDone, sendExact}
 use Rattle.connection.specs.Calls.{Sends}
 use Rattle.rows.specs.State.{fits, connectionOf, connectionRow, sentRow}
 use Rattle.rows.specs.Theorems.{connection-unfit, sent-row}
@@ -36,14 +36,11 @@ record Changed (c d : Connection) : Type 0 where
   e : ℕ
   so : d ≡ sentState c n e
 
-changed : (c : Connection) (a : Answer Rule.Numbers) (b : Bool) (l : Rule.Numbers → Rooms) (x : ℕ × Connection)
-    → gives x ≡ answerOf same (pass a (λ n. refuse b 5 (gives (record { value = n .number; state = sentState c (n .number) (n .expected); left = l n }))))
-    → Changed c (x .1)
-unfolding answerOf pass refuse
-changed c (gives n) true l x q = absurd (let y : _≡_ {A = ℕ} 0 1 = cc in omega arith)
-changed c (gives n) false l x q =
+changed : (c : Connection) (a : Answer Rule.Numbers) (r : Rooms) (kind : ReplyFdKind) (x : ℕ × Connection) → gives x ≡ answerOf same (pass a (λ n. gives (sentDone c r kind n))) → Changed c (x .1)
+unfolding answerOf pass
+changed c (gives n) r kind x q =
     let z : x ≡ (n .number, sentState c (n .number) (n .expected)) = cc in record { n = n .number; e = n .expected; so = ap (λ (y : ℕ × Connection). y .1) z }
-changed c (refuses k) b l x q = absurd (let y : _≡_ {A = ℕ} 0 1 = cc in omega arith)
+changed c (refuses k) r kind x q = absurd (let y : _≡_ {A = ℕ} 0 1 = cc in omega arith)
 
 sent-fits : (s : List ℕ) (r : Rooms) → soundb (connectionOf s) r ≡ true → fits s ≡ true
 sent-fits s r h = go (fits s) refl
@@ -57,7 +54,7 @@ unfolding sendExact
 agree s r kind (refuses n) r' p = refl
 agree s r kind (gives x) r' p =
     let g = gave (connectionOf s) r (sendExact (connectionOf s) r kind) x (p .exact .answers) in
-    let d = changed (connectionOf s) _ _ _ x (g .1) in
+    let d = changed (connectionOf s) (sendable (connectionOf s) kind) r kind x (g .1) in
     let h = sent-row s (d .n) (d .e) (sent-fits s r (g .0)) in
     ap (sentRow s) (d .so) ∙ h ∙ sym (ap (connectionRow s) (d .so))
 
