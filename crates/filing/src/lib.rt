@@ -214,4 +214,3 @@ pub fn numbered(c: Connection, code: u8, number: u64) -> Connection
     next.read = number;
     next
 }
-

@@ -74,9 +74,9 @@ module _ (c : Connection) (r : Rooms) (S : Sound c r) (p : List ℕ) (byte : get
       λ i. gives (
         filed-value (t .place) (next (t .number) (P .number)) r (t .claimed) p i,
         (filed-read (next (t .number) (P .number)) r (next-sound (t .number) (P .number)) p (t .claimed) (t .place) none (fine t P)
-        ∙ ap
-        (λ (x : Client). filed (t .place) (arriving x p (t .number) (t .claimed)) (setWaiting x (drop (t .claimed) (x .waiting))))
-        (numbered-read c r S (t .number) p)) i,
+            ∙ ap
+            (λ (x : Client). filed (t .place) (arriving x p (t .number) (t .claimed)) (setWaiting x (drop (t .claimed) (x .waiting))))
+            (numbered-read c r S (t .number) p)) i,
       )
 
   -- TAKING A PACKET IN is the model's, where its byte 1 is a byte.

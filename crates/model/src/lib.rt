@@ -16,7 +16,6 @@ use sequence::SequenceNumber;
 pub use soundness::LEAST_STORE;
 pub use soundness::is_sound;
 
-
 // Whether a request has a reply, and whether the reply has descriptors.
 pub enum ReplyFdKind {
     NoReply,

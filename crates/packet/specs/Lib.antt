@@ -1,2 +1,3 @@
 pub mod Packet
 pub mod Laws
+pub mod Examples
