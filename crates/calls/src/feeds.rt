@@ -4,7 +4,6 @@
 // How many packets there are stands before them in the answer: their text is put so far behind what
 // waits that the words before it fit in between, and is moved up to them at the end.
 use crate::Done;
-use crate::many;
 use leaves::Fed;
 use model::Connection;
 use model::Enqueued;
@@ -53,7 +52,7 @@ fn fresh(start: Done, from: usize, waiting: usize) -> Shown {
         reader: reader,
         at: from,
         count: 0,
-        text: many::after(waiting, WORDS),
+        text: text::behind(waiting, WORDS),
         stop: 0,
     }
 }
@@ -63,7 +62,7 @@ fn told(shown: Shown, waiting: usize, bytes: &mut [u8]) -> Done {
     let room = leaves::room(shown.reader, bytes);
     let counts = text::both(text::PACKETS, shown.count, text::ROOM, room as u64, 0);
     let a = text::tell(bytes, waiting, counts);
-    let b = text::join(bytes, a, many::after(waiting, WORDS), shown.text);
+    let b = text::join(bytes, a, text::behind(waiting, WORDS), shown.text);
     let c = shown.connection;
     crate::left(c, shown.reader, stopping(shown.stop, bytes, b))
 }
@@ -147,7 +146,7 @@ fn came(
 fn on(shown: Shown, n: usize, reader: PacketReader) -> Shown {
     let mut next = shown;
     next.reader = reader;
-    next.at = many::after(shown.at, n);
+    next.at = text::behind(shown.at, n);
     next
 }
 
@@ -161,12 +160,8 @@ fn stopped(shown: Shown, refusal: Refusal) -> Shown {
 fn seen(shown: Shown, len: usize, bytes: &mut [u8]) -> Shown {
     let mut next = shown;
     next.text = text::packet(bytes, shown.text, leaves::READER, len);
-    next.count = up(shown.count);
+    next.count = text::up(shown.count);
     next
-}
-
-fn up(n: u64) -> u64 {
-    if n < u64::MAX { n + 1 } else { n }
 }
 
 // It goes to the connection.
@@ -179,7 +174,7 @@ fn taken(
     bytes: &[u8],
 ) -> Shown {
     let c = shown.connection;
-    let packet = many::cut(bytes, leaves::READER, many::after(leaves::READER, len));
+    let packet = text::cut(bytes, leaves::READER, text::behind(leaves::READER, len));
     filed(
         shown,
         connection::enqueue_packet(c, requests, store, slots, packet),

@@ -20,7 +20,7 @@ pub(crate) fn send(
     slots: &[u32],
     bytes: &[u8],
 ) -> Called {
-    let kinds = cut(bytes, op.a as usize, op.b as usize);
+    let kinds = text::cut(bytes, op.a as usize, op.b as usize);
     sent(
         c,
         connection::send_requests(c, requests, store, slots, kinds),
@@ -57,7 +57,7 @@ pub(crate) fn intake(
     slots: &mut [u32],
     bytes: &[u8],
 ) -> Called {
-    let came = cut(bytes, op.a as usize, op.b as usize);
+    let came = text::cut(bytes, op.a as usize, op.b as usize);
     fed(
         c,
         connection::enqueue_packets(c, requests, store, slots, came),
@@ -86,17 +86,6 @@ fn halted(halt: Halt) -> u8 {
         Halt::Refused(refusal) => refusal.number(),
         _ => 0,
     }
-}
-
-// The bytes from one index to another, or none where they aren't there.
-pub(crate) fn cut<'a>(bytes: &'a [u8], from: usize, end: usize) -> &'a [u8] {
-    if bytes.len() < end {
-        return &bytes[0..0];
-    }
-    if end < from {
-        return &bytes[0..0];
-    }
-    &bytes[from..end]
 }
 
 // ---- `drain`
@@ -157,7 +146,7 @@ fn events(count: usize, marks: &[u64], bytes: &mut [u8], waiting: usize) -> usiz
     while i < count {
         let len = length_at(marks, i);
         next = event(number_at(marks, i), from, len, bytes, next);
-        from = after(from, len);
+        from = text::behind(from, len);
         i += 1;
     }
     next
@@ -182,11 +171,4 @@ fn length_at(marks: &[u64], i: usize) -> usize {
         return 0;
     }
     marks[2 * i + 1] as usize
-}
-
-pub(crate) fn after(from: usize, len: usize) -> usize {
-    if usize::MAX - from < len {
-        return from;
-    }
-    from + len
 }

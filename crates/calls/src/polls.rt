@@ -1,7 +1,6 @@
 // `enqueue_packet`, and the polls. Packets are handed out at the start of the run of bytes.
 use crate::Called;
 use crate::Done;
-use crate::many;
 use crate::sends;
 use model::Connection;
 use model::Enqueued;
@@ -20,7 +19,7 @@ pub(crate) fn intake(
     slots: &mut [u32],
     bytes: &[u8],
 ) -> Called {
-    let packet = many::cut(bytes, op.a as usize, op.b as usize);
+    let packet = text::cut(bytes, op.a as usize, op.b as usize);
     filed(
         c,
         connection::enqueue_packet(c, requests, store, slots, packet),

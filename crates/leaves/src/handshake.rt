@@ -11,12 +11,9 @@ use connect::Made;
 use refusal::Refusal;
 use text::Answer;
 
-// The bytes that a setup reply begins with.
-pub(crate) const HEAD: usize = 8;
-
 // Its buffer.
 fn buffer<'a>(bytes: &'a [u8]) -> &'a [u8] {
-    moves::part(bytes, crate::SETUP, crate::END)
+    text::cut(bytes, crate::SETUP, crate::END)
 }
 
 fn with(leaves: Leaves, handshake: Connect, answer: Answer) -> Turned {
@@ -50,12 +47,7 @@ pub(crate) fn fill(leaves: Leaves, bytes: &mut [u8], from: usize, end: usize) ->
     if room(handshake, bytes) < n {
         return refused(leaves, Refusal::OverAdvance);
     }
-    moves::put(
-        bytes,
-        from,
-        moves::behind(crate::SETUP, handshake.filled),
-        n,
-    );
+    moves::put(bytes, from, text::behind(crate::SETUP, handshake.filled), n);
     Turned {
         leaves: leaves,
         answer: text::say(text::OK),

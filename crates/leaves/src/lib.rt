@@ -50,7 +50,7 @@ pub fn fresh(order: u8) -> Leaves {
         handshake: Connect {
             order: order,
             filled: 0,
-            target: handshake::HEAD,
+            target: connect::HEAD,
         },
         ids: IdAllocator {
             next: 0,

@@ -13,7 +13,7 @@ use text::Answer;
 
 // Its buffer.
 fn buffer<'a>(bytes: &'a [u8]) -> &'a [u8] {
-    moves::part(bytes, crate::READER, crate::SETUP)
+    text::cut(bytes, crate::READER, crate::SETUP)
 }
 
 fn with(leaves: Leaves, reader: PacketReader, answer: Answer) -> Turned {
@@ -66,7 +66,7 @@ pub(crate) fn fill(leaves: Leaves, bytes: &mut [u8], from: usize, end: usize) ->
 }
 
 fn put(reader: PacketReader, bytes: &mut [u8], from: usize, n: usize) {
-    let to = moves::behind(crate::READER, reader.filled);
+    let to = text::behind(crate::READER, reader.filled);
     moves::put(bytes, from, to, n);
 }
 

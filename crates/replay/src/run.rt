@@ -72,7 +72,7 @@ fn begin(waiting: usize, place: Place, bytes: &mut [u8]) -> Begun {
     let end = script::name_end(bytes, place.from, place.end);
     Begun {
         op: op,
-        waiting: text::part(bytes, waiting, place.from, end),
+        waiting: text::copy(bytes, waiting, place.from, end),
     }
 }
 
@@ -94,12 +94,8 @@ fn at(state: State, waiting: usize) -> State {
 fn ended(state: State, waiting: usize, bytes: &mut [u8]) -> State {
     let mut next = state;
     next.waiting = text::word(bytes, waiting, b"\n");
-    next.ops = up(state.ops);
+    next.ops = text::up(state.ops);
     next
-}
-
-fn up(n: u64) -> u64 {
-    if n < u64::MAX { n + 1 } else { n }
 }
 
 // ---- lines that cannot be read

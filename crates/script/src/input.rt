@@ -63,23 +63,15 @@ fn begin(place: Place) -> Place {
     now.from = place.next;
     now.lost = false;
     now.remark = false;
-    now.number = up(place.number);
+    now.number = text::up(place.number);
     now
-}
-
-fn up(n: u64) -> u64 {
-    if n < u64::MAX { n + 1 } else { n }
-}
-
-fn after(n: usize) -> usize {
-    if n < usize::MAX { n + 1 } else { n }
 }
 
 // The line ends at the newline at an index.
 fn found(place: Place, end: usize) -> Place {
     let mut now = place;
     now.end = end;
-    now.next = after(end);
+    now.next = text::behind(end, 1);
     now.more = true;
     now
 }
@@ -169,15 +161,8 @@ fn more(place: Place, bytes: &mut [u8]) -> Place {
     let n = read(bytes, filled);
     let mut now = place;
     now.more = 0 < n;
-    now.filled = sum(filled, n);
+    now.filled = text::behind(filled, n);
     now
-}
-
-fn sum(a: usize, b: usize) -> usize {
-    if usize::MAX - a < b {
-        return a;
-    }
-    a + b
 }
 
 fn read(bytes: &mut [u8], from: usize) -> usize {

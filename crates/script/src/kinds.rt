@@ -1,8 +1,6 @@
 // Kinds of requests, as `send` has one and `sendall` a row.
 use super::number::Bytes;
 use super::words;
-ghost use Prim.Native.Nat.{_≤_};
-ghost use lib.ListN.{length};
 
 // No kind.
 pub(crate) const NONE: u8 = 3;
@@ -43,10 +41,8 @@ fn all(rest: &mut [u8]) -> Bytes {
 }
 
 // The byte of the word from one index to another.
-fn byte_at(rest: &[u8], start: usize, end: usize) -> u8
-    requires { ⌜ (start ≤ end) × (end ≤ length (now rest)) ⌝ }
-{
-    of(words::part(rest, start, end))
+fn byte_at(rest: &[u8], start: usize, end: usize) -> u8 {
+    of(text::cut(rest, start, end))
 }
 
 pub(crate) fn of(word: &[u8]) -> u8 {

@@ -70,7 +70,7 @@ pub(crate) fn bad() -> Op {
 
 // What the line says that stands in the input from one index to another.
 pub fn parse(input: &mut [u8], from: usize, end: usize) -> Op {
-    let named = names::read(words::cut(input, from, end));
+    let named = names::read(text::cut(input, from, end));
     let code = named.code;
     if named.alone {
         return line::bare(code);
@@ -87,10 +87,10 @@ pub fn parse(input: &mut [u8], from: usize, end: usize) -> Op {
             return line::listed(input, start, end);
         }
         names::NUMBER => {
-            return line::numbered(code, number::read(words::cut(input, start, end)));
+            return line::numbered(code, number::read(text::cut(input, start, end)));
         }
         names::WORDS => {
-            return line::read(code, words::cut(input, start, end));
+            return line::read(code, text::cut(input, start, end));
         }
         _ => {
             return bad();

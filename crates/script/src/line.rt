@@ -54,7 +54,7 @@ pub(crate) fn read(code: u8, rest: &[u8]) -> Op {
 // KIND, or KIND COUNT.
 fn send(rest: &[u8]) -> Op {
     let end = words::end(rest, 0);
-    let kind = kinds::of(words::part(rest, 0, end));
+    let kind = kinds::of(text::cut(rest, 0, end));
     if kind == kinds::NONE {
         return bad();
     }
@@ -62,7 +62,7 @@ fn send(rest: &[u8]) -> Op {
         return make(names::SEND, kind as u64, 0, 0);
     }
     let start = end + 1;
-    many(kind, number::read(words::part(rest, start, rest.len())))
+    many(kind, number::read(text::cut(rest, start, rest.len())))
 }
 
 fn many(kind: u8, count: Number) -> Op {
@@ -79,8 +79,8 @@ fn discard(rest: &[u8]) -> Op {
         return bad();
     }
     let start = end + 1;
-    let mode = words::find(b"reply both", words::part(rest, start, rest.len()), 2);
-    dropped(number::read(words::part(rest, 0, end)), mode)
+    let mode = words::find(b"reply both", text::cut(rest, start, rest.len()), 2);
+    dropped(number::read(text::cut(rest, 0, end)), mode)
 }
 
 fn dropped(word: Number, mode: u8) -> Op {
@@ -106,8 +106,8 @@ fn pair_of(rest: &[u8]) -> Pair {
     }
     let start = end + 1;
     let last = words::end(rest, start);
-    let a = number::read(words::part(rest, 0, end));
-    let b = number::read(words::part(rest, start, last));
+    let a = number::read(text::cut(rest, 0, end));
+    let b = number::read(text::cut(rest, start, last));
     both(a, b, last)
 }
 
@@ -150,12 +150,12 @@ fn order(rest: &[u8], last: usize) -> u8 {
 // Two numbers of 32 bits and nothing behind them.
 fn narrow(code: u8, rest: &[u8]) -> Op {
     match pair_of(rest) {
-        Pair::Both(a, b, last) => cut(code, a, b, last == rest.len()),
+        Pair::Both(a, b, last) => fitted(code, a, b, last == rest.len()),
         Pair::Bad => bad(),
     }
 }
 
-fn cut(code: u8, a: u64, b: u64, whole: bool) -> Op {
+fn fitted(code: u8, a: u64, b: u64, whole: bool) -> Op {
     if !whole {
         return bad();
     }
@@ -182,7 +182,7 @@ pub(crate) fn listed(input: &[u8], start: usize, end: usize) -> Op {
 // Descriptors that stand in the input from one index to another, as many as the lent room takes;
 // those past it are read, and not kept. How many are kept.
 pub fn fds(input: &[u8], from: usize, end: usize, list: &mut [u32]) -> Bytes {
-    all(words::cut(input, from, end), list)
+    all(text::cut(input, from, end), list)
 }
 
 fn all(rest: &[u8], list: &mut [u32]) -> Bytes {
@@ -190,7 +190,7 @@ fn all(rest: &[u8], list: &mut [u32]) -> Bytes {
     let mut count = 0;
     while start <= rest.len() {
         let end = words::end(rest, start);
-        match number::read(words::part(rest, start, end)) {
+        match number::read(text::cut(rest, start, end)) {
             Number::Value(n) => {
                 if (u32::MAX as u64) < n {
                     return Bytes::Bad;

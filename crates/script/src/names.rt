@@ -86,7 +86,7 @@ pub(crate) fn read(line: &[u8]) -> Named {
         };
     }
     let end = words::end(line, 0);
-    let code = of(words::part(line, 0, end));
+    let code = of(text::cut(line, 0, end));
     Named {
         code: code,
         alone: end == line.len(),

@@ -4,7 +4,7 @@ ghost use lib.ListN.{length};
 
 // Where the first word ends of the line that stands from one index to another.
 pub fn name_end(input: &[u8], from: usize, last: usize) -> usize {
-    let line = cut(input, from, last);
+    let line = text::cut(input, from, last);
     after(from, end(line, 0), last)
 }
 
@@ -29,7 +29,7 @@ pub(crate) fn find(row: &[u8], word: &[u8], none: u8) -> u8 {
     let mut count: u8 = 0;
     while start < row.len() {
         let end = end(row, start);
-        if same(part(row, start, end), word) {
+        if same(text::cut(row, start, end), word) {
             return count;
         }
         count = next(count);
@@ -54,24 +54,6 @@ pub(crate) fn same(a: &[u8], b: &[u8]) -> bool {
         i += 1;
     }
     true
-}
-
-// The part of a line from one index to another.
-pub(crate) fn part<'a>(line: &'a [u8], start: usize, end: usize) -> &'a [u8]
-    requires { ⌜ (start ≤ end) × (end ≤ length (now line)) ⌝ }
-{
-    &line[start..end]
-}
-
-// The same of an input, or none of it where it isn't there.
-pub(crate) fn cut<'a>(input: &'a [u8], from: usize, end: usize) -> &'a [u8] {
-    if input.len() < end {
-        return &input[0..0];
-    }
-    if end < from {
-        return &input[0..0];
-    }
-    &input[from..end]
 }
 
 // The index so many bytes behind another, at most an end.

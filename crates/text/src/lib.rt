@@ -5,6 +5,7 @@
 // waits is written first, and at the end of a run the caller writes the rest by `flush`. Packets that
 // are shown stand in the same run, somewhere before.
 mod answers;
+mod run;
 
 pub use answers::ACCEPTED;
 pub use answers::AGAIN;
@@ -32,6 +33,9 @@ pub use answers::shown;
 pub use answers::tell;
 pub use answers::whether;
 use libc::STDOUT_FILENO;
+pub use run::behind;
+pub use run::cut;
+pub use run::up;
 
 // Where the text begins.
 pub const START: usize = 525316;
@@ -160,7 +164,7 @@ pub fn join(out: &mut [u8], waiting: usize, from: usize, end: usize) -> usize {
 }
 
 // The bytes of the run from one index to another, put behind what waits.
-pub fn part(out: &mut [u8], waiting: usize, from: usize, end: usize) -> usize {
+pub fn copy(out: &mut [u8], waiting: usize, from: usize, end: usize) -> usize {
     if out.len() < end {
         return waiting;
     }

@@ -18,8 +18,8 @@ loop-holds c = search needs
 end-requires : tie.Need-end-requires Inv-loop μ-loop
 end-requires c κs = search needs
 
-part-requires : tie.Need-part-requires Inv-loop μ-loop
-part-requires c κs = search needs
+cut-requires : tie.Need-cut-requires Inv-loop μ-loop
+cut-requires c κs = search needs
 
 read-requires : tie.Need-read-requires Inv-loop μ-loop
 read-requires c κs = search needs
@@ -74,7 +74,7 @@ all-spec =
     μ-loop
     loop-holds
     end-requires
-    part-requires
+    cut-requires
     read-requires
     enum-known-n
     cast-if1

@@ -17,8 +17,8 @@ loop-holds c = search needs
 end-requires : tie.Need-end-requires Inv-loop μ-loop
 end-requires c κs = search needs
 
-part-requires : tie.Need-part-requires Inv-loop μ-loop
-part-requires c κs = search needs
+cut-requires : tie.Need-cut-requires Inv-loop μ-loop
+cut-requires c κs = search needs
 
 same-requires : tie.Need-same-requires Inv-loop μ-loop
 same-requires c κs = search needs
@@ -49,7 +49,7 @@ find-spec =
     μ-loop
     loop-holds
     end-requires
-    part-requires
+    cut-requires
     same-requires
     returns
     next-requires
