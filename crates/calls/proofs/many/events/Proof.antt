@@ -24,8 +24,8 @@ number-at-requires c κs = search needs
 event-requires : tie.Need-event-requires Inv-loop μ-loop
 event-requires c κs = search needs
 
-after-requires : tie.Need-after-requires Inv-loop μ-loop
-after-requires c κs = search needs
+behind-requires : tie.Need-behind-requires Inv-loop μ-loop
+behind-requires c κs = search needs
 
 add-i : tie.Need-add-i Inv-loop μ-loop
 add-i c = search needs
@@ -52,7 +52,7 @@ events-spec =
     length-at-requires
     number-at-requires
     event-requires
-    after-requires
+    behind-requires
     add-i
     loop-less
     loop-again
