@@ -64,23 +64,23 @@ cut-again o (suc n) a b h = go (λ u k. cut-again o n u b k) (ltb (length a) (ai
 
 -- ---- rows
 
-abbrev Row : Client → Stopped → List (List ℕ) → Many Took Stopped Client
-Row m over ps = many (λ c p. modelTook (length p) (enqueuePacket c p)) over m ps
+abbrev rowOf : Client → Stopped → List (List ℕ) → Many Took Stopped Client
+rowOf m over ps = many (λ c p. modelTook (length p) (enqueuePacket c p)) over m ps
 
 abbrev afterTurn : Client → Stopped → List ℕ → List (List ℕ) → Answer (Filing × Client) → Many Took Stopped Client
-afterTurn m over p rest a = onTurn (λ t c. onward (t ∷ []) (Row c over rest)) (λ x. record { values = []; stopped = x; end = m }) (modelTook (length p) a)
+afterTurn m over p rest a = onTurn (λ t c. onward (t ∷ []) (rowOf c over rest)) (λ x. record { values = []; stopped = x; end = m }) (modelTook (length p) a)
 
 -- the row of the first packets, all of which were taken, and then that of the others
-row-again : (m : Client) (over w : Stopped) (ps qs : List (List ℕ)) → Waits (Row m over ps .stopped)
-    → (Row m w (ps ++ qs) ≡ onward (Row m over ps .values) (Row (Row m over ps .end) w qs)) × (length (Row m over ps .values) ≡ length ps) × (Row m over ps .end .order ≡ m .order)
+row-again : (m : Client) (over w : Stopped) (ps qs : List (List ℕ)) → Waits (rowOf m over ps .stopped)
+    → (rowOf m w (ps ++ qs) ≡ onward (rowOf m over ps .values) (rowOf (rowOf m over ps .end) w qs)) × (length (rowOf m over ps .values) ≡ length ps) × (rowOf m over ps .end .order ≡ m .order)
 unfolding many onTurn modelTook
 row-again m over w [] qs h = (refl, refl, refl)
 row-again m over w (p ∷ ps) qs h = go (enqueuePacket m p) refl (λ c k. row-again c over w ps qs k) h
   where
     go : (a : Answer (Filing × Client)) → a ≡ enqueuePacket m p
-        → ((c : Client) → Waits (Row c over ps .stopped) → (Row c w (ps ++ qs) ≡ onward (Row c over ps .values) (Row (Row c over ps .end) w qs)) × (length (Row c over ps .values) ≡ length ps) × (Row c over ps .end .order ≡ c .order))
+        → ((c : Client) → Waits (rowOf c over ps .stopped) → (rowOf c w (ps ++ qs) ≡ onward (rowOf c over ps .values) (rowOf (rowOf c over ps .end) w qs)) × (length (rowOf c over ps .values) ≡ length ps) × (rowOf c over ps .end .order ≡ c .order))
         → Waits (afterTurn m over p ps a .stopped)
-        → (afterTurn m w p (ps ++ qs) a ≡ onward (afterTurn m over p ps a .values) (Row (afterTurn m over p ps a .end) w qs)) × (length (afterTurn m over p ps a .values) ≡ suc (length ps)) × (afterTurn m over p ps a .end .order ≡ m .order)
+        → (afterTurn m w p (ps ++ qs) a ≡ onward (afterTurn m over p ps a .values) (rowOf (afterTurn m over p ps a .end) w qs)) × (length (afterTurn m over p ps a .values) ≡ suc (length ps)) × (afterTurn m over p ps a .end .order ≡ m .order)
     go (gives x) e on k =
         let z = on (x .1) k in
         (ap (onward (record { bytes = length p; filing = x .0 } ∷ [])) (z .0), ap suc (z .1), z .2 ∙ order-kept m p x e)
@@ -93,7 +93,7 @@ unfolding enqueuePackets
 again m a b f m' e h =
     let o : ℕ = m .order in
     let cut : Cut = cutPackets o a in
-    let row : Many Took Stopped Client = Row m (stopAt o (cut .left)) (cut .packets) in
+    let row : Many Took Stopped Client = rowOf m (stopAt o (cut .left)) (cut .packets) in
     let z : _≡_ {A = Feeding × Client} (f, m') (record { packets = row .values; stopped = row .stopped }, row .end) = gives-same e in
     let rest : Cut = cutPackets o (cut .left ++ b) in
     let y = row-again m (stopAt o (cut .left)) (stopAt o (rest .left)) (cut .packets) (rest .packets) (subst-waits (ap (λ (v : Feeding × Client). v .0 .stopped) z) h) in
@@ -112,7 +112,7 @@ again m a b f m' e h =
     made x = gives (record { packets = x .values; stopped = x .stopped }, x .end)
 
     one : Client → Stopped → List (List ℕ) → Answer (Feeding × Client)
-    one k w ps = made (Row k w ps)
+    one k w ps = made (rowOf k w ps)
 
     subst-waits : {x w : Stopped} → x ≡ w → Waits x → Waits w
     subst-waits q k = rw q at k

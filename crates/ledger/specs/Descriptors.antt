@@ -103,8 +103,9 @@ handedIn [] said = []
 handedIn (x ∷ xs) [] = []
 handedIn (x ∷ xs) (s ∷ said) = handedOut x s ++ handedIn xs said
 
--- ---- Of the public calls: what the caller brings, and what it finds in its outputs
+-- ---- Of the public calls
 
+-- the descriptors that the caller brings
 abbrev pub brings : Ask → List ℕ
 brings (send-request kind) = []
 brings (Asked.enqueue-fds list) = list
@@ -125,6 +126,7 @@ abbrev pub placesOf : Shown → ℕ
 placesOf none = 0
 placesOf (packet z) = z .places
 
+-- the descriptors that it finds in its outputs
 abbrev pub finds : (x : Ask) → Value x → Outputs x → List ℕ
 finds (send-request kind) v o = []
 finds (Asked.enqueue-fds list) v o = []
@@ -140,7 +142,7 @@ finds (send-requests bytes) v o = []
 finds (enqueue-packets bytes) v o = []
 finds (poll-for-events out marks) v o = []
 
--- unless it was refused
+-- both, unless the call was refused
 unfoldable pub brought : (x : Ask) → Answer (Value x × Connection) → List ℕ
 brought x (gives y) = brings x
 brought x (refuses n) = []

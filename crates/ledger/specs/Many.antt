@@ -60,7 +60,7 @@ taken-first c room h c' e = go (c .events) refl e
         (i ∙ (λ k. sym a k ∷ sym d k), b ∙ ap (setEvents c) (sym d))
 
 -- so a row takes the first ones
-pub record First (c : Client) (events : List Held) (c' : Client) : Type 0 where
+pub record HandsFirst (c : Client) (events : List Held) (c' : Client) : Type 0 where
   pub in-order : c .events ≡ events ++ c' .events
   pub all-else : c' ≡ setEvents c (c' .events)
 
@@ -68,14 +68,14 @@ pub event-given : (t : Lent Client) (b : Bool) (h : Held) (t' : Lent Client) →
 unfolding eventTurn
 event-given t b h t' q = model-gives _ (packet h) (t' .at) (handing-gave (t .room) _ h t' q)
 
-row-first : (t : Lent Client) (xs : List Bool) → First (t .at) (many eventTurn ended t xs .values) (many eventTurn ended t xs .end .at)
+row-first : (t : Lent Client) (xs : List Bool) → HandsFirst (t .at) (many eventTurn ended t xs .values) (many eventTurn ended t xs .end .at)
 unfolding many onTurn
 row-first t [] = record { in-order = refl; all-else = refl }
 row-first t (b ∷ xs) = go (eventTurn t b) refl (λ h t' q. row-first t' xs)
   where
     go : (y : Turn Held Stop (Lent Client)) → y ≡ eventTurn t b
-        → ((h : Held) (t' : Lent Client) → goes h t' ≡ eventTurn t b → First (t' .at) (many eventTurn ended t' xs .values) (many eventTurn ended t' xs .end .at))
-        → First (t .at) (onTurn (λ a s'. onward (a ∷ []) (many eventTurn ended s' xs)) (λ w. record { values = []; stopped = w; end = t }) y .values)
+        → ((h : Held) (t' : Lent Client) → goes h t' ≡ eventTurn t b → HandsFirst (t' .at) (many eventTurn ended t' xs .values) (many eventTurn ended t' xs .end .at))
+        → HandsFirst (t .at) (onTurn (λ a s'. onward (a ∷ []) (many eventTurn ended s' xs)) (λ w. record { values = []; stopped = w; end = t }) y .values)
         (onTurn (λ a s'. onward (a ∷ []) (many eventTurn ended s' xs)) (λ w. record { values = []; stopped = w; end = t }) y .end .at)
     go (goes h t') q rest =
         let r = rest h t' q in
@@ -101,7 +101,7 @@ handed-gives y x c e = go (y .values) (y .stopped) e
     go [] meaningless q = both-are q
     go (h ∷ vs) w q = both-are q
 
-pub events-first : (c : Client) (room marks : ℕ) (x : Handings) (c' : Client) → pollForEvents c room marks ≡ gives (x, c') → First c (x .events) c'
+pub events-first : (c : Client) (room marks : ℕ) (x : Handings) (c' : Client) → pollForEvents c room marks ≡ gives (x, c') → HandsFirst c (x .events) c'
 unfolding pollForEvents
 events-first c room marks x c' e =
     let z = handed-gives (many eventTurn ended (lent c room) (turns marks)) x c' e in
@@ -114,7 +114,7 @@ events-first c room marks x c' e =
 -- what the public call hands out, and where
 pub record InOrder (c : Connection) (r : Rooms) (out marks : List ℕ) (v : ShownHandings) (c' : Connection) (r' : Rooms) (out' marks' : List ℕ) : Type 0 where
   pub events : List Held
-  pub first : First (reads c r) events (reads c' r')
+  pub first : HandsFirst (reads c r) events (reads c' r')
   pub count : v .count ≡ length events
   pub bytes : v .bytes ≡ length (packetsOf events)
   pub packets : out' ≡ put out 0 (packetsOf events)
@@ -154,7 +154,7 @@ sent-next c kind n c' e =
     (ap (λ (v : ℕ × Client). v .0) w, ap (λ (v : ℕ × Client). v .1 .numbers .written) w)
 
 -- so a row takes the next ones
-pub record Next (c : Client) (numbers : List ℕ) (c' : Client) : Type 0 where
+pub record Consecutive (c : Client) (numbers : List ℕ) (c' : Client) : Type 0 where
   pub counted : numbers ≡ counting (c .numbers .written + 1) (length numbers)
   pub written : c' .numbers .written ≡ c .numbers .written + length numbers
 
@@ -166,13 +166,13 @@ send-given c byte n c' e = go (ltb byte kinds) e
     go true q = model-gives _ n c' q
     go false q = absurd (let z : _≡_ {A = ℕ} 0 1 = cc in omega arith)
 
-row-next : (c : Client) (bytes : List ℕ) → Next c (many sendTurn ended c bytes .values) (many sendTurn ended c bytes .end)
+row-next : (c : Client) (bytes : List ℕ) → Consecutive c (many sendTurn ended c bytes .values) (many sendTurn ended c bytes .end)
 unfolding many onTurn counting
 row-next c [] = record { counted = refl; written = omega arith }
 row-next c (b ∷ bytes) = go (sendTurn c b) refl (λ c'. row-next c' bytes)
   where
-    go : (y : Turn ℕ Stop Client) → y ≡ sendTurn c b → ((c' : Client) → Next c' (many sendTurn ended c' bytes .values) (many sendTurn ended c' bytes .end))
-        → Next c (onTurn (λ a s'. onward (a ∷ []) (many sendTurn ended s' bytes)) (λ w. record { values = []; stopped = w; end = c }) y .values)
+    go : (y : Turn ℕ Stop Client) → y ≡ sendTurn c b → ((c' : Client) → Consecutive c' (many sendTurn ended c' bytes .values) (many sendTurn ended c' bytes .end))
+        → Consecutive c (onTurn (λ a s'. onward (a ∷ []) (many sendTurn ended s' bytes)) (λ w. record { values = []; stopped = w; end = c }) y .values)
         (onTurn (λ a s'. onward (a ∷ []) (many sendTurn ended s' bytes)) (λ w. record { values = []; stopped = w; end = c }) y .end)
     go (goes n c') q rest =
         let r = rest c' in
@@ -183,7 +183,7 @@ row-next c (b ∷ bytes) = go (sendTurn c b) refl (λ c'. row-next c' bytes)
         }
     go (stops w) q rest = record { counted = refl; written = omega arith }
 
-pub sends-next : (c : Client) (bytes : List ℕ) (x : Sendings) (c' : Client) → sendRequests c bytes ≡ gives (x, c') → Next c (x .numbers) c'
+pub sends-next : (c : Client) (bytes : List ℕ) (x : Sendings) (c' : Client) → sendRequests c bytes ≡ gives (x, c') → Consecutive c (x .numbers) c'
 unfolding sendRequests
 sends-next c bytes x c' e =
     let y : Many ℕ Stop Client = many sendTurn ended c bytes in

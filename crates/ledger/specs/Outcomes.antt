@@ -14,7 +14,7 @@ use Rattle.model.specs.declared.Prepared.{Prepared}
 use Rattle.connection.specs.Calls.{Opens}
 use Rattle.connection.specs.Theorems.{one-outcome}
 use Rattle.session.specs.Ask.{Ask, send-request, enqueue-fds, enqueue-packet, discard-reply, poll-for-reply-or-error, poll-check-for-reply-or-error, poll-for-reply, poll-for-event-with-sequence, take-closed-fds, prepare-check-for-reply-or-error, send-requests, enqueue-packets, poll-for-events, form, Value, Outputs, told, Answers}
-use Rattle.session.specs.AskLaws.{left, keeps}
+use Rattle.session.specs.AskLaws.{outputsOf, has-form}
 
 -- ---- what a call answers
 
@@ -63,19 +63,19 @@ new-one o r a b p q = next-one a b (p .exact .answers ∙ sym (q .exact .answers
 module _ (x : Ask) (c : Connection) (r : Rooms) where
   pub call-one : (a b : spoken x .Enum) (s t : Rooms) (o p : Outputs x) → Answers x c r (spoken x .says c a) s o → Answers x c r (spoken x .says c b) t p → (a ≡ b) × (s ≡ t) × (o ≡ p)
   call-one a b s t o p h i =
-      let k = keeps x c r (spoken x .says c a) s o h in
-      let l = keeps x c r (spoken x .says c b) t p i in
+      let k = has-form x c r (spoken x .says c a) s o h in
+      let l = has-form x c r (spoken x .says c b) t p i in
       let z = one-outcome (form x .shows) _ _ c r _ _ s t (k .promise) (l .promise) in
       (spoken x .one c a b (z .0), z .1, k .outputs ∙ sym (l .outputs))
 
   -- ---- a refusal
 
   pub call-refused : (n : ℕ) (s : Rooms) (o : Outputs x) → Answers x c r (refuses n) s o → (s ≡ r) × (o ≡ form x .lent)
-  unfolding answerOf roomsOf left
+  unfolding answerOf roomsOf outputsOf
   call-refused n s o h =
-      let k = keeps x c r (refuses n) s o h in
+      let k = has-form x c r (refuses n) s o h in
       go (guarded c r (form x .exactly c r)) (k .promise .exact .answers) (k .promise .exact .leaves) (k .outputs)
     where
-      go : (z : Answer (Done (form x .Given))) → refuses n ≡ answerOf (form x .shows) z → s ≡ roomsOf z r → o ≡ left (form x .lent) (form x .written) z → (s ≡ r) × (o ≡ form x .lent)
+      go : (z : Answer (Done (form x .Given))) → refuses n ≡ answerOf (form x .shows) z → s ≡ roomsOf z r → o ≡ outputsOf (form x .lent) (form x .written) z → (s ≡ r) × (o ≡ form x .lent)
       go (gives d) q l p = absurd (let z : _≡_ {A = ℕ} 0 1 = cc in omega arith)
       go (refuses m) q l p = (l, p)

@@ -30,7 +30,7 @@ use Rattle.model.specs.declared.Connection.{Connection}
 use Rattle.model.specs.declared.ReplyFdKind.{ReplyFdKind}
 use Rattle.batch.specs.Feed.{enqueuePackets}
 use Rattle.session.specs.Ask.{Ask, enqueue-fds, send-request, enqueue-packet, discard-reply, poll-for-reply-or-error, poll-check-for-reply-or-error, poll-for-reply, poll-for-event-with-sequence, take-closed-fds, prepare-check-for-reply-or-error, send-requests, enqueue-packets, poll-for-events, form, Value, Outputs, Answers}
-use Rattle.session.specs.AskLaws.{keeps}
+use Rattle.session.specs.AskLaws.{has-form}
 use Rattle.ledger.specs.Promised.{refused-on, refused-past, refused-here, here-refused, refused-alone, promise-by}
 use Rattle.ledger.specs.Room.{Filled, filled, kept, SendShort, PacketShort, NoRoom}
 
@@ -225,7 +225,7 @@ pub call-no-room : (x : Ask) (c : Connection) (r : Rooms) (a : Answer (Value x �
 call-no-room x c r a r' o h = (there, back)
   where
     by : (a ≡ refuses 5) ↔ (Sound c r × (form x .modelled (reads c r) ≡ refuses 5))
-    by = promise-by (form x .shows) _ (form x .modelled) c r a r' (keeps x c r a r' o h .promise) 5 (λ i. omega arith)
+    by = promise-by (form x .shows) _ (form x .modelled) c r a r' (has-form x c r a r' o h .promise) 5 (λ i. omega arith)
 
     there : a ≡ refuses 5 → Sound c r × NoRoom (kept c) (reads c r) x
     there i =

@@ -36,7 +36,7 @@ use Rattle.honest.specs.Run.{Entry}
 use Rattle.honest.specs.Public.{stateOf}
 use Rattle.session.specs.Ask.{Ask, send-request, enqueue-packet, discard-reply, poll-for-reply-or-error, poll-check-for-reply-or-error, poll-for-reply, poll-for-event-with-sequence, take-closed-fds, prepare-check-for-reply-or-error, send-requests, enqueue-packets, poll-for-events, form, Value, Outputs, Answers}
 use Rattle.session.specs.Ask as Asked
-use Rattle.session.specs.AskLaws.{left, keeps}
+use Rattle.session.specs.AskLaws.{outputsOf, has-form}
 use Rattle.session.specs.Session.{Session, new, call}
 use Rattle.ledger.specs.Descriptors.{within, accepted, unlessRefused, handedOut, tookWith, closedBy, brings, placesOf, finds, brought, found, sessionAccepted, sessionHanded}
 use Rattle.ledger.specs.Balance.{count-within, balances}
@@ -114,13 +114,13 @@ module _ (d : ℕ) where
 
   pub call-conserved : (x : Ask) (c : Connection) (r : Rooms) (a : Answer (Value x × Connection)) (r' : Rooms) (o : Outputs x) → Answers x c r a r' o
       → count d (within (reads (stateOf a c) r')) + count d (found x a o) ≡ count d (within (reads c r)) + count d (brought x a)
-  unfolding answerOf roomsOf modelOf guarded left stateOf brought found
+  unfolding answerOf roomsOf modelOf guarded outputsOf stateOf brought found
   call-conserved x c r a r' o h =
-      let k = keeps x c r a r' o h in
+      let k = has-form x c r a r' o h in
       rw (k .promise .exact .answers, k .promise .exact .leaves, k .outputs) (go (guarded c r (form x .exactly c r)) (k .promise .model))
     where
       go : (z : Answer (Done (form x .Given))) → modelOf z ≡ guarded c r (form x .modelled (reads c r))
-          → count d (within (reads (stateOf (answerOf (form x .shows) z) c) (roomsOf z r))) + count d (found x (answerOf (form x .shows) z) (left (form x .lent) (form x .written) z)) ≡ count d (within (reads c r)) + count d (brought x (answerOf (form x .shows) z))
+          → count d (within (reads (stateOf (answerOf (form x .shows) z) c) (roomsOf z r))) + count d (found x (answerOf (form x .shows) z) (outputsOf (form x .lent) (form x .written) z)) ≡ count d (within (reads c r)) + count d (brought x (answerOf (form x .shows) z))
       go (gives y) q = modelled-balances x (reads c r) (y .value) (reads (y .state) (y .left)) (sym (gives-rest _ 9 _ q))
       go (refuses n) q = refl
 

@@ -19,7 +19,7 @@ use Rattle.connection.specs.Calls.{openExact, opened, Opens}
 use Rattle.connection.specs.Opening.{opens-sound, opens-fresh}
 use Rattle.honest.specs.Public.{stateOf}
 use Rattle.session.specs.Ask.{Ask, Form, form, Value, Outputs, told, Answers, OfBytes}
-use Rattle.session.specs.AskLaws.{left, Keeps, keeps, goes-sound}
+use Rattle.session.specs.AskLaws.{outputsOf, HasForm, has-form, goes-sound}
 use Rattle.ledger.specs.State.{Seen, asRead, shownBy, writtenBy, Same, AllHeard, Row, none, call}
 
 -- ---- the model's of the state as it is read
@@ -29,16 +29,16 @@ pub record Alone (f : Form) (c : Connection) (r : Rooms) (a : Answer (f .Value �
   pub seen : asRead c a r' ≡ shownBy (f .shows) (reads c r) (f .modelled (reads c r))
   pub outputs : o ≡ writtenBy (f .lent) (f .written) (f .modelled (reads c r))
 
-form-alone : (f : Form) (c : Connection) (r : Rooms) → Sound c r → (a : Answer (f .Value × Connection)) (r' : Rooms) (o : f .Outputs) → Keeps f c r a r' o → Alone f c r a r' o
-unfolding answerOf roomsOf modelOf told stateOf shownBy left writtenBy
+form-alone : (f : Form) (c : Connection) (r : Rooms) → Sound c r → (a : Answer (f .Value × Connection)) (r' : Rooms) (o : f .Outputs) → HasForm f c r a r' o → Alone f c r a r' o
+unfolding answerOf roomsOf modelOf told stateOf shownBy outputsOf writtenBy
 form-alone f c r S a r' o k = rw (k .promise .exact .answers, k .promise .exact .leaves, k .outputs) (go (guarded c r (f .exactly c r)) (k .promise .model ∙ guarded-on c r (f .modelled (reads c r)) (is-sound c r S)))
   where
-    go : (g : Answer (Done (f .Given))) → modelOf g ≡ f .modelled (reads c r) → Alone f c r (answerOf (f .shows) g) (roomsOf g r) (left (f .lent) (f .written) g)
+    go : (g : Answer (Done (f .Given))) → modelOf g ≡ f .modelled (reads c r) → Alone f c r (answerOf (f .shows) g) (roomsOf g r) (outputsOf (f .lent) (f .written) g)
     go (gives d) q = record { seen = ap (shownBy (f .shows) (reads c r)) q; outputs = ap (writtenBy (f .lent) (f .written)) q }
     go (refuses n) q = record { seen = ap (shownBy (f .shows) (reads c r)) q; outputs = ap (writtenBy (f .lent) (f .written)) q }
 
 pub call-alone : (x : Ask) (c : Connection) (r : Rooms) → Sound c r → (a : Answer (Value x × Connection)) (r' : Rooms) (o : Outputs x) → Answers x c r a r' o → Alone (form x) c r a r' o
-call-alone x c r S a r' o h = form-alone (form x) c r S a r' o (keeps x c r a r' o h)
+call-alone x c r S a r' o h = form-alone (form x) c r S a r' o (has-form x c r a r' o h)
 
 -- ---- of two states that are alike
 

@@ -165,7 +165,7 @@ new-one o r a b p q = Outcomes.new-one o r a b p q
 
 -- Whatever state and rooms any other public call is given, there is an outcome that its promise allows,
 pub call-answers : (x : Ask) → OfBytes x → (c : Connection) (r : Rooms) → (a : Answer (Value x × Connection)) × (r' : Rooms) × (o : Outputs x) × Answers x c r a r' o
-call-answers x b c r = AskLaws.answered x b c r
+call-answers x b c r = AskLaws.some-answer x b c r
 
 -- and any two answers that it allows are equal, with the rooms that it leaves and every output.
 pub call-one : (x : Ask) (c : Connection) (r : Rooms) (a b : spoken x .Enum) (s t : Rooms) (o p : Outputs x) → Answers x c r (spoken x .says c a) s o → Answers x c r (spoken x .says c b) t p → (a ≡ b) × (s ≡ t) × (o ≡ p)
@@ -178,7 +178,7 @@ call-refused x c r n s o h = Outcomes.call-refused x c r n s o h
 -- ---- 7. CALLS THAT MAKE MANY STEPS
 
 -- The requests that `send_requests` sent have the numbers behind the last written, one after the other, and no others are sent.
-pub sends-next : (c : Client) (bytes : List ℕ) (x : Sendings) (c' : Client) → sendRequests c bytes ≡ gives (x, c') → Many.Next c (x .numbers) c'
+pub sends-next : (c : Client) (bytes : List ℕ) (x : Sendings) (c' : Client) → sendRequests c bytes ≡ gives (x, c') → Many.Consecutive c (x .numbers) c'
 sends-next c bytes x c' e = Many.sends-next c bytes x c' e
 
 -- The public call: the last number is as far from the last written as requests were sent, and is that of the state handed back.
@@ -186,7 +186,7 @@ pub send-requests-count : (c : Connection) (r : Rooms) (bytes : List ℕ) (v : S
 send-requests-count c r bytes v c' r' h = Many.sends-count c r bytes v c' r' h
 
 -- The events that `poll_for_events` hands out are the first of those held, in order; those behind them stay, and nothing else changes.
-pub events-first : (c : Client) (room marks : ℕ) (x : Handings) (c' : Client) → pollForEvents c room marks ≡ gives (x, c') → Many.First c (x .events) c'
+pub events-first : (c : Client) (room marks : ℕ) (x : Handings) (c' : Client) → pollForEvents c room marks ≡ gives (x, c') → Many.HandsFirst c (x .events) c'
 events-first c room marks x c' e = Many.events-first c room marks x c' e
 
 -- The public call: so it is as state and rooms are read, and those events stand in the outputs.

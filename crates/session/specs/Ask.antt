@@ -67,6 +67,7 @@ module _ {A B : Type 0} (f : A → B) (e : Connection → Rooms → Answer (Done
   abbrev hands-two : (A → List ℕ) → List ℕ → (A → List ℕ) → List ℕ → Form
   hands-two g out h more = record { Given = A; Value = B; Outputs = List ℕ × List ℕ; shows = f; lent = (out, more); written = λ v. (put out 0 (g v), put more 0 (h v)); exactly = e; modelled = m }
 
+-- each call in this form
 abbrev pub form : Ask → Form
 form (send-request kind) = tells same (λ c r. sendExact c r kind) (λ m. sendRequest m kind)
 form (enqueue-fds list) = tells same (λ c r. enqueueFdsExact c r list) (λ m. enqueueFds m list)
@@ -82,6 +83,7 @@ form (send-requests bytes) = tells shownSendings (λ c r. sendsExact c r bytes) 
 form (enqueue-packets bytes) = tells shownFed (λ c r. feedExact c r bytes) (λ m. enqueuePackets m bytes)
 form (poll-for-events out marks) = hands-two shownHandings (λ c r. eventsExact c r (length out) (length marks)) (λ m. pollForEvents m (length out) (length marks)) packetsOfHandings out marksOfHandings marks
 
+-- what an answer has beside the state, and the outputs
 abbrev pub Value : Ask → Type 0
 Value x = form x .Value
 

@@ -1,4 +1,4 @@
--- Each public call keeps a promise of the one form; so what a promise comes to is said once for all of them. Assumes nothing.
+-- The promise of each public call has the one form; so what a promise comes to is said once for all of them. Assumes nothing.
 use mathlib.Core.Bool.{Bool, true, false, not}
 use mathlib.Core.List.{List}
 use mathlib.Core.Path.{_≡_, refl, sym, ap, _∙_, subst}
@@ -25,25 +25,25 @@ use Rattle.session.specs.Ask.{Ask, send-request, enqueue-fds, enqueue-pa
 
 -- ---- One form
 
--- what is left of the outputs: with what is given, as w says; a refusal leaves them as they were lent
-unfoldable pub left : {A O : Type 0} → O → (A → O) → Answer (Done A) → O
-left o w (gives d) = w (d .value)
-left o w (refuses n) = o
+-- the outputs that an exact outcome leaves: with what is given, as w says; a refusal leaves them as they were lent
+unfoldable pub outputsOf : {A O : Type 0} → O → (A → O) → Answer (Done A) → O
+outputsOf o w (gives d) = w (d .value)
+outputsOf o w (refuses n) = o
 
 -- The promise of a call of this form, with its outputs.
-pub record Keeps (f : Form) (c : Connection) (r : Rooms) (a : Answer (f .Value × Connection)) (r' : Rooms) (o : f .Outputs) : Type 0 where
+pub record HasForm (f : Form) (c : Connection) (r : Rooms) (a : Answer (f .Value × Connection)) (r' : Rooms) (o : f .Outputs) : Type 0 where
   pub promise : Promise (f .shows) (f .exactly c r) (f .modelled) c r a r'
-  pub outputs : o ≡ left (f .lent) (f .written) (guarded c r (f .exactly c r))
+  pub outputs : o ≡ outputsOf (f .lent) (f .written) (guarded c r (f .exactly c r))
 
-left-one : {A : Type 0} (g : A → List ℕ) (out : List ℕ) (z : Answer (Done A)) → outputOf g z out ≡ left out (λ v. put out 0 (g v)) z
-unfolding outputOf left
-left-one g out (gives d) = refl
-left-one g out (refuses n) = refl
+outputs-one : {A : Type 0} (g : A → List ℕ) (out : List ℕ) (z : Answer (Done A)) → outputOf g z out ≡ outputsOf out (λ v. put out 0 (g v)) z
+unfolding outputOf outputsOf
+outputs-one g out (gives d) = refl
+outputs-one g out (refuses n) = refl
 
-left-two : {A : Type 0} (g h : A → List ℕ) (out more : List ℕ) (z : Answer (Done A)) → _≡_ {A = List ℕ × List ℕ} (outputOf g z out, outputOf h z more) (left (out, more) (λ v. (put out 0 (g v), put more 0 (h v))) z)
-unfolding outputOf left
-left-two g h out more (gives d) = refl
-left-two g h out more (refuses n) = refl
+outputs-two : {A : Type 0} (g h : A → List ℕ) (out more : List ℕ) (z : Answer (Done A)) → _≡_ {A = List ℕ × List ℕ} (outputOf g z out, outputOf h z more) (outputsOf (out, more) (λ v. (put out 0 (g v), put more 0 (h v))) z)
+unfolding outputOf outputsOf
+outputs-two g h out more (gives d) = refl
+outputs-two g h out more (refuses n) = refl
 
 -- a check answers with the state and the rooms that it found
 checks : (c : Connection) (r : Rooms) (n : ℕ) (a : Answer (Bool × Connection)) (r' : Rooms) → Prepares c r n (told a) → stateOf a c ≡ c → r' ≡ r
@@ -58,20 +58,20 @@ checks c r n a r' h i j = record { exact = go a (soundb c r) h i; model = guarde
     go (refuses k) false p q = record { answers = (let z : k ≡ 9 = cc in ap refuses z); leaves = j }
 
 -- EVERY PUBLIC CALL keeps such a promise,
-pub keeps : (x : Ask) (c : Connection) (r : Rooms) (a : Answer (Value x × Connection)) (r' : Rooms) (o : Outputs x) → Answers x c r a r' o → Keeps (form x) c r a r' o
-keeps (send-request kind) c r a r' o h = record { promise = h; outputs = refl }
-keeps (enqueue-fds list) c r a r' o h = record { promise = h; outputs = refl }
-keeps (enqueue-packet p) c r a r' o h = record { promise = h; outputs = refl }
-keeps (discard-reply n mode) c r a r' o h = record { promise = h; outputs = refl }
-keeps (poll-for-reply-or-error n out fds) c r a r' o h = record { promise = h .packet .promise; outputs = (λ i. (h .packet .output i, h .descriptors i)) ∙ left-two _ _ out fds _ }
-keeps (poll-check-for-reply-or-error n out) c r a r' o h = record { promise = h .promise; outputs = h .output ∙ left-one _ out _ }
-keeps (poll-for-reply n out) c r a r' o h = record { promise = h .promise; outputs = h .output ∙ left-one _ out _ }
-keeps (poll-for-event-with-sequence out) c r a r' o h = record { promise = h .promise; outputs = h .output ∙ left-one _ out _ }
-keeps (take-closed-fds out) c r a r' o h = record { promise = h .promise; outputs = h .output ∙ left-one _ out _ }
-keeps (prepare-check-for-reply-or-error n) c r a r' o h = record { promise = checks c r n a r' (h .0) (h .1) (h .2); outputs = refl }
-keeps (send-requests bytes) c r a r' o h = record { promise = h; outputs = refl }
-keeps (enqueue-packets bytes) c r a r' o h = record { promise = h; outputs = refl }
-keeps (poll-for-events out marks) c r a r' o h = record { promise = h .packets .promise; outputs = (λ i. (h .packets .output i, h .marked i)) ∙ left-two _ _ out marks _ }
+pub has-form : (x : Ask) (c : Connection) (r : Rooms) (a : Answer (Value x × Connection)) (r' : Rooms) (o : Outputs x) → Answers x c r a r' o → HasForm (form x) c r a r' o
+has-form (send-request kind) c r a r' o h = record { promise = h; outputs = refl }
+has-form (enqueue-fds list) c r a r' o h = record { promise = h; outputs = refl }
+has-form (enqueue-packet p) c r a r' o h = record { promise = h; outputs = refl }
+has-form (discard-reply n mode) c r a r' o h = record { promise = h; outputs = refl }
+has-form (poll-for-reply-or-error n out fds) c r a r' o h = record { promise = h .packet .promise; outputs = (λ i. (h .packet .output i, h .descriptors i)) ∙ outputs-two _ _ out fds _ }
+has-form (poll-check-for-reply-or-error n out) c r a r' o h = record { promise = h .promise; outputs = h .output ∙ outputs-one _ out _ }
+has-form (poll-for-reply n out) c r a r' o h = record { promise = h .promise; outputs = h .output ∙ outputs-one _ out _ }
+has-form (poll-for-event-with-sequence out) c r a r' o h = record { promise = h .promise; outputs = h .output ∙ outputs-one _ out _ }
+has-form (take-closed-fds out) c r a r' o h = record { promise = h .promise; outputs = h .output ∙ outputs-one _ out _ }
+has-form (prepare-check-for-reply-or-error n) c r a r' o h = record { promise = checks c r n a r' (h .0) (h .1) (h .2); outputs = refl }
+has-form (send-requests bytes) c r a r' o h = record { promise = h; outputs = refl }
+has-form (enqueue-packets bytes) c r a r' o h = record { promise = h; outputs = refl }
+has-form (poll-for-events out marks) c r a r' o h = record { promise = h .packets .promise; outputs = (λ i. (h .packets .output i, h .marked i)) ∙ outputs-two _ _ out marks _ }
 
 -- and what keeps it is an answer.
 unchecked : (c : Connection) (r : Rooms) (n : ℕ) (a : Answer (Bool × Connection)) (r' : Rooms) → Exact same (guarded c r (form (prepare-check-for-reply-or-error n) .exactly c r)) r a r'
@@ -84,23 +84,23 @@ unchecked c r n a r' x = rw (x .answers, x .leaves) (go (soundb c r))
     go true = (refl, refl, refl)
     go false = (refl, refl, refl)
 
-kept : (x : Ask) (c : Connection) (r : Rooms) (a : Answer (Value x × Connection)) (r' : Rooms) (o : Outputs x) → Keeps (form x) c r a r' o → Answers x c r a r' o
-kept (send-request kind) c r a r' o k = k .promise
-kept (enqueue-fds list) c r a r' o k = k .promise
-kept (enqueue-packet p) c r a r' o k = k .promise
-kept (discard-reply n mode) c r a r' o k = k .promise
-kept (poll-for-reply-or-error n out fds) c r a r' o k =
-    let z = k .outputs ∙ sym (left-two _ _ out fds _) in
+of-form : (x : Ask) (c : Connection) (r : Rooms) (a : Answer (Value x × Connection)) (r' : Rooms) (o : Outputs x) → HasForm (form x) c r a r' o → Answers x c r a r' o
+of-form (send-request kind) c r a r' o k = k .promise
+of-form (enqueue-fds list) c r a r' o k = k .promise
+of-form (enqueue-packet p) c r a r' o k = k .promise
+of-form (discard-reply n mode) c r a r' o k = k .promise
+of-form (poll-for-reply-or-error n out fds) c r a r' o k =
+    let z = k .outputs ∙ sym (outputs-two _ _ out fds _) in
     record { packet = record { promise = k .promise; output = ap (λ y. y .0) z }; descriptors = ap (λ y. y .1) z }
-kept (poll-check-for-reply-or-error n out) c r a r' o k = record { promise = k .promise; output = k .outputs ∙ sym (left-one _ out _) }
-kept (poll-for-reply n out) c r a r' o k = record { promise = k .promise; output = k .outputs ∙ sym (left-one _ out _) }
-kept (poll-for-event-with-sequence out) c r a r' o k = record { promise = k .promise; output = k .outputs ∙ sym (left-one _ out _) }
-kept (take-closed-fds out) c r a r' o k = record { promise = k .promise; output = k .outputs ∙ sym (left-one _ out _) }
-kept (prepare-check-for-reply-or-error n) c r a r' o k = unchecked c r n a r' (k .promise .exact)
-kept (send-requests bytes) c r a r' o k = k .promise
-kept (enqueue-packets bytes) c r a r' o k = k .promise
-kept (poll-for-events out marks) c r a r' o k =
-    let z = k .outputs ∙ sym (left-two _ _ out marks _) in
+of-form (poll-check-for-reply-or-error n out) c r a r' o k = record { promise = k .promise; output = k .outputs ∙ sym (outputs-one _ out _) }
+of-form (poll-for-reply n out) c r a r' o k = record { promise = k .promise; output = k .outputs ∙ sym (outputs-one _ out _) }
+of-form (poll-for-event-with-sequence out) c r a r' o k = record { promise = k .promise; output = k .outputs ∙ sym (outputs-one _ out _) }
+of-form (take-closed-fds out) c r a r' o k = record { promise = k .promise; output = k .outputs ∙ sym (outputs-one _ out _) }
+of-form (prepare-check-for-reply-or-error n) c r a r' o k = unchecked c r n a r' (k .promise .exact)
+of-form (send-requests bytes) c r a r' o k = k .promise
+of-form (enqueue-packets bytes) c r a r' o k = k .promise
+of-form (poll-for-events out marks) c r a r' o k =
+    let z = k .outputs ∙ sym (outputs-two _ _ out marks _) in
     record { packets = record { promise = k .promise; output = ap (λ y. y .0) z }; marked = ap (λ y. y .1) z }
 
 -- ---- There is an outcome
@@ -122,13 +122,13 @@ exactly-model (send-requests bytes) b c r S = Batch.sends-model c r S bytes
 exactly-model (enqueue-packets bytes) b c r S = feed-model c r S bytes b
 exactly-model (poll-for-events out marks) b c r S = Batch.events-model c r S (length out) (length marks)
 
-pub answered : (x : Ask) → OfBytes x → (c : Connection) (r : Rooms) → (a : Answer (Value x × Connection)) × (r' : Rooms) × (o : Outputs x) × Answers x c r a r' o
-answered x b c r =
+pub some-answer : (x : Ask) → OfBytes x → (c : Connection) (r : Rooms) → (a : Answer (Value x × Connection)) × (r' : Rooms) × (o : Outputs x) × Answers x c r a r' o
+some-answer x b c r =
     let g : Answer (Done (form x .Given)) = guarded c r (form x .exactly c r) in (
       answerOf (form x .shows) g,
       roomsOf g r,
-      left (form x .lent) (form x .written) g,
-      kept x c r _ _ _ (record { promise = record { exact = record { answers = refl; leaves = refl }; model = guarded-model _ (form x .modelled) c r (exactly-model x b c r) }; outputs = refl }),
+      outputsOf (form x .lent) (form x .written) g,
+      of-form x c r _ _ _ (record { promise = record { exact = record { answers = refl; leaves = refl }; model = guarded-model _ (form x .modelled) c r (exactly-model x b c r) }; outputs = refl }),
     )
 
 -- ---- Soundness
@@ -152,10 +152,10 @@ exactly-sound (poll-for-events out marks) b c r S = Batch.events-sound c r S (le
 module _ (x : Ask) (b : OfBytes x) (c : Connection) (r : Rooms) where
   -- What a call hands back is sound with the rooms that it leaves,
   pub handed-sound : (v : Value x) (c' : Connection) (r' : Rooms) (o : Outputs x) → Answers x c r (gives (v, c')) r' o → Sound c' r'
-  handed-sound v c' r' o h = state-sound (form x .shows) _ _ c r (exactly-sound x b c r) v c' r' (keeps x c r (gives (v, c')) r' o h .promise)
+  handed-sound v c' r' o h = state-sound (form x .shows) _ _ c r (exactly-sound x b c r) v c' r' (has-form x c r (gives (v, c')) r' o h .promise)
 
   -- and so, from a sound state, is what the caller goes on with, refused or not.
   pub goes-sound : Sound c r → (a : Answer (Value x × Connection)) (r' : Rooms) (o : Outputs x) → Answers x c r a r' o → Sound (stateOf a c) r'
   unfolding stateOf
   goes-sound S (gives y) r' o h = handed-sound (y .0) (y .1) r' o h
-  goes-sound S (refuses n) r' o h = subst (λ (y : Rooms). Sound c y) (sym (refusal-leaves (form x .shows) _ _ c r n r' (keeps x c r (refuses n) r' o h .promise))) S
+  goes-sound S (refuses n) r' o h = subst (λ (y : Rooms). Sound c y) (sym (refusal-leaves (form x .shows) _ _ c r n r' (has-form x c r (refuses n) r' o h .promise))) S

@@ -20,16 +20,16 @@ use Rattle.batch.specs.FeedLaws.{Byte, packets-bytes, took-goes, feed-model}
 use Rattle.connection.specs.Calls.{Enqueues, EnqueuesMany}
 use Rattle.honest.specs.Run.{Entry, noteTook}
 use Rattle.honest.specs.Public.{stateOf}
+use Rattle.session.specs.Rows.{Carried}
 use Rattle.session.specs.Noting.{Noting, noting, next, notePacket, tookOf, noteFed}
 
 -- P goes with the state through each `enqueue_packet` that takes its packet, t being the packet's true number,
 module _ (P : Connection → Rooms → List Entry → Type 1)
     (carries : (c : Connection) (r : Rooms) (l : List Entry) → Sound c r → P c r l → (t : ℕ) (p : List ℕ) → Byte p → (f : Filing) (c' : Connection) (r' : Rooms) → Enqueues c r p (gives (f, c')) r' → P c' r' (noteTook t p (gives (f, c')) l)) where
-  record Taken (s : Site) (n : Noting) : Type 1 where
-    pub sound : Sound (s .state) (s .left)
-    pub held : P (s .state) (s .left) (n .log)
+  abbrev Along : Site → Noting → Type 1
+  Along s n = Carried (λ c r. P c r (n .log)) s
 
-  packet-carries : (s : Site) (n : Noting) → Taken s n → (p : List ℕ) → Byte p → (v : Took) (s' : Site) → goes v s' ≡ packetTurn s p → Taken s' (notePacket p v n)
+  packet-carries : (s : Site) (n : Noting) → Along s n → (p : List ℕ) → Byte p → (v : Took) (s' : Site) → goes v s' ≡ packetTurn s p → Along s' (notePacket p v n)
   unfolding notePacket noteTook
   packet-carries s n k p b v s' q =
       let e : Answer (Done Filing) = enqueueExact (s .state) (s .left) p in
@@ -51,8 +51,8 @@ module _ (P : Connection → Rooms → List Entry → Type 1)
       let g : guarded c r (feedExact c r bytes) ≡ feedExact c r bytes = guarded-on c r (feedExact c r bytes) (is-sound c r S) in
       let whole : List (List ℕ) = cutPackets (c .order) bytes .packets in
       let x : Many Took Stopped Site = row (c .order) (site c r) (cutPackets (c .order) bytes) in
-      let q : Taken (x .end) (notes notePacket whole (x .values) (noting ts l)) =
-      many-row packetTurn Taken notePacket Byte packet-carries (stopAt (c .order) (cutPackets (c .order) bytes .left)) (site c r) whole (noting ts l) (record { sound = S; held = p }) (packets-bytes (c .order) bytes byte) in
+      let q : Along (x .end) (notes notePacket whole (x .values) (noting ts l)) =
+      many-row packetTurn Along notePacket Byte packet-carries (stopAt (c .order) (cutPackets (c .order) bytes .left)) (site c r) whole (noting ts l) (record { sound = S; held = p }) (packets-bytes (c .order) bytes byte) in
       let v : x .values ≡ tookOf (enqueuePackets (reads c r) bytes) = ap tookOf (feed-model c r S bytes byte) in
       let w : P (x .end .state) (x .end .left) (notes notePacket whole (tookOf (enqueuePackets (reads c r) bytes)) (noting ts l) .log) = subst (λ (y : List Took). P (x .end .state) (x .end .left) (notes notePacket whole y (noting ts l) .log)) v (q .held) in
       subst (λ (y : Answer (ShownFed × Connection)). P (stateOf y c) r' (noteFed ts (reads c r) bytes y l)) (sym (h .exact .answers ∙ ap (answerOf shownFed) g))

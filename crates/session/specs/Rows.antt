@@ -32,16 +32,20 @@ made : {A B : Type 0} (f : A → B) (e : Answer (Done A)) (m : Client → Answer
     → Promise f e m c r (gives (f (d .value), d .state)) (d .left)
 made f e m c r law S d g = promise-sound f e m c r law _ _ (is-sound c r S) (exact-given f e r d g)
 
+-- what goes with the state through a row: that it is sound, and P
+pub record Carried (P : Connection → Rooms → Type 1) (s : Site) : Type 1 where
+  pub sound : Sound (s .state) (s .left)
+  pub held : P (s .state) (s .left)
+
 -- ---- `send_requests`
 
 -- P goes with the state through each `send_request` that is accepted,
 module _ (P : Connection → Rooms → List Entry → Type 1)
     (carries : (c : Connection) (r : Rooms) (l : List Entry) → Sound c r → P c r l → (byte n : ℕ) (c' : Connection) (r' : Rooms) → Sends c r (kindOf byte) (gives (n, c')) r' → P c' r' (sent (hasReply (kindOf byte)) ∷ l)) where
-  record Sent (s : Site) (l : List Entry) : Type 1 where
-    pub sound : Sound (s .state) (s .left)
-    pub held : P (s .state) (s .left) l
+  abbrev Along : Site → List Entry → Type 1
+  Along s l = Carried (λ c r. P c r l) s
 
-  send-carries : (s : Site) (l : List Entry) → Sent s l → (byte : ℕ) → Any byte → (n : ℕ) (s' : Site) → goes n s' ≡ sendStep s byte → Sent s' (sent (hasReply (kindOf byte)) ∷ l)
+  send-carries : (s : Site) (l : List Entry) → Along s l → (byte : ℕ) → Any byte → (n : ℕ) (s' : Site) → goes n s' ≡ sendStep s byte → Along s' (sent (hasReply (kindOf byte)) ∷ l)
   send-carries s l k byte u n s' e =
       let g = send-gave (s .state) (s .left) byte n s' e in
       record {
@@ -62,7 +66,7 @@ module _ (P : Connection → Rooms → List Entry → Type 1)
   sends-row c r l S p bytes a r' h =
       let g : guarded c r (sendsExact c r bytes) ≡ sendsExact c r bytes = guarded-on c r (sendsExact c r bytes) (is-sound c r S) in
       let x : Many ℕ Stop Site = many sendStep ended (site c r) bytes in
-      let q : Sent (x .end) (notes (λ (b n : ℕ) (k : List Entry). sent (hasReply (kindOf b)) ∷ k) bytes (x .values) l) = many-row sendStep Sent (λ b n k. sent (hasReply (kindOf b)) ∷ k) Any send-carries ended (site c r) bytes l (record { sound = S; held = p }) (all-any bytes) in
+      let q : Along (x .end) (notes (λ (b n : ℕ) (k : List Entry). sent (hasReply (kindOf b)) ∷ k) bytes (x .values) l) = many-row sendStep Along (λ b n k. sent (hasReply (kindOf b)) ∷ k) Any send-carries ended (site c r) bytes l (record { sound = S; held = p }) (all-any bytes) in
       let w : P (x .end .state) (x .end .left) (sentAll (take (length (x .values)) bytes) l) = subst (λ k. P (x .end .state) (x .end .left) k) (notes-sent bytes (x .values) l) (q .held) in
       subst (λ y. P (stateOf y c) r' (noteSends bytes y l)) (sym (h .exact .answers ∙ ap (answerOf shownSendings) g))
       (subst (λ y. P (x .end .state) y (sentAll (take (length (x .values)) bytes) l)) (sym (h .exact .leaves ∙ ap (λ y. roomsOf y r) g)) w)
@@ -73,11 +77,10 @@ module _ (P : Connection → Rooms → List Entry → Type 1)
 module _ (P : Connection → Rooms → Type 1)
     (carries : (c : Connection) (r : Rooms) → Sound c r → P c r → (bytes : ℕ) (h : Held) (c' : Connection) (r' : Rooms)
     → Promise shownEvent (eventExact c r bytes) (λ m. pollForEvent m bytes) c r (gives (shownEvent (packet h), c')) r' → P c' r') where
-  record Polled (t : Lent Site) (u : Unit {0}) : Type 1 where
-    pub sound : Sound (t .at .state) (t .at .left)
-    pub held : P (t .at .state) (t .at .left)
+  abbrev Beside : Lent Site → Unit {0} → Type 1
+  Beside t u = Carried P (t .at)
 
-  event-carries : (t : Lent Site) (u : Unit {0}) → Polled t u → (marks : Bool) → Any marks → (h : Held) (t' : Lent Site) → goes h t' ≡ eventStep t marks → Polled t' u
+  event-carries : (t : Lent Site) (u : Unit {0}) → Beside t u → (marks : Bool) → Any marks → (h : Held) (t' : Lent Site) → goes h t' ≡ eventStep t marks → Beside t' u
   event-carries t u k marks i h t' e =
       let g = event-gave t marks h t' e in
       record {
@@ -103,9 +106,9 @@ module _ (P : Connection → Rooms → Type 1)
       x : Many Held Stop (Lent Site)
       x = many eventStep ended (lent (site c r) (length out)) (turns (length marks))
 
-      q : Polled (x .end) tt
-      q = subst (λ u. Polled (x .end) u) (notes-none (turns (length marks)) (x .values) tt)
-          (many-row eventStep Polled (λ b n u. u) Any event-carries ended (lent (site c r) (length out)) (turns (length marks)) tt (record { sound = S; held = p }) (all-any (turns (length marks))))
+      q : Beside (x .end) tt
+      q = subst (λ u. Beside (x .end) u) (notes-none (turns (length marks)) (x .values) tt)
+          (many-row eventStep Beside (λ b n u. u) Any event-carries ended (lent (site c r) (length out)) (turns (length marks)) tt (record { sound = S; held = p }) (all-any (turns (length marks))))
 
       go : (y : Answer (Done Handings)) → y ≡ eventsExact c r (length out) (length marks) → a ≡ answerOf shownHandings y → r' ≡ roomsOf y r → P (stateOf a c) r'
       go (gives d) e i j =

@@ -39,6 +39,7 @@ logged (send-requests bytes) ts m a l = noteSends bytes a l
 logged (enqueue-packets bytes) ts m a l = noteFed ts m bytes a l
 logged (poll-for-events out marks) ts m a l = l
 
+-- A SESSION: state and rooms that it came to, and its log. Packets are of bytes.
 pub data Session : Connection → Rooms → List Entry → Type 1 where
   new : (o : ℕ) (r : Rooms) (c : Connection) → Opens o r (gives (tt, c)) → Session c r []
   call : {c : Connection} {r : Rooms} {l : List Entry} (x : Ask) → OfBytes x → (ts : List ℕ) (a : Answer (Value x × Connection)) (r' : Rooms) (o : Outputs x) → Answers x c r a r' o → Session c r l

@@ -24,7 +24,7 @@ use Rattle.honest.specs.Run.{Entry, sent, noteSent, noteTook, Fair, Honest, Rig
 use Rattle.honest.specs.Public.{stateOf, Public, opens, sends, takes, others}
 use Rattle.honest.specs.Theorems as Any
 use Rattle.session.specs.Ask.{Ask, send-request, enqueue-fds, enqueue-packet, discard-reply, poll-for-reply-or-error, poll-check-for-reply-or-error, poll-for-reply, poll-for-event-with-sequence, take-closed-fds, prepare-check-for-reply-or-error, send-requests, enqueue-packets, poll-for-events, Value, Outputs, Answers, OfBytes}
-use Rattle.session.specs.AskLaws.{keeps, goes-sound}
+use Rattle.session.specs.AskLaws.{has-form, goes-sound}
 use Rattle.session.specs.Noting.{next}
 use Rattle.session.specs.Session.{logged, Session, new, call}
 use Rattle.session.specs.Rows.{sends-row, events-row}
@@ -65,7 +65,7 @@ call-public (poll-check-for-reply-or-error n out) b ts a r' o h S k = others (Ca
 call-public (poll-for-reply n out) b ts a r' o h S k = others (Calls.poll-reply n (length out)) tt shownPoll _ a r' (h .promise) k
 call-public (poll-for-event-with-sequence out) b ts a r' o h S k = others (Calls.poll-event (length out)) tt shownEvent _ a r' (h .promise) k
 call-public (take-closed-fds out) b ts a r' o h S k = others (Calls.take-closed (length out)) tt length _ a r' (h .promise) k
-call-public {c = c} {r = r} (prepare-check-for-reply-or-error n) b ts a r' o h S k = others (Calls.prepare n) tt same _ a r' (keeps (prepare-check-for-reply-or-error n) c r a r' o h .promise) k
+call-public {c = c} {r = r} (prepare-check-for-reply-or-error n) b ts a r' o h S k = others (Calls.prepare n) tt same _ a r' (has-form (prepare-check-for-reply-or-error n) c r a r' o h .promise) k
 call-public {c = c} {r = r} {l = l} (send-requests bytes) b ts a r' o h S k = sends-row Public (λ c r l S p byte n c' r' q. sends-on c r l byte n c' r' q p) c r l S k bytes a r' h
 call-public {c = c} {r = r} {l = l} (enqueue-packets bytes) b ts a r' o h S k = feed-row Public (λ c r l S k t p b f c' r' q. packets-on c r l t p f c' r' q k) c r l S k ts bytes b a r' h
 call-public {c = c} {r = r} {l = l} (poll-for-events out marks) b ts a r' o h S k =
