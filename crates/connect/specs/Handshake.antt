@@ -1,7 +1,7 @@
 -- The handshake over its lent buffer: when it is sound, and what its calls answer. Assumes nothing.
 use mathlib.Core.Path.{_≡_, refl, sym, ap, _∙_}
 use mathlib.Core.Bool.{Bool, not}
-use mathlib.Core.List.{List, []}
+use mathlib.Core.List.{List}
 use Prim.Native.Nat.{ℕ, _+_, _-_, _*_}
 use lib.Dec.{leb, ltb, eqb}
 use lib.ListN.{length}
@@ -13,6 +13,7 @@ use Rattle.octets.specs.Field.{field}
 use Rattle.refusal.specs.Answer.{Answer, gives, refuses, refuse, decides}
 use Rattle.refusal.specs.Numbers.{numberOf, refusalOf, listed}
 use Rattle.connect.specs.declared.handshake.Connect.{Connect}
+use Rattle.connect.specs.declared.handshake.Span.{Span}
 use Rattle.connect.specs.declared.handshake.Made.{Made}
 use Rattle.connect.specs.declared.handshake.Made.the-variants as Made
 use Rattle.connect.specs.declared.handshake.Capacity.{Capacity}
@@ -58,17 +59,18 @@ made o n = refuse (not (room n)) 9 (refuse (not (legal o)) 13 (gives (fresh o)))
 unfoldable pub capacity : Connect → List ℕ → Answer ℕ
 capacity c s = refuse (not (soundb c s)) 9 (gives (c .target - c .filled))
 
--- the unfilled part up to the target, and where it starts; none where the handshake is unsound
-unfoldable pub part : Connect → List ℕ → List ℕ
-part c s = choose (soundb c s) (cut (c .filled) (c .target - c .filled) s) []
+-- `unfilled`: the part from the filled bytes to the target; none, at 0, where the handshake is unsound
+unfoldable pub unfilled : Connect → List ℕ → Span
+unfilled c s = choose (soundb c s) (record { start = c .filled; end = c .target }) (record { start = 0; end = 0 })
 
-unfoldable pub start : Connect → List ℕ → ℕ
-start c s = choose (soundb c s) (c .filled) 0
+-- the bytes of a part
+abbrev pub part : Span → List ℕ → List ℕ
+part p s = cut (p .start) (p .end - p .start) s
 
--- `buffer` lends p of the buffer b: it shows that part, and stands where the part stands in the buffer (a place is a block of memory and an index in it).
+-- `buffer` lends p of the buffer b: it shows the unfilled part, and stands where the part stands in the buffer (a place is a block of memory and an index in it).
 pub record Lent (c : Connect) (b p : RefT (List ℕ)) : Type 0 where
-  pub shows : p .now ≡ part c (b .now)
-  pub stands : p .ptr ≡ (b .ptr .0, start c (b .now) + b .ptr .1)
+  pub shows : p .now ≡ part (unfilled c (b .now)) (b .now)
+  pub stands : p .ptr ≡ (b .ptr .0, unfilled c (b .now) .start + b .ptr .1)
 
 -- what a reply has come to
 pub data Progress : Type 0 where

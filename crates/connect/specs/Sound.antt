@@ -1,15 +1,17 @@
 -- Soundness of a handshake in the rules' words, and the same as its test. Assumes nothing.
-use mathlib.Core.Path.{_≡_, sym, _∙_}
+use mathlib.Core.Path.{_≡_, refl, sym, _∙_}
 use mathlib.Core.Bool.{Bool, true, false, not}
 use mathlib.Core.List.{List}
 use Prim.Native.Nat.{ℕ, _≤_}
+use native.Mathlib.Omega.{arith}
 use lib.Dec.{leb}
 use lib.ListN.{length}
 use borrow.Author.Tests.{leb-true, eqb-true, le-leb, eq-eqb, not-false}
-use Rattle.octets.specs.Logic.{both-left, both-right, both-yes, both-on}
+use Rattle.octets.specs.Logic.{choose, both-left, both-right, both-yes, both-on}
 use Rattle.octets.specs.Bytes.{legal}
-use Rattle.connect.specs.Handshake.{head, mostBuffer, aim, room, soundb}
+use Rattle.connect.specs.Handshake.{head, mostBuffer, aim, room, soundb, unfilled}
 use Rattle.connect.specs.declared.handshake.Connect.{Connect}
+use Rattle.connect.specs.declared.handshake.Span.{Span}
 
 -- 01, Rooms: what a sound handshake is
 pub record Sound (c : Connect) (s : List ℕ) : Type 0 where
@@ -54,3 +56,19 @@ sound-rest c s h k l e f =
 -- what a call's test tells
 pub sound-seen : (c : Connect) (s : List ℕ) (b : Bool) → b ≡ soundb c s → not b ≡ false → Sound c s
 sound-seen c s b e h = sound-is c s (sym e ∙ not-false b h)
+
+-- The unfilled part lies in the buffer.
+pub record Within (p : Span) (s : List ℕ) : Type 0 where
+  pub ordered : p .start ≤ p .end
+  pub inside : p .end ≤ length s
+
+pub unfilled-within : (c : Connect) (s : List ℕ) → Within (unfilled c s) s
+unfolding unfilled choose
+unfilled-within c s = go (soundb c s) refl
+  where
+    go : (b : Bool) → soundb c s ≡ b → Within (choose {A = Span} b (record { start = c .filled; end = c .target }) (record { start = 0; end = 0 })) s
+    go true e = let h = sound-is c s e in record { ordered = h .not-passed; inside = h .target-fits }
+    go false e = record { ordered = omega arith; inside = omega arith }
+
+pub within-seen : (c : Connect) (s : List ℕ) (p : Span) → p ≡ unfilled c s → Within p s
+within-seen c s p e = rw e (unfilled-within c s)

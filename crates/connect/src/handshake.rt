@@ -2,7 +2,7 @@
 ghost use mathlib.Core.Path.{_≡_};
 ghost use Prim.Native.Nat.{_≤_};
 ghost use lib.ListN.{length};
-ghost use Rattle.connect.specs.Handshake.{head, aim, fresh as Handshake·fresh, soundb, made, capacity, advanced, saysMade, saysCapacity, saysAdvanced, Lent};
+ghost use Rattle.connect.specs.Handshake.{head, aim, fresh as Handshake·fresh, soundb, made, capacity, unfilled as Handshake·unfilled, advanced, saysMade, saysCapacity, saysAdvanced, Lent};
 use refusal::Refusal;
 
 // The bytes of a reply that say how long it is, and the most that a buffer may have.
@@ -18,6 +18,12 @@ pub struct Connect {
     pub order: u8,
     pub filled: usize,
     pub target: usize,
+}
+
+// A part of a buffer: where it starts, and where the bytes behind it start.
+pub struct Span {
+    pub start: usize,
+    pub end: usize,
 }
 
 pub enum Made {
@@ -67,16 +73,27 @@ impl Connect {
         Capacity::Bytes(self.target - self.filled)
     }
 
-    // The part of the buffer that is to be filled next; empty once the reply is complete, and where
-    // the handshake is unsound.
+    // Where the part of the buffer lies that is to be filled next: from the filled bytes to the
+    // target, empty once the reply is complete; at 0 and empty where the handshake is unsound.
+    pub fn unfilled(self, buf: &[u8]) -> Span
+        ensures { λ r. ⌜ r ≡ Handshake·unfilled self (now (buf .entry)) ⌝ }
+    {
+        if !is_sound(self, buf) {
+            return Span { start: 0, end: 0 };
+        }
+        Span {
+            start: self.filled,
+            end: self.target,
+        }
+    }
+
+    // That part, lent.
     pub fn buffer<'a>(self, buf: &'a mut [u8]) -> &'a mut [u8]
         ensures { λ r. ⌜ Lent self (buf .entry) r ⌝ }
     {
-        if !is_sound(self, buf) {
-            return &mut buf[0..0];
-        }
-        let start = self.filled;
-        let end = self.target;
+        let unfilled = self.unfilled(buf);
+        let start = unfilled.start;
+        let end = unfilled.end;
         &mut buf[start..end]
     }
 

@@ -16,6 +16,7 @@ pub use handshake::Connect;
 pub use handshake::HEAD;
 pub use handshake::MOST_BUFFER;
 pub use handshake::Made;
+pub use handshake::Span;
 pub use reply::FIXED;
 pub use reply::Setup;
 pub use reply::SetupAnswer;

@@ -1,7 +1,7 @@
 -- The reader over its lent buffer: when it is sound, and what its calls answer. Assumes nothing.
 use mathlib.Core.Path.{_≡_, refl, sym, ap, _∙_}
 use mathlib.Core.Bool.{Bool, not}
-use mathlib.Core.List.{List, []}
+use mathlib.Core.List.{List}
 use Prim.Native.Nat.{ℕ, _+_, _-_}
 use lib.Dec.{leb, ltb, eqb}
 use lib.ListN.{length}
@@ -14,6 +14,7 @@ use Rattle.refusal.specs.Numbers.{numberOf, refusalOf, listed}
 use Rattle.packet.specs.Packet.{leastPacket, mostPacket}
 use Rattle.packet_reader.specs.Frame.{aim}
 use Rattle.packet_reader.specs.declared.PacketReader.{PacketReader}
+use Rattle.packet_reader.specs.declared.Span.{Span}
 use Rattle.packet_reader.specs.declared.Made.{Made}
 use Rattle.packet_reader.specs.declared.Made.the-variants as Made
 use Rattle.packet_reader.specs.declared.Capacity.{Capacity}
@@ -48,17 +49,18 @@ made o n = refuse (not (room n)) 9 (refuse (not (legal o)) 13 (gives (fresh o)))
 unfoldable pub capacity : PacketReader → List ℕ → Answer ℕ
 capacity r s = refuse (not (soundb r s)) 9 (gives (r .target - r .filled))
 
--- the unfilled part up to the target, and where it starts; none where the reader is unsound
-unfoldable pub part : PacketReader → List ℕ → List ℕ
-part r s = choose (soundb r s) (cut (r .filled) (r .target - r .filled) s) []
+-- `unfilled`: the part from the filled bytes to the target; none, at 0, where the reader is unsound
+unfoldable pub unfilled : PacketReader → List ℕ → Span
+unfilled r s = choose (soundb r s) (record { start = r .filled; end = r .target }) (record { start = 0; end = 0 })
 
-unfoldable pub start : PacketReader → List ℕ → ℕ
-start r s = choose (soundb r s) (r .filled) 0
+-- the bytes of a part
+abbrev pub part : Span → List ℕ → List ℕ
+part p s = cut (p .start) (p .end - p .start) s
 
--- `buffer` lends p of the buffer b: it shows that part, and stands where the part stands in the buffer (a place is a block of memory and an index in it).
+-- `buffer` lends p of the buffer b: it shows the unfilled part, and stands where the part stands in the buffer (a place is a block of memory and an index in it).
 pub record Lent (r : PacketReader) (b p : RefT (List ℕ)) : Type 0 where
-  pub shows : p .now ≡ part r (b .now)
-  pub stands : p .ptr ≡ (b .ptr .0, start r (b .now) + b .ptr .1)
+  pub shows : p .now ≡ part (unfilled r (b .now)) (b .now)
+  pub stands : p .ptr ≡ (b .ptr .0, unfilled r (b .now) .start + b .ptr .1)
 
 -- what a packet has come to
 pub data Progress : Type 0 where

@@ -10,7 +10,7 @@ ghost use Prim.Native.Nat.{_≤_};
 ghost use lib.ListN.{length};
 ghost use Rattle.packet_reader.specs.Frame.{total, aim};
 ghost use Rattle.packet_reader.specs.Front.{frontOf, saysBegins};
-ghost use Rattle.packet_reader.specs.Reader.{fresh as Reader·fresh, soundb, made, capacity, advanced, saysMade, saysCapacity, saysAdvanced, Lent};
+ghost use Rattle.packet_reader.specs.Reader.{fresh as Reader·fresh, soundb, made, capacity, unfilled as Reader·unfilled, advanced, saysMade, saysCapacity, saysAdvanced, Lent};
 use refusal::Refusal;
 
 // The most bytes that a buffer may have.
@@ -51,7 +51,8 @@ pub enum Begins {
     Whole(usize),
 }
 
-// An order other than `l` counts as `B`: whoever calls has tested it.
+// Inside, a step of `batch`: the order is that of a state that was found sound, and no refusal is
+// given here. One other than `l` counts as `B`.
 pub fn front(order: u8, bytes: &[u8]) -> Begins
     ensures { λ r. ⌜ saysBegins r ≡ frontOf order (now (bytes .entry)) ⌝ }
 {
@@ -76,6 +77,12 @@ pub struct PacketReader {
     pub order: u8,
     pub filled: usize,
     pub target: usize,
+}
+
+// A part of a buffer: where it starts, and where the bytes behind it start.
+pub struct Span {
+    pub start: usize,
+    pub end: usize,
 }
 
 pub enum Made {
@@ -125,15 +132,27 @@ impl PacketReader {
         Capacity::Bytes(self.target - self.filled)
     }
 
-    // The part of the buffer that is to be filled next; empty where the reader is unsound.
+    // Where the part of the buffer lies that is to be filled next: from the filled bytes to the
+    // target; at 0 and empty where the reader is unsound.
+    pub fn unfilled(self, buf: &[u8]) -> Span
+        ensures { λ r. ⌜ r ≡ Reader·unfilled self (now (buf .entry)) ⌝ }
+    {
+        if !is_sound(self, buf) {
+            return Span { start: 0, end: 0 };
+        }
+        Span {
+            start: self.filled,
+            end: self.target,
+        }
+    }
+
+    // That part, lent.
     pub fn buffer<'a>(self, buf: &'a mut [u8]) -> &'a mut [u8]
         ensures { λ r. ⌜ Lent self (buf .entry) r ⌝ }
     {
-        if !is_sound(self, buf) {
-            return &mut buf[0..0];
-        }
-        let start = self.filled;
-        let end = self.target;
+        let unfilled = self.unfilled(buf);
+        let start = unfilled.start;
+        let end = unfilled.end;
         &mut buf[start..end]
     }
 

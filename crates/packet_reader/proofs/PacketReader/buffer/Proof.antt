@@ -1,54 +1,27 @@
 -- `packet_reader::PacketReader::buffer` meets its contract. Assumes nothing.
 use Rattle.octets.specs.Put.{cut}
-use Rattle.octets.specs.Logic.{choose}
 use native.Mathlib.Omega.{arith}
-use mathlib.Core.Path.{sym, _∙_}
-use borrow.Author.Tests.{not-true, not-false}
-use Rattle.packet_reader.specs.Sound.{sound-seen}
-use Rattle.packet_reader.specs.Reader.{part, start}
+use mathlib.Core.Path.{sym}
+use Rattle.packet_reader.specs.Sound.{within-seen}
 use borrow.Author.Needs.{needs}
 use Rattle.packet_reader.proofs.PacketReader.buffer.Statement.{statement}
 use Rattle.packet_reader.proofs.PacketReader.buffer.Tie as tie
 
-is-sound-requires : tie.Need-is-sound-requires
-is-sound-requires c κs = search needs
+unfilled-requires : tie.Need-unfilled-requires
+unfilled-requires c κs = search needs
 
 sub-result : tie.Need-sub-result
-sub-result c = search needs
+sub-result c = omega (arith, within-seen _ _ _ (c .unfilled .ensures))
 
 part-buf-start : tie.Need-part-buf-start
-part-buf-start c = search needs
+part-buf-start c = omega (arith, within-seen _ _ _ (c .unfilled .ensures))
 
 part-buf-end : tie.Need-part-buf-end
-part-buf-end c = search needs
+part-buf-end c = omega (arith, within-seen _ _ _ (c .unfilled .ensures))
 
 returns : tie.Need-returns
-unfolding part start choose
-returns c = record { shows = simp (sym (c .before .before .is-sound .ensures) ∙ not-true _ (c .before .if1 .taken)); stands = simp (sym (c .before .before .is-sound .ensures) ∙ not-true _ (c .before .if1 .taken)) }
-
-sub-result-2 : tie.Need-sub-result-2
-sub-result-2 c = omega (arith, sound-seen _ _ _ (c .before .is-sound .ensures) (c .if1 .left))
-
-part-buf-start-2 : tie.Need-part-buf-start-2
-part-buf-start-2 c = omega (arith, sound-seen _ _ _ (c .before .is-sound .ensures) (c .if1 .left))
-
-part-buf-end-2 : tie.Need-part-buf-end-2
-part-buf-end-2 c = omega (arith, sound-seen _ _ _ (c .before .is-sound .ensures) (c .if1 .left))
-
-returns-2 : tie.Need-returns-2
-unfolding part start choose cut
-returns-2 c = record { shows = simp (sym (c .before .before .is-sound .ensures) ∙ not-false _ (c .before .if1 .left)); stands = simp (sym (c .before .before .is-sound .ensures) ∙ not-false _ (c .before .if1 .left)) }
+unfolding cut
+returns c = record { shows = simp (sym (c .before .unfilled .ensures)); stands = simp (sym (c .before .unfilled .ensures)) }
 
 pub buffer-spec : {M : Type 1} → statement M
-buffer-spec =
-    tie.close
-    (tie.spec
-    is-sound-requires
-    sub-result
-    part-buf-start
-    part-buf-end
-    returns
-    sub-result-2
-    part-buf-start-2
-    part-buf-end-2
-    returns-2)
+buffer-spec = tie.close (tie.spec unfilled-requires sub-result part-buf-start part-buf-end returns)
