@@ -1,4 +1,5 @@
-/* The header and the static library from C: a request, its reply with a descriptor, many at once, a reader, an unsound state. */
+/* The header and the static library from C: a request, its reply with a descriptor, many at once, a reader, an unsound state; and
+ * the bytes of setup and XC-MISC, which no field of is like another, in both byte orders. */
 #include <stdio.h>
 #include <string.h>
 
@@ -101,12 +102,94 @@ static void unsound(void) {
     expect("as found", state[XM_STATE_WAITING], 300);
 }
 
+static void same(const char *what, const uint8_t *want, size_t size) {
+    expect(what, (unsigned)memcmp(out, want, size), 0);
+}
+
+/* Core, Connection Setup: a name of three bytes and data of five; behind the request the output stays. */
+static void opened(void) {
+    const uint8_t name[3] = {21, 22, 23}, data[5] = {31, 32, 33, 34, 35};
+    const uint8_t little[25] = {'l', 0, 11, 0, 0, 0, 3, 0, 5, 0, 0, 0, 21, 22, 23, 0, 31, 32, 33, 34, 35, 0, 0, 0, 255};
+    const uint8_t big[25] = {'B', 0, 0, 11, 0, 0, 0, 3, 0, 5, 0, 0, 21, 22, 23, 0, 31, 32, 33, 34, 35, 0, 0, 0, 255};
+    size_t size = 9;
+    memset(out, 255, sizeof out);
+    expect("setup request", xm_setup_request(XM_LITTLE, name, 3, data, 5, out, sizeof out, &size), XM_DONE);
+    expect("its size", size, 24);
+    same("its bytes, little", little, 25);
+    memset(out, 255, sizeof out);
+    expect("setup request", xm_setup_request(XM_BIG, name, 3, data, 5, out, 24, &size), XM_DONE);
+    same("its bytes, big", big, 25);
+    expect("a byte less room", xm_setup_request(XM_BIG, name, 3, data, 5, out, 23, &size), XM_OUT_SHORT);
+}
+
+/* XC-MISC, Encoding: version 258.772, and 16,909,060 ids. */
+static void asked_for_ids(void) {
+    const uint8_t bytes[6][9] = {
+        {136, 0, 2, 0, 2, 1, 4, 3, 255}, {136, 0, 0, 2, 1, 2, 3, 4, 255},
+        {136, 1, 1, 0, 255}, {136, 1, 0, 1, 255},
+        {136, 2, 2, 0, 4, 3, 2, 1, 255}, {136, 2, 0, 2, 1, 2, 3, 4, 255}};
+    for (int i = 0; i < 2; i++) {
+        uint8_t order = i ? XM_BIG : XM_LITTLE;
+        size_t size = 9;
+        memset(out, 255, sizeof out);
+        expect("version request", xm_xc_misc_get_version_request(order, 136, 258, 772, out, sizeof out, &size), XM_DONE);
+        same("its bytes", bytes[i], 9);
+        memset(out, 255, sizeof out);
+        expect("range request", xm_xc_misc_get_xid_range_request(order, 136, out, sizeof out, &size), XM_DONE);
+        same("its bytes", bytes[2 + i], 5);
+        memset(out, 255, sizeof out);
+        expect("list request", xm_xc_misc_get_xid_list_request(order, 136, 16909060, out, sizeof out, &size), XM_DONE);
+        same("its bytes", bytes[4 + i], 9);
+    }
+}
+
+/* A reply with 5 to 12 from byte 8 on, an error likewise, and a list whose length says one unit, whose count two ids, and which has three. */
+static void given_ids(void) {
+    uint8_t reply[44] = {1, 200, 3, 4, 0, 0, 0, 0, 5, 6, 7, 8, 9, 10, 11, 12};
+    const uint8_t error[32] = {0, 3, 4, 5, 6, 7, 8, 9, 10, 11, 12, 13};
+    uint16_t number = 9, major = 9, minor = 9;
+    uint32_t length = 9, start = 9, count = 9, value = 9, ids[3] = {7, 7, 7};
+    uint8_t code = 9, opcode = 9;
+    expect("version", xm_xc_misc_get_version_reply(XM_LITTLE, reply, 32, &number, &length, &major, &minor), XM_DONE);
+    expect("wire number", number, 1027);
+    expect("major", major, 1541);
+    expect("minor", minor, 2055);
+    expect("version", xm_xc_misc_get_version_reply(XM_BIG, reply, 32, &number, &length, &major, &minor), XM_DONE);
+    expect("wire number", number, 772);
+    expect("major", major, 1286);
+    expect("minor", minor, 1800);
+    expect("range", xm_xc_misc_get_xid_range_reply(XM_LITTLE, reply, 32, &number, &length, &start, &count), XM_DONE);
+    expect("start", start, 134678021);
+    expect("count", count, 202050057);
+    expect("range", xm_xc_misc_get_xid_range_reply(XM_BIG, reply, 32, &number, &length, &start, &count), XM_DONE);
+    expect("start", start, 84281096);
+    expect("count", count, 151653132);
+    expect("error", xm_error(XM_LITTLE, error, 32, &code, &number, &value, &minor, &opcode), XM_DONE);
+    expect("code", code, 3);
+    expect("bad value", value, 151521030);
+    expect("minor opcode", minor, 2826);
+    expect("major opcode", opcode, 12);
+    for (uint8_t i = 8; i < 44; i++) reply[i] = i < 12 ? 0 : i;
+    reply[7] = 1;
+    reply[11] = 2;
+    expect("list", xm_xc_misc_get_xid_list_reply(XM_BIG, reply, 44, ids, 3, &number, &length, &count), XM_DONE);
+    expect("length", length, 1);
+    expect("count", count, 2);
+    expect("first id", ids[0], 539042339);
+    expect("second id", ids[1], 606414375);
+    expect("place left over", ids[2], 7);
+    expect("two ids in 39 bytes", xm_xc_misc_get_xid_list_reply(XM_BIG, reply, 39, ids, 3, &number, &length, &count), XM_BAD_CONTENT);
+}
+
 int main(void) {
     asked();
     answered();
     at_once();
     reader();
     unsound();
+    opened();
+    asked_for_ids();
+    given_ids();
     if (!failed) puts("library: the header and the archive agree");
     return failed;
 }

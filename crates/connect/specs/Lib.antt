@@ -6,3 +6,4 @@ pub mod SetupLaws
 pub mod Feeding
 pub mod FedLaws
 pub mod Theorems
+pub mod Examples

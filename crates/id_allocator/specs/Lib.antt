@@ -6,3 +6,4 @@ pub mod SoundLaws
 pub mod RunLaws
 pub mod MaskLaws
 pub mod Theorems
+pub mod Examples

@@ -1,3 +1,4 @@
 pub mod Pad
 pub mod Request
 pub mod Theorems
+pub mod Examples

@@ -1,2 +1,3 @@
 pub mod Packet
 pub mod Error
+pub mod Examples
