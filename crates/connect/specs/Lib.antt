@@ -6,4 +6,5 @@ pub mod SetupLaws
 pub mod Feeding
 pub mod FedLaws
 pub mod Theorems
+pub mod Promises
 pub mod Examples

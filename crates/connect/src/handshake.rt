@@ -2,7 +2,8 @@
 ghost use mathlib.Core.Path.{_≡_};
 ghost use Prim.Native.Nat.{_≤_};
 ghost use lib.ListN.{length};
-ghost use Rattle.connect.specs.Handshake.{head, aim, fresh as Handshake·fresh, soundb, made, capacity, unfilled as Handshake·unfilled, advanced, saysMade, saysCapacity, saysAdvanced, Lent};
+ghost use Rattle.connect.specs.Handshake.{head, aim, fresh as Handshake·fresh, soundb, Lent};
+ghost use Rattle.connect.specs.Promises.{Makes, Remains, Lies, Advances};
 use refusal::Refusal;
 
 // The bytes of a reply that say how long it is, and the most that a buffer may have.
@@ -47,7 +48,7 @@ impl Connect {
     // A handshake with nothing filled. Refused by 9 for a buffer that has not 8 to 262,148 bytes,
     // then by 13.
     pub fn new(order: u8, buf: &[u8]) -> Made
-        ensures { λ r. ⌜ saysMade r ≡ made order (length (now (buf .entry))) ⌝ }
+        ensures { λ r. ⌜ Makes order (now (buf .entry)) r ⌝ }
     {
         if buf.len() < HEAD {
             return Made::Refused(Refusal::BadRoom);
@@ -65,7 +66,7 @@ impl Connect {
     // sound beside its buffer: the number that `buffer`, which lends an empty part then, can't
     // give.
     pub fn remaining_capacity(self, buf: &[u8]) -> Capacity
-        ensures { λ r. ⌜ saysCapacity r ≡ capacity self (now (buf .entry)) ⌝ }
+        ensures { λ r. ⌜ Remains self (now (buf .entry)) r ⌝ }
     {
         if !is_sound(self, buf) {
             return Capacity::Refused(Refusal::BadRoom);
@@ -76,7 +77,7 @@ impl Connect {
     // Where the part of the buffer lies that is to be filled next: from the filled bytes to the
     // target, empty once the reply is complete; at 0 and empty where the handshake is unsound.
     pub fn unfilled(self, buf: &[u8]) -> Span
-        ensures { λ r. ⌜ r ≡ Handshake·unfilled self (now (buf .entry)) ⌝ }
+        ensures { λ r. ⌜ Lies self (now (buf .entry)) r ⌝ }
     {
         if !is_sound(self, buf) {
             return Span { start: 0, end: 0 };
@@ -101,7 +102,7 @@ impl Connect {
     // more than the part has, and 2 where the reply would be longer than the buffer. A complete
     // handshake stays one: by 0 bytes it is complete again.
     pub fn advance(self, buf: &[u8], amount: usize) -> Advanced
-        ensures { λ r. ⌜ saysAdvanced r ≡ advanced self (now (buf .entry)) amount ⌝ }
+        ensures { λ r. ⌜ Advances self (now (buf .entry)) amount r ⌝ }
     {
         if !is_sound(self, buf) {
             return Advanced::Refused(Refusal::BadRoom);

@@ -4,6 +4,7 @@ ghost use Prim.Native.Nat.{_+_, _≤_};
 ghost use lib.ListN.{length};
 ghost use Rattle.connect.specs.Handshake.{head};
 ghost use Rattle.connect.specs.Setup.{fixed, setupOf, failedOf, authenticateOf, readSuccess, readFailed, readReply, setup as Setup·setup, nowhere as Setup·nowhere, vendorPlace, reasonPlace, Shown, saysSetup};
+ghost use Rattle.connect.specs.Promises.{ReadsSetup};
 use super::handshake::Connect;
 use super::handshake::HEAD;
 use super::handshake::is_sound;
@@ -83,7 +84,7 @@ impl Connect {
     // What the reply says (`into_setup` of the Rust). Refused by 9 for an unsound handshake, 15 for
     // one that isn't complete yet, 14 for another first byte or a text that passes the reply's end.
     pub fn setup(self, buf: &[u8]) -> SetupAnswer
-        ensures { λ r. ⌜ saysSetup r ≡ Setup·setup self (now (buf .entry)) ⌝ }
+        ensures { λ r. ⌜ ReadsSetup self (now (buf .entry)) r ⌝ }
     {
         if !is_sound(self, buf) {
             return SetupAnswer::Refused(Refusal::BadRoom);

@@ -6,4 +6,5 @@ pub mod SoundLaws
 pub mod RunLaws
 pub mod MaskLaws
 pub mod Theorems
+pub mod Promises
 pub mod Examples

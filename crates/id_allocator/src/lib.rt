@@ -27,7 +27,8 @@ pub use lent::update_xid_range;
 use refusal::Refusal;
 ghost use mathlib.Core.Path.{_≡_};
 ghost use Prim.Native.Nat.{_≤_};
-ghost use Rattle.id_allocator.specs.Ids.{bits, lowestBit, sound, noIds, newIds, generated, updated, saysIds, saysGenerated};
+ghost use Rattle.id_allocator.specs.Ids.{bits, lowestBit, sound, noIds};
+ghost use Rattle.id_allocator.specs.Promises.{MakesIds, GivesId, TakesRange};
 
 // Ids are below 2^32.
 const LIMIT: u64 = 4294967296;
@@ -104,7 +105,7 @@ impl IdAllocator {
     // Create an allocator. The arguments are the `resource_id_base` and the `resource_id_mask` that
     // the server sent in its setup. Refuses a mask of 0.
     pub fn new(base: u32, mask: u32) -> Ids
-        ensures { λ r. ⌜ saysIds r ≡ newIds base mask ⌝ }
+        ensures { λ r. ⌜ MakesIds base mask r ⌝ }
     {
         if mask == 0 {
             return Ids::Refused(Refusal::ZeroMask);
@@ -121,7 +122,7 @@ impl IdAllocator {
 
     // Generate the next id. Refuses when no id is left.
     pub fn generate_id(self) -> Generated
-        ensures { λ r. ⌜ saysGenerated r ≡ generated self ⌝ }
+        ensures { λ r. ⌜ GivesId self r ⌝ }
     {
         if !is_sound(self) {
             return Generated::Refused(Refusal::BadRoom);
@@ -144,7 +145,7 @@ impl IdAllocator {
     // Go on with the ids of a GetXIDRange reply, its start and its count. Refuses a range without
     // ids, and one that does not end below 2^32.
     pub fn update_xid_range(self, start: u32, count: u32) -> Ids
-        ensures { λ r. ⌜ saysIds r ≡ updated self start count ⌝ }
+        ensures { λ r. ⌜ TakesRange self start count r ⌝ }
     {
         if !is_sound(self) {
             return Ids::Refused(Refusal::BadRoom);

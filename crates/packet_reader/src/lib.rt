@@ -8,9 +8,9 @@
 ghost use mathlib.Core.Path.{_≡_};
 ghost use Prim.Native.Nat.{_≤_};
 ghost use lib.ListN.{length};
-ghost use Rattle.packet_reader.specs.Frame.{total, aim};
-ghost use Rattle.packet_reader.specs.Front.{frontOf, saysBegins};
-ghost use Rattle.packet_reader.specs.Reader.{fresh as Reader·fresh, soundb, made, capacity, unfilled as Reader·unfilled, advanced, saysMade, saysCapacity, saysAdvanced, Lent};
+ghost use Rattle.packet_reader.specs.Frame.{aim};
+ghost use Rattle.packet_reader.specs.Reader.{fresh as Reader·fresh, soundb, Lent};
+ghost use Rattle.packet_reader.specs.Promises.{Measures, Fronts, Makes, Remains, Lies, Advances};
 use refusal::Refusal;
 
 // The most bytes that a buffer may have.
@@ -19,7 +19,7 @@ pub const MOST_BUFFER: usize = packet::MOST_PACKET;
 // How many bytes a packet has that begins with code and whose 32-bit field at bytes 4 to 7 is
 // field.
 pub fn packet_length(code: u8, field: u32) -> usize
-    ensures { λ r. ⌜ r ≡ total code field ⌝ }
+    ensures { λ r. ⌜ Measures code field r ⌝ }
 {
     if packet::has_length(code) {
         return packet::LEAST_PACKET + 4 * (field as usize);
@@ -54,7 +54,7 @@ pub enum Begins {
 // Inside, a step of `batch`: the order is that of a state that was found sound, and no refusal is
 // given here. One other than `l` counts as `B`.
 pub fn front(order: u8, bytes: &[u8]) -> Begins
-    ensures { λ r. ⌜ saysBegins r ≡ frontOf order (now (bytes .entry)) ⌝ }
+    ensures { λ r. ⌜ Fronts order (now (bytes .entry)) r ⌝ }
 {
     if bytes.len() == 0 {
         return Begins::Nothing;
@@ -107,7 +107,7 @@ impl PacketReader {
     // A reader with nothing filled. Refused by 9 for a buffer that has not 32 to 65,536 bytes, then
     // by 13.
     pub fn new(order: u8, buf: &[u8]) -> Made
-        ensures { λ r. ⌜ saysMade r ≡ made order (length (now (buf .entry))) ⌝ }
+        ensures { λ r. ⌜ Makes order (now (buf .entry)) r ⌝ }
     {
         if buf.len() < packet::LEAST_PACKET {
             return Made::Refused(Refusal::BadRoom);
@@ -124,7 +124,7 @@ impl PacketReader {
     // How many bytes the part has that `buffer` lends. Refused by 9 where the reader is not sound
     // beside its buffer: the number that `buffer`, which lends an empty part then, can't give.
     pub fn remaining_capacity(self, buf: &[u8]) -> Capacity
-        ensures { λ r. ⌜ saysCapacity r ≡ capacity self (now (buf .entry)) ⌝ }
+        ensures { λ r. ⌜ Remains self (now (buf .entry)) r ⌝ }
     {
         if !is_sound(self, buf) {
             return Capacity::Refused(Refusal::BadRoom);
@@ -135,7 +135,7 @@ impl PacketReader {
     // Where the part of the buffer lies that is to be filled next: from the filled bytes to the
     // target; at 0 and empty where the reader is unsound.
     pub fn unfilled(self, buf: &[u8]) -> Span
-        ensures { λ r. ⌜ r ≡ Reader·unfilled self (now (buf .entry)) ⌝ }
+        ensures { λ r. ⌜ Lies self (now (buf .entry)) r ⌝ }
     {
         if !is_sound(self, buf) {
             return Span { start: 0, end: 0 };
@@ -159,7 +159,7 @@ impl PacketReader {
     // Counts amount bytes of the lent part as filled. Refused by 9 for an unsound reader, 7 for
     // more than the part has, and 2 where the packet would be longer than the buffer.
     pub fn advance(self, buf: &[u8], amount: usize) -> Advanced
-        ensures { λ r. ⌜ saysAdvanced r ≡ advanced self (now (buf .entry)) amount ⌝ }
+        ensures { λ r. ⌜ Advances self (now (buf .entry)) amount r ⌝ }
     {
         if !is_sound(self, buf) {
             return Advanced::Refused(Refusal::BadRoom);

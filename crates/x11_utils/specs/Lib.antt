@@ -1,3 +1,4 @@
 pub mod Packet
 pub mod Error
+pub mod Promises
 pub mod Examples

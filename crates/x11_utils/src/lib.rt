@@ -7,8 +7,8 @@ ghost use mathlib.Core.Path.{_≡_};
 ghost use Prim.Native.Nat.{_≤_};
 ghost use lib.ListN.{length};
 ghost use Rattle.packet.specs.Packet.{leastPacket};
-ghost use Rattle.x11_utils.specs.Packet.{checked, saysChecked};
-ghost use Rattle.x11_utils.specs.Error.{parsed, errorOf, saysParsed};
+ghost use Rattle.x11_utils.specs.Error.{errorOf};
+ghost use Rattle.x11_utils.specs.Promises.{ChecksPacket, ParsesError};
 use refusal::Refusal;
 use sequence::WireNumber;
 
@@ -20,7 +20,7 @@ pub enum Checked {
 // Whether a packet's fields can be read. Refused, in this order, by 1 under 32 bytes, 2 over
 // 65,536, 13 for a byte order other than `l` and `B`, and 14 for another first byte.
 pub fn check_packet(order: u8, packet: &[u8], first: u8) -> Checked
-    ensures { λ r. ⌜ saysChecked r ≡ checked order (now (packet .entry)) first ⌝ }
+    ensures { λ r. ⌜ ChecksPacket order (now (packet .entry)) first r ⌝ }
 {
     if packet.len() < packet::LEAST_PACKET {
         return Checked::Refused(Refusal::ShortPacket);
@@ -58,7 +58,7 @@ pub enum Parsed {
 impl X11Error {
     // The fields of an error packet in the given byte order. Refused as by `check_packet`.
     pub fn try_parse(order: u8, packet: &[u8]) -> Parsed
-        ensures { λ r. ⌜ saysParsed r ≡ parsed order (now (packet .entry)) ⌝ }
+        ensures { λ r. ⌜ ParsesError order (now (packet .entry)) r ⌝ }
     {
         match check_packet(order, packet, packet::ERROR) {
             Checked::Ready => Parsed::Error(fields(order, packet)),

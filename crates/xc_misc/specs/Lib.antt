@@ -1,3 +1,4 @@
 pub mod Requests
 pub mod Replies
+pub mod Promises
 pub mod Examples

@@ -6,7 +6,8 @@ ghost use Rattle.octets.specs.Put.{put};
 ghost use Rattle.refusal.specs.Answer.{gives};
 ghost use Rattle.packet.specs.Packet.{leastPacket};
 ghost use Rattle.x11_utils.specs.Packet.{saysChecked};
-ghost use Rattle.xc_misc.specs.Replies.{reaches, unitsChecked, replyChecked, listChecked, versionOf, rangeOf, listOf, idsOf, version, range, saysVersion, saysRange, saysList, Lists};
+ghost use Rattle.xc_misc.specs.Replies.{reaches, unitsChecked, replyChecked, listChecked, versionOf, rangeOf, listOf, idsOf, saysList, Lists};
+ghost use Rattle.xc_misc.specs.Promises.{ReadsVersion, ReadsRange};
 use refusal::Refusal;
 use sequence::WireNumber;
 use x11_utils::Checked;
@@ -55,7 +56,7 @@ pub enum ListAnswer {
 // Refused, in this order, by 1 under 32 bytes, 2 over 65,536, 13 for another byte order, 14 where
 // the first byte isn't 1 or the reply's length passes the end of the bytes given.
 pub fn get_version_reply(order: u8, packet: &[u8]) -> VersionAnswer
-    ensures { λ r. ⌜ saysVersion r ≡ version order (now (packet .entry)) ⌝ }
+    ensures { λ r. ⌜ ReadsVersion order (now (packet .entry)) r ⌝ }
 {
     match check_reply(order, packet) {
         Checked::Ready => VersionAnswer::Reply(version_fields(order, packet)),
@@ -65,7 +66,7 @@ pub fn get_version_reply(order: u8, packet: &[u8]) -> VersionAnswer
 
 // Refused as get_version_reply.
 pub fn get_xid_range_reply(order: u8, packet: &[u8]) -> RangeAnswer
-    ensures { λ r. ⌜ saysRange r ≡ range order (now (packet .entry)) ⌝ }
+    ensures { λ r. ⌜ ReadsRange order (now (packet .entry)) r ⌝ }
 {
     match check_reply(order, packet) {
         Checked::Ready => RangeAnswer::Reply(range_fields(order, packet)),
