@@ -18,7 +18,7 @@ use Rattle.connect.specs.Feeding.{stateOf, isComplete, isReply, reply-wh
 use Rattle.connect.specs.Setup.{readReply, setup, textAt}
 use Rattle.connect.specs.SetupLaws.{Within, within-reply}
 use Rattle.connect.specs.declared.handshake.Connect.{Connect}
-use Rattle.connect.specs.declared.reply.Place.{Place}
+use Rattle.connect.specs.declared.reply.TextAt.{TextAt}
 
 -- they give the answer's parts
 filled-count : (o : ℕ) (b : List ℕ) (p : Progress) (s : List ℕ) → Fed o b p s → stateOf p .filled ≡ length b
@@ -70,7 +70,7 @@ within-fed o b p s f = subst (Within (length b)) (sym (setup-of o b p s f)) (go 
   go true e = within-reply o b (sym (eqb-true _ _ (both-right _ _ e)))
   go false e = record { vendor-within = omega arith; reason-within = omega arith }
 
-pub text-held : (o : ℕ) (b : List ℕ) (p : Progress) (s : List ℕ) → Fed o b p s → (a : Place) → a .start + a .size ≤ length b → textAt a s ≡ textAt a b
+pub text-held : (o : ℕ) (b : List ℕ) (p : Progress) (s : List ℕ) → Fed o b p s → (a : TextAt) → a .start + a .size ≤ length b → textAt a s ≡ textAt a b
 text-held o b p s f a h =
     let n : stateOf p .filled ≡ length b = filled-count o b p s f in
     sym (cut-take s (stateOf p .filled) (a .start) (a .size) (omega arith)) ∙ ap (cut (a .start) (a .size)) (f .filled-is)

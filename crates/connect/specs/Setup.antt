@@ -54,7 +54,7 @@ use Rattle.connect.specs.declared.handshake.Connect.{Connect}
 use Rattle.connect.specs.declared.reply.Setup.{Setup}
 use Rattle.connect.specs.declared.reply.SetupFailed.{SetupFailed}
 use Rattle.connect.specs.declared.reply.SetupAuthenticate.{SetupAuthenticate}
-use Rattle.connect.specs.declared.reply.Place.{Place}
+use Rattle.connect.specs.declared.reply.TextAt.{TextAt}
 use Rattle.connect.specs.declared.reply.SetupAnswer.{SetupAnswer}
 use Rattle.connect.specs.declared.reply.SetupAnswer.the-variants as SetupAnswer
 
@@ -127,29 +127,29 @@ setup c s =
     refuse (not (soundb c s)) 9 (refuse (not (eqb (c .filled) (c .target))) 15 (readReply (c .order) (take (c .target) s)))
 
 -- no text
-abbrev pub nowhere : Place
+abbrev pub nowhere : TextAt
 nowhere = record { start = 0; size = 0 }
 
 -- the vendor's text: in a success, behind the fixed bytes
-abbrev pub vendorPlace : Answer Reading → Place
+abbrev pub vendorPlace : Answer Reading → TextAt
 vendorPlace (gives (failed x)) = nowhere
 vendorPlace (gives (success x)) = record { start = fixed; size = x .vendor }
 vendorPlace (gives (authenticate x)) = nowhere
 vendorPlace (refuses n) = nowhere
 
 -- the reason: of a refused connection as long as byte 1 says, of further authentication all bytes after the eighth
-abbrev pub reasonPlace : Answer Reading → Place
+abbrev pub reasonPlace : Answer Reading → TextAt
 reasonPlace (gives (failed x)) = record { start = head; size = x .reason }
 reasonPlace (gives (success x)) = nowhere
 reasonPlace (gives (authenticate x)) = record { start = head; size = 4 * x .length }
 reasonPlace (refuses n) = nowhere
 
 -- the bytes of s at a place
-abbrev pub textAt : Place → List ℕ → List ℕ
+abbrev pub textAt : TextAt → List ℕ → List ℕ
 textAt a s = cut (a .start) (a .size) s
 
 -- `vendor` and `reason` show p of the buffer b: the bytes at the place, where they stand in the buffer.
-pub record Shown (a : Place) (b p : RefT (List ℕ)) : Type 0 where
+pub record Shown (a : TextAt) (b p : RefT (List ℕ)) : Type 0 where
   pub shows : p .now ≡ textAt a (b .now)
   pub stands : p .ptr ≡ (b .ptr .0, a .start + b .ptr .1)
 
@@ -174,5 +174,5 @@ unfolding back
 setup-one = decides saysSetup back (elim [ SetupAnswer.Success x ↦ refl | SetupAnswer.Failed x ↦ refl | SetupAnswer.Authenticate x ↦ refl | SetupAnswer.Refused r ↦ ap SetupAnswer.Refused (listed r) ])
 
 -- Any two texts that `vendor`, or `reason`, may show are the same and stand in the same place.
-pub shown-one : {a : Place} {b p q : RefT (List ℕ)} → Shown a b p → Shown a b q → (p .now ≡ q .now) × (p .ptr ≡ q .ptr)
+pub shown-one : {a : TextAt} {b p q : RefT (List ℕ)} → Shown a b p → Shown a b q → (p .now ≡ q .now) × (p .ptr ≡ q .ptr)
 shown-one x y = (x .shows ∙ sym (y .shows), x .stands ∙ sym (y .stands))

@@ -15,7 +15,7 @@ use Rattle.connect.specs.Sound.{Sound, sound-is}
 use Rattle.connect.specs.AimLaws.{complete-reply, reply-held, target-least}
 use Rattle.connect.specs.Setup.{Reading, authenticate, authenticateOf, readFailed, readSuccess, readReply, setup, vendorPlace, reasonPlace, Shown}
 use Rattle.connect.specs.declared.handshake.Connect.{Connect}
-use Rattle.connect.specs.declared.reply.Place.{Place}
+use Rattle.connect.specs.declared.reply.TextAt.{TextAt}
 
 -- both texts end within n bytes
 pub record Within (n : ℕ) (a : Answer Reading) : Type 0 where
@@ -70,8 +70,8 @@ within-setup c s =
     within-more _ _ _ (omega (arith, length-take-le (c .target) s (h .target-fits), h .target-fits)) (within-reply (c .order) (take (c .target) s) (reply-whole c s h (eqb-true _ _ (not-false _ q))))))
 
 -- and so does the place that a call found; what stands there is shown
-pub place-within : {p q : Place} {n : ℕ} → p ≡ q → q .start + q .size ≤ n → p .start + p .size ≤ n
-place-within {n = n} e h = subst (λ (a : Place). a .start + a .size ≤ n) (sym e) h
+pub place-within : {p q : TextAt} {n : ℕ} → p ≡ q → q .start + q .size ≤ n → p .start + p .size ≤ n
+place-within {n = n} e h = subst (λ (a : TextAt). a .start + a .size ≤ n) (sym e) h
 
-pub place-shown : {p q : Place} {b r : RefT (List ℕ)} → p ≡ q → Shown p b r → Shown q b r
-place-shown {b = b} {r} e h = subst (λ (a : Place). Shown a b r) e h
+pub place-shown : {p q : TextAt} {b r : RefT (List ℕ)} → p ≡ q → Shown p b r → Shown q b r
+place-shown {b = b} {r} e h = subst (λ (a : TextAt). Shown a b r) e h

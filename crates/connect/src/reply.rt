@@ -75,7 +75,7 @@ pub enum SetupAnswer {
 }
 
 // Where a text stands in the buffer.
-struct Place {
+struct TextAt {
     start: usize,
     size: usize,
 }
@@ -201,17 +201,17 @@ fn success_fields(order: u8, reply: &[u8]) -> Setup
     }
 }
 
-fn nowhere() -> Place
+fn nowhere() -> TextAt
     ensures { λ r. ⌜ r ≡ Setup·nowhere ⌝ }
 {
-    Place { start: 0, size: 0 }
+    TextAt { start: 0, size: 0 }
 }
 
-fn vendor_place(answer: SetupAnswer) -> Place
+fn vendor_place(answer: SetupAnswer) -> TextAt
     ensures { λ r. ⌜ r ≡ vendorPlace (saysSetup answer) ⌝ }
 {
     match answer {
-        SetupAnswer::Success(setup) => Place {
+        SetupAnswer::Success(setup) => TextAt {
             start: FIXED,
             size: setup.vendor as usize,
         },
@@ -221,15 +221,15 @@ fn vendor_place(answer: SetupAnswer) -> Place
     }
 }
 
-fn reason_place(answer: SetupAnswer) -> Place
+fn reason_place(answer: SetupAnswer) -> TextAt
     ensures { λ r. ⌜ r ≡ reasonPlace (saysSetup answer) ⌝ }
 {
     match answer {
-        SetupAnswer::Failed(failed) => Place {
+        SetupAnswer::Failed(failed) => TextAt {
             start: HEAD,
             size: failed.reason as usize,
         },
-        SetupAnswer::Authenticate(authenticate) => Place {
+        SetupAnswer::Authenticate(authenticate) => TextAt {
             start: HEAD,
             size: 4 * (authenticate.length as usize),
         },
@@ -238,7 +238,7 @@ fn reason_place(answer: SetupAnswer) -> Place
     }
 }
 
-fn part<'a>(buf: &'a [u8], place: Place) -> &'a [u8]
+fn part<'a>(buf: &'a [u8], place: TextAt) -> &'a [u8]
     requires { ⌜ place .start + place .size ≤ length (now buf) ⌝ }
     ensures { λ r. ⌜ Shown place (buf .entry) r ⌝ }
 {

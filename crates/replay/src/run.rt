@@ -5,7 +5,7 @@ use model::Connection;
 use model::Next;
 use refusal::Refusal;
 use script::Op;
-use script::Place;
+use script::Input;
 
 // What a script works on; where the text ends that waits; and how many commands there were.
 pub struct State {
@@ -26,7 +26,7 @@ pub(crate) fn fresh(c: Connection) -> State {
 
 pub(crate) fn line(
     state: State,
-    place: Place,
+    place: Input,
     requests: &mut [u8],
     store: &mut [u8],
     slots: &mut [u32],
@@ -61,7 +61,7 @@ pub struct Begun {
     pub waiting: usize,
 }
 
-fn begin(waiting: usize, place: Place, bytes: &mut [u8]) -> Begun {
+fn begin(waiting: usize, place: Input, bytes: &mut [u8]) -> Begun {
     let op = script::parse(bytes, place.from, place.end);
     if !is_named(op.code) {
         return Begun {
@@ -101,7 +101,7 @@ fn ended(state: State, waiting: usize, bytes: &mut [u8]) -> State {
 // ---- lines that cannot be read
 
 // A line that is too long, unless it is a remark.
-fn lost(state: State, place: Place, bytes: &mut [u8]) -> State {
+fn lost(state: State, place: Input, bytes: &mut [u8]) -> State {
     if place.remark {
         return state;
     }

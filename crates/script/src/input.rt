@@ -7,7 +7,7 @@ const NEWLINE: u8 = 10;
 const INPUT: usize = 393220;
 
 // Where a run is.
-pub struct Place {
+pub struct Input {
     // The line stands from one index to another.
     pub from: usize,
     pub end: usize,
@@ -25,8 +25,8 @@ pub struct Place {
     pub number: u64,
 }
 
-pub fn start() -> Place {
-    Place {
+pub fn start() -> Input {
+    Input {
         from: INPUT,
         end: INPUT,
         next: INPUT,
@@ -40,7 +40,7 @@ pub fn start() -> Place {
 
 // The next line. A proved loop has to end, so it counts turns down from a number that no run uses
 // up.
-pub fn next(place: Place, bytes: &mut [u8]) -> Place {
+pub fn next(place: Input, bytes: &mut [u8]) -> Input {
     let mut now = begin(place);
     let mut turns = u64::MAX;
     while turns > 0 {
@@ -58,7 +58,7 @@ pub fn next(place: Place, bytes: &mut [u8]) -> Place {
 }
 
 // Behind the line before.
-fn begin(place: Place) -> Place {
+fn begin(place: Input) -> Input {
     let mut now = place;
     now.from = place.next;
     now.lost = false;
@@ -68,7 +68,7 @@ fn begin(place: Place) -> Place {
 }
 
 // The line ends at the newline at an index.
-fn found(place: Place, end: usize) -> Place {
+fn found(place: Input, end: usize) -> Input {
     let mut now = place;
     now.end = end;
     now.next = text::behind(end, 1);
@@ -77,7 +77,7 @@ fn found(place: Place, end: usize) -> Place {
 }
 
 // The input ends: what is left is a line, if there is something.
-fn last(place: Place) -> Place {
+fn last(place: Input) -> Input {
     let mut now = place;
     now.end = place.filled;
     now.next = place.filled;
@@ -85,7 +85,7 @@ fn last(place: Place) -> Place {
     now
 }
 
-fn left(place: Place) -> bool {
+fn left(place: Input) -> bool {
     if place.from < place.filled {
         return true;
     }
@@ -109,7 +109,7 @@ fn newline(bytes: &[u8], from: usize, filled: usize) -> usize {
 
 // Room for more input: where there is none, the line that has begun goes to the start, or goes if
 // it is there already.
-fn kept(place: Place, bytes: &mut [u8]) -> Place {
+fn kept(place: Input, bytes: &mut [u8]) -> Input {
     let mut now = place;
     now.next = place.filled;
     if place.filled < text::START {
@@ -135,7 +135,7 @@ fn is_remark(bytes: &[u8]) -> bool {
     bytes[INPUT] == b'#'
 }
 
-fn slid(place: Place, bytes: &mut [u8]) -> Place {
+fn slid(place: Input, bytes: &mut [u8]) -> Input {
     let from = place.from;
     let filled = place.filled;
     let mut now = place;
@@ -156,7 +156,7 @@ fn slid(place: Place, bytes: &mut [u8]) -> Place {
 }
 
 // What a read puts behind the input that is there.
-fn more(place: Place, bytes: &mut [u8]) -> Place {
+fn more(place: Input, bytes: &mut [u8]) -> Input {
     let filled = place.filled;
     let n = read(bytes, filled);
     let mut now = place;

@@ -10,7 +10,7 @@ mod names;
 mod number;
 mod words;
 
-pub use input::Place;
+pub use input::Input;
 pub use input::next;
 pub use input::start;
 pub use line::fds;

@@ -126,12 +126,12 @@ put-request o m d s s₁ s₂ s₃ at h e p q r =
     ∙ ap (put s 0) (append-assoc H (padded m) (padded d))
 
 -- what is known where there is room
-pub record Ready (n d have need : ℕ) : Type 0 where
+pub record RoomThere (n d have need : ℕ) : Type 0 where
   pub name-fits : n ≤ mostText
   pub data-fits : d ≤ mostText
   pub out-fits : need ≤ have
 
-pub room-there : (o n d have need : ℕ) {k : ℕ} → gives k ≡ roomFor o n d have need → Ready n d have need
+pub room-there : (o n d have need : ℕ) {k : ℕ} → gives k ≡ roomFor o n d have need → RoomThere n d have need
 unfolding roomFor
 room-there o n d have need e =
     let f = gives-rest _ _ _ e in let g = gives-rest _ _ _ f in

@@ -10,7 +10,7 @@ ghost use mathlib.Core.List.{[], _∷_};
 ghost use lib.ListN.{length};
 ghost use Rattle.octets.specs.Put.{put};
 ghost use Rattle.setup_request.specs.Pad.{pad as Pad·pad, zeros, padded};
-ghost use Rattle.setup_request.specs.Request.{opening, setupRequest, size as Request·size, nameAt, mostText, roomFor, saysWritten, Writes, Ready};
+ghost use Rattle.setup_request.specs.Request.{opening, setupRequest, size as Request·size, nameAt, mostText, roomFor, saysWritten, Writes, RoomThere};
 use refusal::Refusal;
 
 // The version of the protocol that the client speaks.
@@ -80,7 +80,7 @@ fn pad(n: usize) -> usize
 }
 
 fn put_request(order: u8, name: &[u8], data: &[u8], out: &mut [u8])
-    requires { ⌜ Ready (length (now name)) (length (now «data»)) (length (now out)) (Request·size (length (now name)) (length (now «data»))) ⌝ }
+    requires { ⌜ RoomThere (length (now name)) (length (now «data»)) (length (now out)) (Request·size (length (now name)) (length (now «data»))) ⌝ }
     ensures { λ _. ⌜ now (out .exit) ≡ put (now (out .entry)) 0 (setupRequest order (now (name .entry)) (now («data» .entry))) ⌝ }
 {
     put_head(order, name.len() as u16, data.len() as u16, out);
