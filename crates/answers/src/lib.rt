@@ -27,7 +27,6 @@ pub use one::give_sent;
 pub use words::MOST_KIND;
 pub use words::is_mode;
 pub use words::kind_number;
-pub use words::kind_of;
 pub use words::mode_number;
 pub use words::mode_of;
 

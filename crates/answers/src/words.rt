@@ -1,14 +1,12 @@
 // The numbers that stand for kinds, modes, places and what stopped a call, and what they mean.
 ghost use mathlib.Core.Path.{_≡_};
 ghost use Rattle.model.specs.SaysBatch.{saysStop};
-ghost use Rattle.model.specs.SendRequests.{kindOf};
 ghost use Rattle.model.specs.Feed.{saysHalt};
 ghost use Rattle.answers.specs.Shown.{placeNumber, stopNumber, haltNumber, modeOf, isMode, modeNumber, kindNumber};
 use crate::code;
 use model::DiscardMode;
 use model::Halt;
 use model::Place;
-use model::ReplyFdKind;
 use model::Stop;
 use requests::Mode;
 
@@ -20,18 +18,6 @@ const NO_KIND: u32 = 255;
 
 // What stops a row of packets where part of one is left.
 const PART: u32 = 254;
-
-pub fn kind_of(kind: u8) -> ReplyFdKind
-    ensures { λ r. ⌜ r ≡ kindOf kind ⌝ }
-{
-    if kind == 0 {
-        return ReplyFdKind::NoReply;
-    }
-    if kind == 1 {
-        return ReplyFdKind::ReplyWithoutFds;
-    }
-    ReplyFdKind::ReplyWithFds
-}
 
 pub fn is_mode(mode: u8) -> bool
     ensures { λ r. ⌜ r ≡ isMode mode ⌝ }

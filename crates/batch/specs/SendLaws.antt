@@ -1,7 +1,7 @@
 -- How many sends come out, turn by turn. Assumes nothing.
 use mathlib.Core.Path.{_≡_, refl, sym, ap, _∙_, subst}
 use mathlib.Core.List.{List, [], _∷_, _++_, append-nil}
-use Prim.Native.Nat.{ℕ, zero, suc, _+_, _≤_, _<_}
+use Prim.Native.Nat.{ℕ, _+_, _≤_, _<_}
 use native.Mathlib.Omega.{arith}
 use native.Mathlib.Numerals.{add-one}
 use lib.ListN.{length, drop, getD, drop-of-length-le, length-append}
@@ -19,7 +19,6 @@ use Rattle.model.specs.SendRequests.{kinds, kindOf, sendings, shownSendings}
 use Rattle.model.specs.SaysBatch.{saysStop}
 use Rattle.model.specs.declared.Connection.{Connection}
 use Rattle.model.specs.declared.ReplyFdKind.{ReplyFdKind}
-use Rattle.model.specs.declared.ReplyFdKind.the-variants as ReplyFdKind
 use Rattle.model.specs.declared.Sent.{Sent}
 use Rattle.model.specs.declared.Sent.the-variants as Sent
 use Rattle.refusal.specs.Numbers.{numberOf}
@@ -142,10 +141,3 @@ module _ (c₀ : Connection) (q₀ bytes : List ℕ) (c : Connection) (q : List 
 -- an answer that is known
 pub told : (c : Connection) (bytes q : List ℕ) (q' : List ℕ) (a b : SentMany) → a ≡ b → SendsStep c bytes q b q' → SendsStep c bytes q a q'
 told c bytes q q' a b e x = subst (λ y. SendsStep c bytes q y q') (sym e) x
-
--- ---- the kinds
-
-pub kind-rest : (b : ℕ) → (b ≡ 0 → ⊥) → (b ≡ 1 → ⊥) → ReplyFdKind.ReplyWithFds ≡ kindOf b
-kind-rest zero h k = absurd (h refl)
-kind-rest (suc zero) h k = absurd (k refl)
-kind-rest (suc (suc b)) h k = refl

@@ -1,12 +1,11 @@
 // Many requests are sent, one for each byte.
 use model::Connection;
-use model::ReplyFdKind;
 use model::Sent;
 use model::SentMany;
 use model::Stop;
+use model::kind_of;
 use sequence::SequenceNumber;
 ghost use mathlib.Core.Path.{_≡_};
-ghost use Rattle.model.specs.SendRequests.{kindOf};
 ghost use Rattle.batch.specs.Send.{Ready, SendsStep, answered};
 
 // The bytes below this one mean a kind.
@@ -42,15 +41,4 @@ fn sent(count: usize, stop: Stop, state: Connection) -> SentMany
     ensures { λ r. ⌜ r ≡ answered count stop state ⌝ }
 {
     SentMany::Sent(count, SequenceNumber(state.written), stop, state)
-}
-
-// The kind of a byte: 0 without a reply, 1 with one, 2 with one and descriptors.
-fn kind_of(byte: u8) -> ReplyFdKind
-    ensures { λ r. ⌜ r ≡ kindOf byte ⌝ }
-{
-    match byte {
-        0 => ReplyFdKind::NoReply,
-        1 => ReplyFdKind::ReplyWithoutFds,
-        _ => ReplyFdKind::ReplyWithFds,
-    }
 }

@@ -4,8 +4,8 @@ use model::Connection;
 use model::DiscardMode;
 use model::Next;
 use model::Prepared;
-use model::ReplyFdKind;
 use model::Sent;
+use model::kind_of;
 use refusal::Refusal;
 use script::Bytes;
 use script::Op;
@@ -23,14 +23,6 @@ pub(crate) fn refused(c: Connection, refusal: Refusal) -> Called {
     with(c, text::refusal(refusal))
 }
 
-fn kind_of(kind: u64) -> ReplyFdKind {
-    match kind {
-        0 => ReplyFdKind::NoReply,
-        1 => ReplyFdKind::ReplyWithoutFds,
-        _ => ReplyFdKind::ReplyWithFds,
-    }
-}
-
 // One request, or as many as the line says. A refused send leaves the state as it was, so those
 // after it are refused alike.
 pub(crate) fn send(
@@ -40,7 +32,7 @@ pub(crate) fn send(
     store: &[u8],
     slots: &[u32],
 ) -> Called {
-    let kind = kind_of(op.a);
+    let kind = kind_of((op.a % 256) as u8);
     let count = times(op);
     let mut c = start;
     let mut done: u64 = 0;

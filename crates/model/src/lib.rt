@@ -9,6 +9,7 @@ mod soundness;
 
 ghost use mathlib.Core.Path.{_≡_};
 ghost use Rattle.model.specs.Moved.{movedState};
+ghost use Rattle.model.specs.SendRequests.{kindOf};
 use descriptors::Counts;
 use held::Window;
 use refusal::Refusal;
@@ -21,6 +22,19 @@ pub enum ReplyFdKind {
     NoReply,
     ReplyWithoutFds,
     ReplyWithFds,
+}
+
+// The kind of a number: 0 without a reply, 1 with one, any other with one and descriptors.
+pub fn kind_of(kind: u8) -> ReplyFdKind
+    ensures { λ r. ⌜ r ≡ kindOf kind ⌝ }
+{
+    if kind == 0 {
+        return ReplyFdKind::NoReply;
+    }
+    if kind == 1 {
+        return ReplyFdKind::ReplyWithoutFds;
+    }
+    ReplyFdKind::ReplyWithFds
 }
 
 // What is to happen to the answer of a request.

@@ -12,9 +12,9 @@ use answers::give_poll;
 use answers::give_polled;
 use answers::give_sent;
 use answers::is_mode;
-use answers::kind_of;
 use answers::mode_of;
 use model::Prepared;
+use model::kind_of;
 use sequence::SequenceNumber;
 
 // A fresh connection in these rooms.

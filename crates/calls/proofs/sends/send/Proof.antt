@@ -12,6 +12,9 @@ Inv-loop op requests₀ store slots kind count c₀ done₀ requests c done = (d
 abbrev μ-loop : tie.MeasureT-loop
 μ-loop op requests₀ store slots kind count c₀ done₀ requests c done = count - done
 
+cast-kind-of : tie.Need-cast-kind-of Inv-loop μ-loop
+cast-kind-of c = search needs
+
 kind-of-requires : tie.Need-kind-of-requires Inv-loop μ-loop
 kind-of-requires c κs = search needs
 
@@ -63,6 +66,7 @@ send-spec =
     (tie.spec
     Inv-loop
     μ-loop
+    cast-kind-of
     kind-of-requires
     times-requires
     loop-holds

@@ -1,10 +1,10 @@
--- `answers::words::kind_of` meets its contract. Assumes nothing.
+-- `model::kind_of` meets its contract. Assumes nothing.
 use mathlib.Core.Path.{_≡_, refl, sym, ap}
 use Prim.Native.Nat.{ℕ, zero, suc}
 use Rattle.model.specs.SendRequests.{kindOf}
 use Rattle.model.specs.declared.ReplyFdKind.the-variants as ReplyFdKind
-use Rattle.answers.proofs.words.kind_of.Statement.{statement}
-use Rattle.answers.proofs.words.kind_of.Tie as tie
+use Rattle.model.proofs.kind_of.Statement.{statement}
+use Rattle.model.proofs.kind_of.Tie as tie
 
 returns : tie.Need-returns
 returns c = ap kindOf (sym (c .if1 .taken))
