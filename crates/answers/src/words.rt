@@ -51,7 +51,7 @@ pub fn mode_number(mode: Mode) -> u8
 pub fn kind_number(kind: u8) -> u8
     ensures { λ r. ⌜ r ≡ kindNumber kind ⌝ }
 {
-    if kind == held::EVENT { 1 } else { 0 }
+    if kind == held::IN_EVENTS { 1 } else { 0 }
 }
 
 pub fn place_number(place: Place) -> u8

@@ -12,7 +12,7 @@ use borrow.Author.Tests.{le-leb, lt-leb, ltb-false}
 use Rattle.octets.specs.Logic.{choose}
 use Rattle.octets.specs.Put.{put, set-two}
 use Rattle.refusal.specs.Answer.{Answer, gives, refuses, refuse, gives-past, gives-rest, gives-same}
-use Rattle.held.specs.Head as Record
+use Rattle.held.specs.Head as Head
 use Rattle.held.specs.Reading as Store
 use Rattle.held.specs.Rows.{all-here}
 use Rattle.held.specs.Find.{foundEvent}
@@ -20,7 +20,7 @@ use Rattle.held.specs.Lies.{FindsEvent, FirstEvent}
 use Rattle.held.specs.Theorems as Lists
 use Rattle.held.specs.declared.Found.{Found}
 use Rattle.held.specs.declared.Found.the-variants as Found
-use Rattle.held.specs.declared.Place.{Place}
+use Rattle.held.specs.declared.Spot.{Spot}
 use Rattle.model.specs.Client.{Held}
 use Rattle.model.specs.Model.{Taken, none, packet}
 use Rattle.model.specs.Reading.{Rooms, rooms, slotsOf}
@@ -48,14 +48,14 @@ module _ (c : Connection) (s : List ℕ) (bytes : ℕ) where
   from-found x e q f = ap (eventFrom c (rooms q s f) bytes) e
 
   -- an event that has room
-  pub from-place : (p : Place) → Found.At p ≡ foundEvent (c .window) s → ltb bytes (p .len) ≡ false → (q f : List ℕ)
+  pub from-place : (p : Spot) → Found.At p ≡ foundEvent (c .window) s → ltb bytes (p .len) ≡ false → (q f : List ℕ)
       → gives (moved (packet (eventAt (rooms q s f) p)) c (rooms q s f) (without c (rooms q s f) p) (slotsOf c (rooms q s f))) ≡ eventExact c (rooms q s f) bytes
   unfolding refuse
   from-place p e t q f =
       let z : gives (moved (packet (eventAt (rooms q s f) p)) c (rooms q s f) (without c (rooms q s f) p) (slotsOf c (rooms q s f))) ≡ eventFrom c (rooms q s f) bytes (Found.At p) = simp t in
       z ∙ from-found (Found.At p) e q f
 
-module _ (c : Connection) (s : List ℕ) (R : Stored c s) (p : Place) (F : FirstEvent (c .window) s p) where
+module _ (c : Connection) (s : List ℕ) (R : Stored c s) (p : Spot) (F : FirstEvent (c .window) s p) where
   -- its packet is as long as is said there, and has 32 bytes
   place-packet : eventAt (rooms [] s []) p .packet ≡ F .it .packet
   place-packet = ap (λ (h : Held). h .packet) (event-is c (rooms (R .requests) s (R .slots)) (R .sound) p F)
@@ -66,7 +66,7 @@ module _ (c : Connection) (s : List ℕ) (R : Stored c s) (p : Place) (F : First
   place-least : leastPacket ≤ p .len
   place-least =
       let fit = ready c (rooms (R .requests) s (R .slots)) (R .sound) .held .readable .fit in
-      let z = all-here Record.Fits (F .lies .front) (F .it) (F .lies .back) (subst (Store.All Record.Fits) (F .lies .split) fit) in
+      let z = all-here Head.Fits (F .lies .front) (F .it) (F .lies .back) (subst (Store.All Head.Fits) (F .lies .split) fit) in
       omega (arith, z .least, F .len)
 
 -- ---- a turn that hands out

@@ -14,7 +14,7 @@ use Rattle.held.specs.Head.{headerSize, event, numOf, lenOf, kindOf}
 use Rattle.held.specs.Reading.{Readable}
 use Rattle.held.specs.Moves.{window, Left}
 use Rattle.held.specs.First.{firstPlace, first-room, first-found, removed-first}
-use Rattle.held.specs.declared.Place.{Place}
+use Rattle.held.specs.declared.Spot.{Spot}
 use Rattle.model.specs.Model.{packet}
 use Rattle.model.specs.Reading.{rooms, slotsOf}
 use Rattle.model.specs.Promise.{Exact, exact-given}
@@ -76,7 +76,7 @@ module _ (c : Connection) (s : List ℕ) (R : Stored c s) where
   first-within h = let z = first-room (c .window) s readable h in record { least = omega (arith, z .0, readable .within); whole = omega (arith, z .1, readable .within) }
 
   module _ (room marks : ℕ) (E : EventFirst c s room marks) where
-    abbrev p : Place
+    abbrev p : Spot
     p = firstPlace (c .window) s
 
     first-exact : (q f : List ℕ) → gives (record { value = packet (eventAt (rooms q s f) p); state = passedState c (p .len); left = rooms q s f }) ≡ eventExact c (rooms q s f) room
@@ -95,7 +95,7 @@ module _ (c : Connection) (s : List ℕ) (R : Stored c s) where
   unfolding placed cut
   first-turn out marks used at h E len n L N end D out' O =
       let room : ℕ = length out - used in
-      let q₀ : Place = firstPlace (c .window) s in
+      let q₀ : Spot = firstPlace (c .window) s in
       let m : room ≡ roomLeft out marks used at = room-many (length marks - at) room (E .two) in
       let x : (q f : List ℕ) → gives (record { value = packet (eventAt (rooms q s f) q₀); state = passedState c (q₀ .len); left = rooms q s f }) ≡ eventExact c (rooms q s f) (roomLeft out marks used at) =
       λ q f. first-exact room (length marks - at) E q f ∙ ap (eventExact c (rooms q s f)) m in

@@ -10,7 +10,7 @@ use Rattle.packet.specs.Packet.{leastPacket, hasLength}
 use Rattle.packet_reader.specs.Front.{Front, whole, front-fixed}
 use Rattle.intake.specs.Exact.{enqueueExact}
 use Rattle.intake.specs.Event.{Writable, PlainEvent, IsPlain, PlainStep, ready-writable}
-use Rattle.intake.specs.Theorems.{ready}
+use Rattle.intake.specs.Theorems.{takeable}
 use Rattle.intake.specs.declared.event.Plain.{Plain}
 use Rattle.intake.specs.declared.event.Plain.the-variants as Plain
 use Rattle.model.specs.Reading.{rooms}
@@ -57,4 +57,4 @@ pub ahead-event : (c : Connection) (s b : List ℕ) (x : Plain) (n : SequenceNum
 ahead-event c s b x n A e = subst (IsAhead c s b) e A
 
 pub sound-writable : (c : Connection) (q s f : List ℕ) → Sound c (rooms q s f) → Writable c s
-sound-writable c q s f S = ready-writable c q s f (ready c (rooms q s f) S)
+sound-writable c q s f S = ready-writable c q s f (takeable c (rooms q s f) S)

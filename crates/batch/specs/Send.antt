@@ -28,7 +28,7 @@ abbrev pub answered : ℕ → Declared.Stop → Connection → SentMany
 answered n stop c = SentMany.Sent n (record { 0 = c .written }) stop c
 
 -- the state is sound with the request room and two others, which are not lent
-pub record Ready (c : Connection) (q : List ℕ) : Type 0 where
+pub record SoundWithSome (c : Connection) (q : List ℕ) : Type 0 where
   pub store : List ℕ
   pub slots : List ℕ
   pub sound : Sound c (rooms q store slots)

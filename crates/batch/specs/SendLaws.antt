@@ -29,7 +29,7 @@ use Rattle.sequence.specs.declared.SequenceNumber.{SequenceNumber}
 use Rattle.model.specs.declared.Stop as Declared
 use Rattle.sending.specs.Send.{sendExact, SendStep}
 use Rattle.sending.specs.Theorems.{send-sound}
-use Rattle.batch.specs.Send.{sendStep, sendsExact, answered, Ready, SendsStep}
+use Rattle.batch.specs.Send.{sendStep, sendsExact, answered, SoundWithSome, SendsStep}
 
 -- ---- what a step of `sending` is as a turn
 
@@ -64,13 +64,13 @@ none-stops t byte h = simp (le-ltb byte kinds h)
 
 pub record Inv (c₀ : Connection) (q₀ bytes : List ℕ) (c : Connection) (q : List ℕ) (i : ℕ) : Type 0 where
   pub most : i ≤ length bytes
-  pub ready : Ready c q
+  pub ready : SoundWithSome c q
   pub long : length q ≡ length q₀
   pub numbers : List ℕ
   pub counted : length numbers ≡ i
   pub rest : (s f : List ℕ) → many sendStep ended (site c₀ (rooms q₀ s f)) bytes ≡ onward numbers (many sendStep ended (site c (rooms q s f)) (drop i bytes))
 
-pub inv-start : (c : Connection) (q bytes : List ℕ) → Ready c q → Inv c q bytes c q 0
+pub inv-start : (c : Connection) (q bytes : List ℕ) → SoundWithSome c q → Inv c q bytes c q 0
 inv-start c q bytes R = record { most = omega arith; ready = R; long = refl; numbers = []; counted = refl; rest = λ s f. refl }
 
 -- what a step asks of the state

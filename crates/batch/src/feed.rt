@@ -10,7 +10,7 @@ use model::Halt;
 use packet_reader::Begins;
 use refusal::Refusal;
 use sequence::SequenceNumber;
-ghost use Rattle.intake.specs.Exact.{Ready};
+ghost use Rattle.intake.specs.Exact.{Takeable};
 ghost use Rattle.intake.specs.Event.{Writable};
 ghost use Rattle.model.specs.Reading.{rooms};
 ghost use Rattle.model.specs.Sound.{Sound};
@@ -31,7 +31,7 @@ fn packet_turn(
     slots: &mut [u32],
     packet: &[u8],
 ) -> Turned
-    requires { ⌜ Ready c (now requests) (now store) (now slots) ⌝ }
+    requires { ⌜ Takeable c (now requests) (now store) (now slots) ⌝ }
     ensures { λ r. ⌜ PacketTurn c (now (requests .entry)) (now (store .entry)) (now (slots .entry)) (now (packet .entry)) r (now (store .exit)) (now (slots .exit)) ⌝ }
 {
     match intake::enqueue_packet(c, requests, store, slots, packet) {
@@ -49,7 +49,7 @@ fn front_turn(
     slots: &mut [u32],
     bytes: &[u8],
 ) -> Turned
-    requires { ⌜ Ready c (now requests) (now store) (now slots) ⌝ }
+    requires { ⌜ Takeable c (now requests) (now store) (now slots) ⌝ }
     ensures { λ r. ⌜ FrontTurn order c (now (requests .entry)) (now (store .entry)) (now (slots .entry)) (now (bytes .entry)) r (now (store .exit)) (now (slots .exit)) ⌝ }
 {
     match packet_reader::front(order, bytes) {

@@ -22,7 +22,7 @@ pub(crate) fn is_first(c: Connection, store: &[u8], room: usize, marks: usize) -
     if marks < MARKS {
         return false;
     }
-    if held::kind_at(store, start) != held::EVENT {
+    if held::kind_at(store, start) != held::IN_EVENTS {
         return false;
     }
     if room < held::length_at(store, start) {

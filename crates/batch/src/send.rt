@@ -6,14 +6,14 @@ use model::Stop;
 use model::kind_of;
 use sequence::SequenceNumber;
 ghost use mathlib.Core.Path.{_≡_};
-ghost use Rattle.batch.specs.Send.{Ready, SendsStep, answered};
+ghost use Rattle.batch.specs.Send.{SoundWithSome, SendsStep, answered};
 
 // The bytes below this one mean a kind.
 const KINDS: u8 = 3;
 
 // Requests of the kinds are sent up to the first that is refused, or to a byte that is no kind.
 pub fn send_requests(c: Connection, requests: &mut [u8], kinds: &[u8]) -> SentMany
-    requires { ⌜ Ready c (now requests) ⌝ }
+    requires { ⌜ SoundWithSome c (now requests) ⌝ }
     ensures { λ r. ⌜ SendsStep c (now (kinds .entry)) (now (requests .entry)) r (now (requests .exit)) ⌝ }
 {
     let mut state = c;

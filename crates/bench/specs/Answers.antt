@@ -14,7 +14,7 @@ use Rattle.held.specs.Moves.{Within, Room, window}
 use Rattle.held.specs.Lies.{FirstEvent, FindsEvent}
 use Rattle.held.specs.Theorems.{Walks, walks, find-event-law, place-law, fits-law}
 use Rattle.held.specs.declared.Window.{Window}
-use Rattle.held.specs.declared.Place.{Place}
+use Rattle.held.specs.declared.Spot.{Spot}
 use Rattle.held.specs.declared.Walked.{Walked}
 use Rattle.held.specs.declared.Walked.the-variants as Walked
 use Rattle.held.specs.declared.Found.the-variants as Found
@@ -61,7 +61,7 @@ room last w s n S m h = record {
 }
 
 -- and an event that is found there lies in the window and has 32 bytes or more.
-module _ (last : ℕ) (w : Window) (s : List ℕ) (p : Place) (S : Sound last w s) (e : Found.At p ≡ foundEvent w s) where
+module _ (last : ℕ) (w : Window) (s : List ℕ) (p : Spot) (S : Sound last w s) (e : Found.At p ≡ foundEvent w s) where
   first : FirstEvent w s p
   first = subst (FindsEvent w s) (sym e) (find-event-law w s)
 

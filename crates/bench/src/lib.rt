@@ -113,7 +113,7 @@ pub extern "C" fn bench_append(
     let label = Label {
         number: last,
         fds: 0,
-        kind: held::EVENT,
+        kind: held::IN_EVENTS,
     };
     let next = held::append(store, w, label, packet);
     window[0] = next.start;

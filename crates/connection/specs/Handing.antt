@@ -8,7 +8,7 @@ use lib.ListN.{length}
 use borrow.Author.Tests.{eqb-true}
 use Rattle.refusal.specs.Answer.{Answer, gives, refuses, gives-rest, gives-same}
 use Rattle.held.specs.General.{choose-either}
-use Rattle.held.specs.Head as Record
+use Rattle.held.specs.Head as Head
 use Rattle.held.specs.Reading as Store
 use Rattle.model.specs.Client.{Held, Client}
 use Rattle.model.specs.Model as Model
@@ -73,7 +73,7 @@ module _ (c : Client) (n bytes : ℕ) where
       choose-either (λ (y : Answer (PollReply × Client)). gives (v, d) ≡ y → Asked n v) (Model.isError h) _ _
       (λ t i. subst (Asked n) (sym (value-is i)) tt) (λ t i. subst (Asked n) (sym (value-is (gives-rest _ _ _ i))) (e, refl)) g
 
-  event-bare : (l : List Record.Held) (v : Taken) (d : Client) → gives (v, d) ≡ eventBy c bytes (map eventOf l) → IfShown Bare (shownTaken v)
+  event-bare : (l : List Head.Record) (v : Taken) (d : Client) → gives (v, d) ≡ eventBy c bytes (map eventOf l) → IfShown Bare (shownTaken v)
   event-bare [] v d g = subst (λ (w : Taken). IfShown Bare (shownTaken w)) (sym (value-is g)) tt
   event-bare (h ∷ l) v d g = subst (λ (w : Taken). IfShown Bare (shownTaken w)) (sym (value-is (gives-rest _ _ _ g))) refl
 

@@ -6,13 +6,13 @@ use lib.Dec.{leb, eqb}
 use lib.ListN.{length, take, drop, getD}
 use Rattle.octets.specs.Logic.{choose, both}
 use Rattle.requests.specs.Room.{putMode}
-use Rattle.held.specs.Head as Record
+use Rattle.held.specs.Head as Head
 use Rattle.held.specs.Head.{headerSize}
 use Rattle.held.specs.Reading as Store
 use Rattle.held.specs.Find.{foundReply}
 use Rattle.held.specs.Moves.{Left, left, removed, demoted}
 use Rattle.held.specs.declared.Window.{Window}
-use Rattle.held.specs.declared.Place.{Place}
+use Rattle.held.specs.declared.Spot.{Spot}
 use Rattle.held.specs.declared.Found.{Found}
 use Rattle.held.specs.declared.Found.the-variants as Found
 use Rattle.held.specs.Tally.{own, lower, higher}
@@ -37,30 +37,30 @@ abbrev pub turnOf : DiscardMode → ℕ → ℕ → ℕ
 turnOf DiscardMode.DiscardReply r k = 0
 turnOf DiscardMode.DiscardReplyAndError r k = k % r
 
-abbrev pub turnAt : DiscardMode → ℕ → List Record.Held → ℕ
+abbrev pub turnAt : DiscardMode → ℕ → List Head.Record → ℕ
 turnAt m n rs = turnOf m (length (own n rs)) (length (higher n rs))
 
 -- how many descriptors lower replies have; those of the number before that one; and from it on
-abbrev pub fdsBelow : ℕ → List Record.Held → ℕ
+abbrev pub fdsBelow : ℕ → List Head.Record → ℕ
 fdsBelow n rs = Store.fdsIn (lower n rs)
 
-abbrev pub fdsBefore : DiscardMode → ℕ → List Record.Held → ℕ
+abbrev pub fdsBefore : DiscardMode → ℕ → List Head.Record → ℕ
 fdsBefore m n rs = Store.fdsIn (take (turnAt m n rs) (own n rs))
 
-abbrev pub fdsFrom : DiscardMode → ℕ → List Record.Held → ℕ
+abbrev pub fdsFrom : DiscardMode → ℕ → List Head.Record → ℕ
 fdsFrom m n rs = Store.fdsIn (drop (turnAt m n rs) (own n rs))
 
 -- two runs, side by side from place at on: the second is closed, then the first
 unfoldable pub closedRound : ℕ → ℕ → ℕ → Slots.Room → Slots.Room
 closedRound at u v d = Slots.closeHeld at u (Slots.closeHeld (at + u) v d)
 
-abbrev pub discardSlots : DiscardMode → ℕ → List Record.Held → Slots.Room → Slots.Room
+abbrev pub discardSlots : DiscardMode → ℕ → List Head.Record → Slots.Room → Slots.Room
 discardSlots m n rs d = closedRound (fdsBelow n rs) (fdsBefore m n rs) (fdsFrom m n rs) d
 
 -- ---- the packets
 
 -- one goes; "under DiscardReply the errors among them become events"
-abbrev pub clearedAt : DiscardMode → Left → Place → Left
+abbrev pub clearedAt : DiscardMode → Left → Spot → Left
 clearedAt DiscardMode.DiscardReply l p =
     choose (eqb (getD (l .store) (p .at + headerSize) 0) errorCode) (left (l .window) (demoted (l .window) (l .store) p)) (removed (l .window) (l .store) p)
 clearedAt DiscardMode.DiscardReplyAndError l p = removed (l .window) (l .store) p
@@ -76,7 +76,7 @@ cleared (suc j) m n l = cleared j m n (clearedFrom m l (foundReply n (l .window)
 
 -- ---- the whole
 
-abbrev pub repliesOf : Connection → Rooms → List Record.Held
+abbrev pub repliesOf : Connection → Rooms → List Head.Record
 repliesOf c r = Store.replies (c .window) (r .store)
 
 abbrev pub discardLeft : Connection → Rooms → ℕ → DiscardMode → Left

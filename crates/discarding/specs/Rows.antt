@@ -10,7 +10,7 @@ use lib.Seq.{drop-at, drop-drop, take-append-le, take-take, length-take-le}
 use Rattle.octets.specs.Logic.{choose}
 use Rattle.octets.specs.Put.{cut, cut-append, take-drop}
 use Rattle.held.specs.General.{choose-yes, choose-no, choose-either}
-use Rattle.held.specs.Head as Record
+use Rattle.held.specs.Head as Head
 use Rattle.held.specs.Head.{headerSize}
 use Rattle.held.specs.Reading as Store
 use Rattle.held.specs.Reading.{All, fdsIn}
@@ -18,7 +18,7 @@ use Rattle.held.specs.Find.{foundReply}
 use Rattle.held.specs.Moves.{Left, left, removed, demoted}
 use Rattle.held.specs.Lies.{Other, FirstReply, FindsReply}
 use Rattle.held.specs.Theorems as Held
-use Rattle.held.specs.declared.Place.{Place}
+use Rattle.held.specs.declared.Spot.{Spot}
 use Rattle.held.specs.declared.Found.{Found}
 use Rattle.held.specs.declared.Found.the-variants as Found
 use Rattle.held.specs.Tally.{own, lower, higher}
@@ -36,13 +36,13 @@ use Rattle.discarding.specs.Exact.{closedRound, clearedAt, clearedFrom, 
 
 -- ---- descriptors of a part of a row
 
-pub take-with : (m : ℕ) (a : List Record.Held) (fds : List ℕ) → take m (withDescriptors a fds) ≡ withDescriptors (take m a) fds
+pub take-with : (m : ℕ) (a : List Head.Record) (fds : List ℕ) → take m (withDescriptors a fds) ≡ withDescriptors (take m a) fds
 unfolding withDescriptors
 take-with zero a fds = refl
 take-with (suc m) [] fds = refl
 take-with (suc m) (h ∷ a) fds = ap (λ (l : List Client.Held). heldWith h (take (h .fds) fds) ∷ l) (take-with m a (drop (h .fds) fds))
 
-pub drop-with : (m : ℕ) (a : List Record.Held) (fds : List ℕ) → drop m (withDescriptors a fds) ≡ withDescriptors (drop m a) (drop (fdsIn (take m a)) fds)
+pub drop-with : (m : ℕ) (a : List Head.Record) (fds : List ℕ) → drop m (withDescriptors a fds) ≡ withDescriptors (drop m a) (drop (fdsIn (take m a)) fds)
 unfolding withDescriptors fdsIn
 drop-with zero a fds = refl
 drop-with (suc m) [] fds = refl
@@ -54,7 +54,7 @@ descriptors-append [] b = refl
 descriptors-append (h ∷ a) b = ap (λ (l : List ℕ). h .descriptors ++ l) (descriptors-append a b) ∙ sym (append-assoc (h .descriptors) (descriptorsOf a) (descriptorsOf b))
 
 -- a row from record m on and then round
-pub descriptors-round : (m : ℕ) (a : List Record.Held) (fds : List ℕ)
+pub descriptors-round : (m : ℕ) (a : List Head.Record) (fds : List ℕ)
     → descriptorsOf (drop m (withDescriptors a fds) ++ take m (withDescriptors a fds)) ≡ take (fdsIn (drop m a)) (drop (fdsIn (take m a)) fds) ++ take (fdsIn (take m a)) fds
 descriptors-round m a fds =
     descriptors-append _ _
@@ -120,23 +120,23 @@ module _ (d : Slots.Room) (S : Slots.Sound d) (at u v : ℕ) (some : at + u + v 
 -- ---- the packets of a number, one after the other
 
 -- the errors of a row, as events; what discarding makes events
-unfoldable pub errorsIn : List Record.Held → List Record.Held
+unfoldable pub errorsIn : List Head.Record → List Head.Record
 errorsIn [] = []
-errorsIn (h ∷ l) = choose (eqb (getD (h .packet) 0 0) errorCode) (Record.asEvent h ∷ errorsIn l) (errorsIn l)
+errorsIn (h ∷ l) = choose (eqb (getD (h .packet) 0 0) errorCode) (Head.asEvent h ∷ errorsIn l) (errorsIn l)
 
-abbrev pub becoming : DiscardMode → List Record.Held → List Record.Held
+abbrev pub becoming : DiscardMode → List Head.Record → List Head.Record
 becoming DiscardMode.DiscardReply l = errorsIn l
 becoming DiscardMode.DiscardReplyAndError l = []
 
-errors-first : (h : Record.Held) (l : List Record.Held) → errorsIn (h ∷ l) ≡ errorsIn (h ∷ []) ++ errorsIn l
+errors-first : (h : Head.Record) (l : List Head.Record) → errorsIn (h ∷ l) ≡ errorsIn (h ∷ []) ++ errorsIn l
 unfolding errorsIn choose
 errors-first h l = go (eqb (getD (h .packet) 0 0) errorCode)
   where
-    go : (t : Bool) → choose t (Record.asEvent h ∷ errorsIn l) (errorsIn l) ≡ choose t (Record.asEvent h ∷ []) [] ++ errorsIn l
+    go : (t : Bool) → choose t (Head.asEvent h ∷ errorsIn l) (errorsIn l) ≡ choose t (Head.asEvent h ∷ []) [] ++ errorsIn l
     go true = refl
     go false = refl
 
-becoming-first : (m : DiscardMode) (h : Record.Held) (l : List Record.Held) → becoming m (h ∷ l) ≡ becoming m (h ∷ []) ++ becoming m l
+becoming-first : (m : DiscardMode) (h : Head.Record) (l : List Head.Record) → becoming m (h ∷ l) ≡ becoming m (h ∷ []) ++ becoming m l
 becoming-first DiscardMode.DiscardReply h l = errors-first h l
 becoming-first DiscardMode.DiscardReplyAndError h l = refl
 
@@ -146,54 +146,54 @@ becoming-none DiscardMode.DiscardReply = refl
 becoming-none DiscardMode.DiscardReplyAndError = refl
 
 -- a row with its first of the number, and without it
-pub own-none : (n : ℕ) (a : List Record.Held) → All (Other n) a → own n a ≡ []
+pub own-none : (n : ℕ) (a : List Head.Record) → All (Other n) a → own n a ≡ []
 unfolding All own
 own-none n [] p = refl
 own-none n (x ∷ a) p = own-not n x a (p .0) ∙ own-none n a (p .1)
 
-module _ (n : ℕ) (it : Record.Held) (b : List Record.Held) (e : it .number ≡ n) where
-  pub own-found : (a : List Record.Held) → All (Other n) a → own n (a ++ (it ∷ b)) ≡ it ∷ own n (a ++ b)
+module _ (n : ℕ) (it : Head.Record) (b : List Head.Record) (e : it .number ≡ n) where
+  pub own-found : (a : List Head.Record) → All (Other n) a → own n (a ++ (it ∷ b)) ≡ it ∷ own n (a ++ b)
   unfolding All
   own-found [] p = own-is n it b e
-  own-found (x ∷ a) p = own-not n x (a ++ (it ∷ b)) (p .0) ∙ own-found a (p .1) ∙ ap (λ (l : List Record.Held). it ∷ l) (sym (own-not n x (a ++ b) (p .0)))
+  own-found (x ∷ a) p = own-not n x (a ++ (it ∷ b)) (p .0) ∙ own-found a (p .1) ∙ ap (λ (l : List Head.Record). it ∷ l) (sym (own-not n x (a ++ b) (p .0)))
 
-  lower-found : (a : List Record.Held) → lower n (a ++ (it ∷ b)) ≡ lower n (a ++ b)
+  lower-found : (a : List Head.Record) → lower n (a ++ (it ∷ b)) ≡ lower n (a ++ b)
   unfolding lower
   lower-found [] = lower-not n it b (omega arith)
-  lower-found (x ∷ a) = ap (λ (l : List Record.Held). choose (ltb (x .number) n) (x ∷ l) l) (lower-found a)
+  lower-found (x ∷ a) = ap (λ (l : List Head.Record). choose (ltb (x .number) n) (x ∷ l) l) (lower-found a)
 
-  higher-found : (a : List Record.Held) → higher n (a ++ (it ∷ b)) ≡ higher n (a ++ b)
+  higher-found : (a : List Head.Record) → higher n (a ++ (it ∷ b)) ≡ higher n (a ++ b)
   unfolding higher
   higher-found [] = higher-not n it b (omega arith)
-  higher-found (x ∷ a) = ap (λ (l : List Record.Held). choose (ltb n (x .number)) (x ∷ l) l) (higher-found a)
+  higher-found (x ∷ a) = ap (λ (l : List Head.Record). choose (ltb n (x .number)) (x ∷ l) l) (higher-found a)
 
 -- what one step leaves
-pub record One (last : ℕ) (m : DiscardMode) (l : Left) (before : List Record.Held) (it : Record.Held) (after : List Record.Held) (l' : Left) : Type 0 where
+pub record One (last : ℕ) (m : DiscardMode) (l : Left) (before : List Head.Record) (it : Head.Record) (after : List Head.Record) (l' : Left) : Type 0 where
   pub sound : Store.Sound last (l' .window) (l' .store)
   pub replies : Store.replies (l' .window) (l' .store) ≡ before ++ after
   pub events : Store.events (l' .window) (l' .store) ≡ Store.events (l .window) (l .store) ++ becoming m (it ∷ [])
   pub long : length (l' .store) ≡ length (l .store)
 
-module _ (last n : ℕ) (l : Left) (S : Store.Sound last (l .window) (l .store)) (p : Place) (F : FirstReply n (l .window) (l .store) p) where
+module _ (last n : ℕ) (l : Left) (S : Store.Sound last (l .window) (l .store)) (p : Spot) (F : FirstReply n (l .window) (l .store) p) where
   gone : (m : DiscardMode) → [] ≡ becoming m (F .it ∷ []) → One last m l (F .before) (F .it) (F .after) (removed (l .window) (l .store) p)
   gone m e =
-      let K = Held.remove-law last (l .window) (l .store) S Record.reply p (F .before) (F .it) (F .after) (F .lies) in
-      record { sound = K .sound; replies = K .own; events = K .other Record.event (λ q. omega arith) ∙ sym (append-nil _) ∙ ap (λ x. Store.events (l .window) (l .store) ++ x) e; long = K .long }
+      let K = Held.remove-law last (l .window) (l .store) S Head.reply p (F .before) (F .it) (F .after) (F .lies) in
+      record { sound = K .sound; replies = K .own; events = K .other Head.event (λ q. omega arith) ∙ sym (append-nil _) ∙ ap (λ x. Store.events (l .window) (l .store) ++ x) e; long = K .long }
 
-  turned-one : Record.asEvent (F .it) ∷ [] ≡ errorsIn (F .it ∷ []) → One last DiscardMode.DiscardReply l (F .before) (F .it) (F .after) (left (l .window) (demoted (l .window) (l .store) p))
+  turned-one : Head.asEvent (F .it) ∷ [] ≡ errorsIn (F .it ∷ []) → One last DiscardMode.DiscardReply l (F .before) (F .it) (F .after) (left (l .window) (demoted (l .window) (l .store) p))
   turned-one e =
       let K = Held.demote-law last (l .window) (l .store) S p (F .before) (F .it) (F .after) (F .lies) in
       record { sound = K .sound; replies = K .replies; events = K .events ∙ ap (λ x. Store.events (l .window) (l .store) ++ x) e; long = K .long }
 
   byte : getD (l .store) (p .at + headerSize) 0 ≡ getD (F .it .packet) 0 0
-  byte = Held.first-law last (l .window) (l .store) S Record.reply p (F .before) (F .it) (F .after) (F .lies) .1
+  byte = Held.first-law last (l .window) (l .store) S Head.reply p (F .before) (F .it) (F .after) (F .lies) .1
 
   pub one-step : (m : DiscardMode) → One last m l (F .before) (F .it) (F .after) (clearedAt m l p)
   unfolding errorsIn
   one-step DiscardMode.DiscardReply =
       choose-either (One last DiscardMode.DiscardReply l (F .before) (F .it) (F .after)) (eqb (getD (l .store) (p .at + headerSize) 0) errorCode) _ _
-      (λ t. turned-one (sym (choose-yes _ (Record.asEvent (F .it) ∷ []) [] (ap (λ (b : ℕ). eqb b errorCode) (sym byte) ∙ t))))
-      (λ t. gone DiscardMode.DiscardReply (sym (choose-no _ (Record.asEvent (F .it) ∷ []) [] (ap (λ (b : ℕ). eqb b errorCode) (sym byte) ∙ t))))
+      (λ t. turned-one (sym (choose-yes _ (Head.asEvent (F .it) ∷ []) [] (ap (λ (b : ℕ). eqb b errorCode) (sym byte) ∙ t))))
+      (λ t. gone DiscardMode.DiscardReply (sym (choose-no _ (Head.asEvent (F .it) ∷ []) [] (ap (λ (b : ℕ). eqb b errorCode) (sym byte) ∙ t))))
   one-step DiscardMode.DiscardReplyAndError = gone DiscardMode.DiscardReplyAndError refl
 
 -- what is left once none of the number is held
@@ -215,7 +215,7 @@ module _ (last n : ℕ) (m : DiscardMode) where
         long = refl;
       }
     where
-      empty : (a : List Record.Held) → length a ≡ 0 → a ≡ []
+      empty : (a : List Head.Record) → length a ≡ 0 → a ≡ []
       empty [] h = refl
       empty (x ∷ a) h = absurd (omega arith)
 

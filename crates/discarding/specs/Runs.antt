@@ -10,7 +10,7 @@ use lib.ListN.{length, take, drop}
 use borrow.Author.Tests.{eq-eqb, ne-eqb, lt-ltb, le-ltb, eqb-true, ltb-true}
 use Rattle.octets.specs.Logic.{choose}
 use Rattle.held.specs.General.{choose-yes, choose-no, choose-either}
-use Rattle.held.specs.Head as Record
+use Rattle.held.specs.Head as Head
 use Rattle.held.specs.Reading.{All, Rising, fdsIn}
 use Rattle.held.specs.Rows.{all-map}
 use Rattle.held.specs.Tally.{own, lower, higher}
@@ -20,7 +20,7 @@ use Rattle.model.specs.Reading.{heldWith, withDescriptors}
 use Rattle.model.specs.ReadingLaws.{with-append}
 
 -- one step of each
-module _ (n : ℕ) (h : Record.Held) (l : List Record.Held) where
+module _ (n : ℕ) (h : Head.Record) (l : List Head.Record) where
   pub own-is : h .number ≡ n → own n (h ∷ l) ≡ h ∷ own n l
   unfolding own
   own-is e = choose-yes (eqb (h .number) n) (h ∷ own n l) (own n l) (eq-eqb (h .number) n e)
@@ -46,52 +46,52 @@ module _ (n : ℕ) (h : Record.Held) (l : List Record.Held) where
   higher-not e = choose-no (ltb n (h .number)) (h ∷ higher n l) (higher n l) (le-ltb n (h .number) e)
 
 -- from the number on there are no lower ones, and behind it none of it
-pub no-lower : (n from : ℕ) (l : List Record.Held) → n ≤ from → Rising from l → lower n l ≡ []
+pub no-lower : (n from : ℕ) (l : List Head.Record) → n ≤ from → Rising from l → lower n l ≡ []
 unfolding Rising lower
 no-lower n from [] h R = refl
 no-lower n from (x ∷ l) h R = lower-not n x l (omega (arith, R .0)) ∙ no-lower n (x .number) l (omega (arith, R .0)) (R .1)
 
-no-own : (n from : ℕ) (l : List Record.Held) → n < from → Rising from l → own n l ≡ []
+no-own : (n from : ℕ) (l : List Head.Record) → n < from → Rising from l → own n l ≡ []
 unfolding Rising own
 no-own n from [] h R = refl
 no-own n from (x ∷ l) h R = own-not n x l (λ e. omega (arith, R .0)) ∙ no-own n (x .number) l (omega (arith, R .0)) (R .1)
 
-split-step : (n : ℕ) (x : Record.Held) (l : List Record.Held) → Rising (x .number) l → l ≡ lower n l ++ (own n l ++ higher n l) → x ∷ l ≡ lower n (x ∷ l) ++ (own n (x ∷ l) ++ higher n (x ∷ l))
+split-step : (n : ℕ) (x : Head.Record) (l : List Head.Record) → Rising (x .number) l → l ≡ lower n l ++ (own n l ++ higher n l) → x ∷ l ≡ lower n (x ∷ l) ++ (own n (x ∷ l) ++ higher n (x ∷ l))
 split-step n x l R IH = elim (decLt (x .number) n) [
-  | yes p ↦ ap (λ (k : List Record.Held). x ∷ k) IH
+  | yes p ↦ ap (λ (k : List Head.Record). x ∷ k) IH
       ∙ (λ k. sym (lower-is n x l p) k ++ (sym (own-not n x l (λ e. omega arith)) k ++ sym (higher-not n x l (omega arith)) k))
   | no q ↦ elim (decLt n (x .number)) [
     | yes p ↦
         let a : lower n l ≡ [] = no-lower n (x .number) l (omega arith) R in
         let b : own n l ≡ [] = no-own n (x .number) l p R in
-        ap (λ (k : List Record.Held). x ∷ k) (IH ∙ (λ k. a k ++ (b k ++ higher n l)))
+        ap (λ (k : List Head.Record). x ∷ k) (IH ∙ (λ k. a k ++ (b k ++ higher n l)))
         ∙ (λ k. (sym a ∙ sym (lower-not n x l (omega arith))) k ++ ((sym b ∙ sym (own-not n x l (λ e. omega arith))) k ++ sym (higher-is n x l p) k))
     | no r ↦
         let e : x .number ≡ n = omega (arith, q, r) in
         let a : lower n l ≡ [] = no-lower n (x .number) l (omega arith) R in
-        ap (λ (k : List Record.Held). x ∷ k) (IH ∙ (λ k. a k ++ (own n l ++ higher n l)))
+        ap (λ (k : List Head.Record). x ∷ k) (IH ∙ (λ k. a k ++ (own n l ++ higher n l)))
         ∙ (λ k. (sym a ∙ sym (lower-not n x l (omega arith))) k ++ (sym (own-is n x l e) k ++ sym (higher-not n x l (omega arith)) k))
   ]
 ]
 
 -- THE SPLIT: lower ones, those of the number, higher ones.
-pub rising-split : (n from : ℕ) (l : List Record.Held) → Rising from l → l ≡ lower n l ++ (own n l ++ higher n l)
+pub rising-split : (n from : ℕ) (l : List Head.Record) → Rising from l → l ≡ lower n l ++ (own n l ++ higher n l)
 unfolding Rising lower own higher
 rising-split n from [] R = refl
 rising-split n from (x ∷ l) R = split-step n x l (R .1) (rising-split n (x .number) l (R .1))
 
 -- what each part has
-pub own-all : (n : ℕ) (l : List Record.Held) → All (λ h. h .number ≡ n) (own n l)
+pub own-all : (n : ℕ) (l : List Head.Record) → All (λ h. h .number ≡ n) (own n l)
 unfolding All own
 own-all n [] = tt
 own-all n (x ∷ l) = choose-either (All (λ h. h .number ≡ n)) (eqb (x .number) n) (x ∷ own n l) (own n l) (λ e. (eqb-true (x .number) n e, own-all n l)) (λ e. own-all n l)
 
-pub lower-all : (n : ℕ) (l : List Record.Held) → All (λ h. h .number < n) (lower n l)
+pub lower-all : (n : ℕ) (l : List Head.Record) → All (λ h. h .number < n) (lower n l)
 unfolding All lower
 lower-all n [] = tt
 lower-all n (x ∷ l) = choose-either (All (λ h. h .number < n)) (ltb (x .number) n) (x ∷ lower n l) (lower n l) (λ e. (ltb-true (x .number) n e, lower-all n l)) (λ e. lower-all n l)
 
-pub higher-all : (n : ℕ) (l : List Record.Held) → All (λ h. n < h .number) (higher n l)
+pub higher-all : (n : ℕ) (l : List Head.Record) → All (λ h. n < h .number) (higher n l)
 unfolding All higher
 higher-all n [] = tt
 higher-all n (x ∷ l) = choose-either (All (λ h. n < h .number)) (ltb n (x .number)) (x ∷ higher n l) (higher n l) (λ e. (ltb-true n (x .number) e, higher-all n l)) (λ e. higher-all n l)
@@ -127,50 +127,50 @@ above-append n (h ∷ a) b = go (ltb n (h .number)) (above-append n a b)
 
 -- of a row of which all, or none, are of the number
 module _ (n : ℕ) where
-  of-all : (a : List Record.Held) (fds : List ℕ) → All (λ h. h .number ≡ n) a → ofNumber n (withDescriptors a fds) ≡ withDescriptors a fds
+  of-all : (a : List Head.Record) (fds : List ℕ) → All (λ h. h .number ≡ n) a → ofNumber n (withDescriptors a fds) ≡ withDescriptors a fds
   unfolding ofNumber withDescriptors All
   of-all [] fds p = refl
   of-all (x ∷ a) fds p = choose-yes (eqb (x .number) n) _ _ (eq-eqb (x .number) n (p .0)) ∙ ap (λ (k : List Held). heldWith x (take (x .fds) fds) ∷ k) (of-all a (drop (x .fds) fds) (p .1))
 
-  of-none : (a : List Record.Held) (fds : List ℕ) → All (λ h. h .number ≡ n → ⊥) a → ofNumber n (withDescriptors a fds) ≡ []
+  of-none : (a : List Head.Record) (fds : List ℕ) → All (λ h. h .number ≡ n → ⊥) a → ofNumber n (withDescriptors a fds) ≡ []
   unfolding ofNumber withDescriptors All
   of-none [] fds p = refl
   of-none (x ∷ a) fds p = choose-no (eqb (x .number) n) _ _ (ne-eqb (x .number) n (p .0)) ∙ of-none a (drop (x .fds) fds) (p .1)
 
-  not-all : (a : List Record.Held) (fds : List ℕ) → All (λ h. h .number ≡ n) a → notOf n (withDescriptors a fds) ≡ []
+  not-all : (a : List Head.Record) (fds : List ℕ) → All (λ h. h .number ≡ n) a → notOf n (withDescriptors a fds) ≡ []
   unfolding notOf withDescriptors All
   not-all [] fds p = refl
   not-all (x ∷ a) fds p = choose-yes (eqb (x .number) n) _ _ (eq-eqb (x .number) n (p .0)) ∙ not-all a (drop (x .fds) fds) (p .1)
 
-  not-none : (a : List Record.Held) (fds : List ℕ) → All (λ h. h .number ≡ n → ⊥) a → notOf n (withDescriptors a fds) ≡ withDescriptors a fds
+  not-none : (a : List Head.Record) (fds : List ℕ) → All (λ h. h .number ≡ n → ⊥) a → notOf n (withDescriptors a fds) ≡ withDescriptors a fds
   unfolding notOf withDescriptors All
   not-none [] fds p = refl
   not-none (x ∷ a) fds p = choose-no (eqb (x .number) n) _ _ (ne-eqb (x .number) n (p .0)) ∙ ap (λ (k : List Held). heldWith x (take (x .fds) fds) ∷ k) (not-none a (drop (x .fds) fds) (p .1))
 
-  above-none : (a : List Record.Held) (fds : List ℕ) → All (λ h. h .number ≤ n) a → above n (withDescriptors a fds) ≡ []
+  above-none : (a : List Head.Record) (fds : List ℕ) → All (λ h. h .number ≤ n) a → above n (withDescriptors a fds) ≡ []
   unfolding above withDescriptors All
   above-none [] fds p = refl
   above-none (x ∷ a) fds p = choose-no (ltb n (x .number)) _ _ (le-ltb n (x .number) (p .0)) ∙ above-none a (drop (x .fds) fds) (p .1)
 
-  above-all : (a : List Record.Held) (fds : List ℕ) → All (λ h. n < h .number) a → above n (withDescriptors a fds) ≡ withDescriptors a fds
+  above-all : (a : List Head.Record) (fds : List ℕ) → All (λ h. n < h .number) a → above n (withDescriptors a fds) ≡ withDescriptors a fds
   unfolding above withDescriptors All
   above-all [] fds p = refl
   above-all (x ∷ a) fds p = choose-yes (ltb n (x .number)) _ _ (lt-ltb n (x .number) (p .0)) ∙ ap (λ (k : List Held). heldWith x (take (x .fds) fds) ∷ k) (above-all a (drop (x .fds) fds) (p .1))
 
-pub length-with : (a : List Record.Held) (fds : List ℕ) → length (withDescriptors a fds) ≡ length a
+pub length-with : (a : List Head.Record) (fds : List ℕ) → length (withDescriptors a fds) ≡ length a
 unfolding withDescriptors
 length-with [] fds = refl
 length-with (x ∷ a) fds = ap suc (length-with a (drop (x .fds) fds))
 
 -- A row of replies, as it is read: those of the number, the others, and how many stand above.
-module _ (n from : ℕ) (l : List Record.Held) (fds : List ℕ) (R : Rising from l) where
-  abbrev L : List Record.Held
+module _ (n from : ℕ) (l : List Head.Record) (fds : List ℕ) (R : Rising from l) where
+  abbrev L : List Head.Record
   L = lower n l
 
-  abbrev O : List Record.Held
+  abbrev O : List Head.Record
   O = own n l
 
-  abbrev H : List Record.Held
+  abbrev H : List Head.Record
   H = higher n l
 
   abbrev b : ℕ

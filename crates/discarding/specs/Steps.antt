@@ -13,7 +13,7 @@ use Rattle.octets.specs.Logic.{choose, both}
 use Rattle.requests.specs.Room.{putMode}
 use Rattle.requests.specs.declared.Mode.{Mode}
 use Rattle.held.specs.General.{choose-yes, choose-no}
-use Rattle.held.specs.Head as Record
+use Rattle.held.specs.Head as Head
 use Rattle.held.specs.Head.{headerSize}
 use Rattle.held.specs.Reading as Store
 use Rattle.held.specs.Reading.{fdsIn}
@@ -23,7 +23,7 @@ use Rattle.held.specs.Moves.{Left, left, Leaves, Within, removed, demoted}
 use Rattle.held.specs.Lies.{FirstReply, FindsReply}
 use Rattle.held.specs.Theorems as Held
 use Rattle.held.specs.declared.Window.{Window}
-use Rattle.held.specs.declared.Place.{Place}
+use Rattle.held.specs.declared.Spot.{Spot}
 use Rattle.held.specs.declared.Found.{Found}
 use Rattle.held.specs.declared.Found.the-variants as Found
 use Rattle.held.specs.Tally.{own}
@@ -57,7 +57,7 @@ turn-round m r k e h = (ap (λ (x : DiscardMode). turnOf x r k) (sym e), omega (
 
 -- ---- one packet goes
 
-module _ (w : Window) (s : List ℕ) (p : Place) (m : DiscardMode) where
+module _ (w : Window) (s : List ℕ) (p : Spot) (m : DiscardMode) where
   pub clear-error : m ≡ DiscardMode.DiscardReply → (x : ℕ) (s' : List ℕ) → x ≡ getD s (p .at + headerSize) 0 → x ≡ errorCode → s' ≡ demoted w s p → Leaves (clearedAt m (left w s) p) w s'
   clear-error g x s' e f d =
       let z : clearedAt m (left w s) p ≡ left w (demoted w s p) = ap (λ (k : DiscardMode). clearedAt k (left w s) p) g ∙ choose-yes _ _ _ (eq-eqb _ _ (sym e ∙ f)) in
@@ -74,14 +74,14 @@ module _ (w : Window) (s : List ℕ) (p : Place) (m : DiscardMode) where
 
 -- ---- one turn of a sweep
 
-module _ (n : ℕ) (w : Window) (s : List ℕ) (W : Sweepable n w s) (p : Place) (e : Found.At p ≡ foundReply n w s) where
+module _ (n : ℕ) (w : Window) (s : List ℕ) (W : Sweepable n w s) (p : Spot) (e : Found.At p ≡ foundReply n w s) where
   found-first : FirstReply n w s p
   found-first = subst (FindsReply n w s) (sym e) (Held.find-reply-law n (W .last) w s (W .sound))
 
   pub clear-place : Within w s p × (p .at + headerSize < length s)
   clear-place =
       let F = found-first in
-      (Held.place-law (W .last) w s (W .sound) Record.reply p (F .before) (F .it) (F .after) (F .lies), Held.first-law (W .last) w s (W .sound) Record.reply p (F .before) (F .it) (F .after) (F .lies) .0)
+      (Held.place-law (W .last) w s (W .sound) Head.reply p (F .before) (F .it) (F .after) (F .lies), Held.first-law (W .last) w s (W .sound) Head.reply p (F .before) (F .it) (F .after) (F .lies) .0)
 
   pub one-found : (m : DiscardMode) (w' : Window) (s' : List ℕ) → Leaves (clearedAt m (left w s) p) w' s' → SweepsOne n m w s w' (p .fds) s'
   one-found m w' s' L = record { leaves = (λ k. left (L .window k) (L .store k)) ∙ ap (clearedFrom m (left w s)) e; counts = ap fdsFound e }
@@ -125,7 +125,7 @@ pub record Sweeping (n : ℕ) (m : DiscardMode) (count : ℕ) (w : Window) (s : 
   pub long : length s' ≡ length s
 
 module _ (n : ℕ) (m : DiscardMode) (count : ℕ) (w : Window) (s : List ℕ) where
-  abbrev o : List Record.Held
+  abbrev o : List Head.Record
   o = own n (Store.replies w s)
 
   pub sweeping-start : Sweepable n w s → Sweeping n m count w s w s 0 0

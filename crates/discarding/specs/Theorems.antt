@@ -13,7 +13,7 @@ use Rattle.refusal.specs.Answer.{gives}
 use Rattle.requests.specs.Room.{outstanding, putMode, underMode, sized, legals}
 use Rattle.requests.specs.Theorems.{mode-put, outstanding-mode, sized-is, sized-put, legals-put}
 use Rattle.held.specs.General.{choose-either}
-use Rattle.held.specs.Head as Record
+use Rattle.held.specs.Head as Head
 use Rattle.held.specs.Reading as Store
 use Rattle.held.specs.Reading.{fdsIn}
 use Rattle.held.specs.Rows.{fdsIn-append}
@@ -40,18 +40,18 @@ use Rattle.discarding.specs.Exact.{modeSet, turnAt, fdsBelow, fdsBefore,
 use Rattle.discarding.specs.Rows.{descriptors-round, round-lists, round-sound, round-held, errorsIn, becoming, Cleared, cleared-law}
 
 -- the errors of a row, as the model reads them
-errors-read : (a : List Record.Held) (fds : List ℕ) → map eventOf (errorsIn a) ≡ errorsOf (withDescriptors a fds)
+errors-read : (a : List Head.Record) (fds : List ℕ) → map eventOf (errorsIn a) ≡ errorsOf (withDescriptors a fds)
 unfolding errorsIn errorsOf withDescriptors choose
 errors-read [] fds = refl
 errors-read (h ∷ a) fds = go (eqb (getD (h .packet) 0 0) errorCode) (errors-read a (drop (h .fds) fds))
   where
     go : (t : Bool) → map eventOf (errorsIn a) ≡ errorsOf (withDescriptors a (drop (h .fds) fds))
-        → map eventOf (choose t (Record.asEvent h ∷ errorsIn a) (errorsIn a)) ≡ choose t (Model.asEvent (heldWith h (take (h .fds) fds)) ∷ errorsOf (withDescriptors a (drop (h .fds) fds))) (errorsOf (withDescriptors a (drop (h .fds) fds)))
+        → map eventOf (choose t (Head.asEvent h ∷ errorsIn a) (errorsIn a)) ≡ choose t (Model.asEvent (heldWith h (take (h .fds) fds)) ∷ errorsOf (withDescriptors a (drop (h .fds) fds))) (errorsOf (withDescriptors a (drop (h .fds) fds)))
     go true e = ap (λ (l : List Client.Held). Model.asEvent (heldWith h (take (h .fds) fds)) ∷ l) e
     go false e = e
 
 module _ (c : Connection) (r : Rooms) (S : Sound c r) (n : ℕ) (m : DiscardMode) where
-  abbrev rs : List Record.Held
+  abbrev rs : List Head.Record
   rs = repliesOf c r
 
   abbrev fds : List ℕ

@@ -6,7 +6,7 @@ use native.Mathlib.Omega.{arith}
 use lib.ListN.{length, take, drop, take-append-drop, length-drop}
 use lib.Seq.{take-all}
 use Rattle.octets.specs.Put.{put, cut, put-same, cut-none}
-use Rattle.held.specs.Head as Record
+use Rattle.held.specs.Head as Head
 use Rattle.held.specs.Reading as Store
 use Rattle.held.specs.Reading.{fdsIn, All, Rising}
 use Rattle.held.specs.Rows.{fdsIn-append}
@@ -15,7 +15,7 @@ use Rattle.held.specs.Moves.{Left, left}
 use Rattle.held.specs.Lies.{Other, FirstReply, FindsReply}
 use Rattle.held.specs.Theorems as Held
 use Rattle.held.specs.declared.Window.{Window}
-use Rattle.held.specs.declared.Place.{Place}
+use Rattle.held.specs.declared.Spot.{Spot}
 use Rattle.held.specs.declared.Found.the-variants as Found
 use Rattle.held.specs.Tally.{own, lower, higher}
 use Rattle.descriptors.specs.Room as Slots
@@ -32,18 +32,18 @@ use Rattle.discarding.specs.Rows.{own-none, own-found}
 use Rattle.discarding.specs.Steps.{Keeps, cleared-keeps, cleared-add}
 
 -- before the first of a number stand those of lower numbers
-rising-on : (from : ℕ) (a : List Record.Held) (it : Record.Held) (b : List Record.Held) → Rising from (a ++ (it ∷ b)) → (from ≤ it .number) × Rising (it .number) b
+rising-on : (from : ℕ) (a : List Head.Record) (it : Head.Record) (b : List Head.Record) → Rising from (a ++ (it ∷ b)) → (from ≤ it .number) × Rising (it .number) b
 unfolding Rising
 rising-on from [] it b R = (R .0, R .1)
 rising-on from (x ∷ a) it b R = let h = rising-on (x .number) a it b (R .1) in (omega (arith, R .0, h .0), h .1)
 
-lower-before : (n from : ℕ) (a : List Record.Held) (it : Record.Held) (b : List Record.Held) → it .number ≡ n → All (Other n) a → Rising from (a ++ (it ∷ b)) → lower n (a ++ (it ∷ b)) ≡ a
+lower-before : (n from : ℕ) (a : List Head.Record) (it : Head.Record) (b : List Head.Record) → it .number ≡ n → All (Other n) a → Rising from (a ++ (it ∷ b)) → lower n (a ++ (it ∷ b)) ≡ a
 unfolding Rising All
 lower-before n from [] it b e p R = lower-not n it b (omega arith) ∙ no-lower n (it .number) b (omega arith) (R .1)
 lower-before n from (x ∷ a) it b e p R =
     let h = rising-on (x .number) a it b (R .1) in
     let l : x .number < n = below (x .number) n (omega (arith, h .0)) (p .0) in
-    lower-is n x (a ++ (it ∷ b)) l ∙ ap (λ (k : List Record.Held). x ∷ k) (lower-before n (x .number) a it b e (p .1) (R .1))
+    lower-is n x (a ++ (it ∷ b)) l ∙ ap (λ (k : List Head.Record). x ∷ k) (lower-before n (x .number) a it b e (p .1) (R .1))
   where
     below : (i j : ℕ) → i ≤ j → (i ≡ j → ⊥) → i < j
     below i j h d = omega arith
@@ -74,7 +74,7 @@ pub record ModeSet : Type 0 where
 
 -- a reply of the number is found, and how many there are is known;
 pub record Met (x : ModeSet) : Type 0 where
-  pub p : Place
+  pub p : Spot
   pub found : Found.At p ≡ foundReply (x .n) (x .c .window) (x .s)
   pub r : ℕ
   pub k : ℕ
@@ -99,7 +99,7 @@ pub record Whole (x : ModeSet) (y : Met x) (z : Half x y) : Type 0 where
 module _ (x : ModeSet) where
   open ModeSet x using (c, n, m, q, s, f, ready as R, q', set as Q)
 
-  abbrev rs : List Record.Held
+  abbrev rs : List Head.Record
   rs = Store.replies (c .window) s
 
   abbrev d : Slots.Room
@@ -122,14 +122,14 @@ module _ (x : ModeSet) where
       let L : left (c .window) s ≡ discardLeft c (rooms q s f) n m = ap (λ a. cleared (length a) m n (left (c .window) s)) (sym z) in
       record { state = λ k. movedState c (L k .window) (D k .counts); leaves = λ k. rooms (Q k) (L k .store) (D k .slots) }
     where
-      part-none : (k : ℕ) (a : List Record.Held) → a ≡ [] → fdsIn (take k a) ≡ 0
+      part-none : (k : ℕ) (a : List Head.Record) → a ≡ [] → fdsIn (take k a) ≡ 0
       part-none k a z = ap (λ x. fdsIn (take k x)) z ∙ nil k
         where
           nil : (j : ℕ) → fdsIn (take j []) ≡ 0
           nil zero = refl
           nil (suc j) = refl
 
-      rest-none : (k : ℕ) (a : List Record.Held) → a ≡ [] → fdsIn (drop k a) ≡ 0
+      rest-none : (k : ℕ) (a : List Head.Record) → a ≡ [] → fdsIn (drop k a) ≡ 0
       rest-none k a z = ap (λ x. fdsIn (drop k x)) z ∙ nil k
         where
           nil : (j : ℕ) → fdsIn (drop j []) ≡ 0

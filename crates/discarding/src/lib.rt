@@ -6,7 +6,7 @@
 // what it was given. Laws say what it is in the model's terms, and that the state it leaves is
 // sound.
 use held::Found;
-use held::Place;
+use held::Spot;
 use held::Window;
 use model::Connection;
 use model::DiscardMode;
@@ -136,7 +136,7 @@ fn sweep_one(store: &mut [u8], window: Window, number: u64, mode: DiscardMode) -
 }
 
 // The packet at a place goes; under DiscardReply an error becomes an event.
-fn clear(store: &mut [u8], window: Window, place: Place, mode: DiscardMode) -> Window
+fn clear(store: &mut [u8], window: Window, place: Spot, mode: DiscardMode) -> Window
     requires { ⌜ Within window (now store) place × (place .at + headerSize < length (now store)) ⌝ }
     ensures { λ r. ⌜ Leaves (clearedAt mode (left window (now (store .entry))) place) r (now (store .exit)) ⌝ }
 {

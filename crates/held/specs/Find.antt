@@ -7,19 +7,19 @@ use lib.Dec.{eqb}
 use lib.ListN.{length}
 use borrow.Author.Tests.{eq-eqb, ne-eqb}
 use Rattle.octets.specs.Logic.{choose, both, either}
-use Rattle.held.specs.Head.{Held, cost, reply, event}
+use Rattle.held.specs.Head.{Record, cost, reply, event}
 use Rattle.held.specs.Reading.{records}
 use Rattle.held.specs.declared.Window.{Window}
-use Rattle.held.specs.declared.Place.{Place}
+use Rattle.held.specs.declared.Spot.{Spot}
 use Rattle.held.specs.declared.Found.{Found}
 use Rattle.held.specs.declared.Found.the-variants as Found
 
 -- the place of a record that starts at an index, with so many descriptors before it
-abbrev pub placeOf : ℕ → ℕ → Held → Place
+abbrev pub placeOf : ℕ → ℕ → Record → Spot
 placeOf at before h = record { at = at; len = length (h .packet); number = h .number; fds = h .fds; before = before }
 
 -- Of records side by side from an index on, with so many descriptors before them: the first that passes a test.
-unfoldable pub sought : (Held → Bool) → ℕ → ℕ → List Held → Found
+unfoldable pub sought : (Record → Bool) → ℕ → ℕ → List Record → Found
 sought p at before [] = Found.Nothing
 sought p at before (h ∷ hs) = choose (p h) (Found.At (placeOf at before h)) (sought p (at + cost h) (before + h .fds) hs)
 
@@ -27,7 +27,7 @@ sought p at before (h ∷ hs) = choose (p h) (Found.At (placeOf at before h)) (s
 unfoldable pub suits : ℕ → Bool → ℕ → ℕ → ℕ → Bool
 suits kind any number k n = both (eqb k kind) (either any (eqb n number))
 
-abbrev pub wanted : ℕ → Bool → ℕ → Held → Bool
+abbrev pub wanted : ℕ → Bool → ℕ → Record → Bool
 wanted kind any number h = suits kind any number (h .kind) (h .number)
 
 -- the first record of a window that is wanted

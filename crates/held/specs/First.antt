@@ -16,12 +16,12 @@ use Rattle.held.specs.Rest.{rest-all, turn, turn-room}
 use Rattle.held.specs.Find.{sought, suits-any, wanted, foundEvent}
 use Rattle.held.specs.Moves.{window, left, size, next, removed}
 use Rattle.held.specs.declared.Window.{Window}
-use Rattle.held.specs.declared.Place.{Place}
+use Rattle.held.specs.declared.Spot.{Spot}
 use Rattle.held.specs.declared.Found.{Found}
 use Rattle.held.specs.declared.Found.the-variants as Found
 
 -- the place of the record at the start of the window
-abbrev pub firstPlace : Window → List ℕ → Place
+abbrev pub firstPlace : Window → List ℕ → Spot
 firstPlace w s = record { at = w .start; len = lenOf (drop (w .start) s); number = numOf (drop (w .start) s); fds = fdsOf (drop (w .start) s); before = 0 }
 
 module _ (w : Window) (s : List ℕ) (R : Readable w s) (some : w .start < w .end) where
@@ -41,7 +41,7 @@ module _ (w : Window) (s : List ℕ) (R : Readable w s) (some : w .start < w .en
       ∙ ap (sought (wanted event true 0) (w .start) 0) (sym (F .is))
 
 -- Without it the window starts behind it, and the store is as it was.
-pub removed-first : (w : Window) (s : List ℕ) (p : Place) → p .at ≡ w .start → removed w s p ≡ left (window (w .start + size p) (w .end)) s
+pub removed-first : (w : Window) (s : List ℕ) (p : Spot) → p .at ≡ w .start → removed w s p ≡ left (window (w .start + size p) (w .end)) s
 unfolding removed cut
 removed-first w s p e =
     let z : p .at - w .start ≡ 0 = omega arith in

@@ -9,12 +9,12 @@ use Rattle.octets.specs.Put.{cut, length-cut, cut-cut}
 use Rattle.octets.specs.Field.{field, octets-cut}
 use Rattle.held.specs.General.{field-front, number-below, cut-left, cut-right}
 use Rattle.packet.specs.Packet.{leastPacket, mostPacket}
-use Rattle.held.specs.Head.{headerSize, numberAt, lengthAt, countAt, kindAt, zeroAt, event, Held, Fits, cost, encoded, decoded, mostFds, numOf, lenOf, fdsOf, kindOf, zeroOf, length-encoded, numOf-encoded, lenOf-encoded, fdsOf-encoded, kindOf-encoded, zeroOf-encoded, packet-encoded, encoded-decoded}
+use Rattle.held.specs.Head.{headerSize, numberAt, lengthAt, countAt, kindAt, zeroAt, event, Record, Fits, cost, encoded, decoded, mostFds, numOf, lenOf, fdsOf, kindOf, zeroOf, length-encoded, numOf-encoded, lenOf-encoded, fdsOf-encoded, kindOf-encoded, zeroOf-encoded, packet-encoded, encoded-decoded}
 
 -- ---- a record stands at an index
 
 -- the record h in the n bytes from an index on, with y behind it: its fields are read there, and its packet
-pub record Stands (s : List ℕ) (at n : ℕ) (h : Held) (y : List ℕ) : Type 0 where
+pub record Stands (s : List ℕ) (at n : ℕ) (h : Record) (y : List ℕ) : Type 0 where
   pub number : numOf (drop at s) ≡ h .number
   pub len : lenOf (drop at s) ≡ length (h .packet)
   pub fds : fdsOf (drop at s) ≡ h .fds
@@ -26,7 +26,7 @@ pub record Stands (s : List ℕ) (at n : ℕ) (h : Held) (y : List ℕ) : Type 0
   pub packet : cut (at + headerSize) (length (h .packet)) s ≡ h .packet
   pub next : cut (at + cost h) (n - cost h) s ≡ y
 
-pub stands : (s : List ℕ) (at n : ℕ) (h : Held) (y : List ℕ) → at + n ≤ length s → cut at n s ≡ encoded h ++ y → Fits h → Stands s at n h y
+pub stands : (s : List ℕ) (at n : ℕ) (h : Record) (y : List ℕ) → at + n ≤ length s → cut at n s ≡ encoded h ++ y → Fits h → Stands s at n h y
 unfolding cut
 stands s at n h y r e f =
     let l : length (encoded h) ≡ cost h = length-encoded h in
@@ -77,7 +77,7 @@ module _ (s : List ℕ) (at n : ℕ) (room : at + n ≤ length s) where
   pub begins-stands : Begins x → Stands s at n (decoded x) (drop (cost (decoded x)) x)
   unfolding cut
   begins-stands b =
-      let h : Held = decoded x in
+      let h : Record = decoded x in
       stands s at n h (drop (cost h) x) room (sym (take-append-drop (cost h) x) ∙ ap (λ (l : List ℕ). l ++ drop (cost h) x) (b .bytes)) (b .fit)
 
   begins-whole : Begins x → Whole s at n

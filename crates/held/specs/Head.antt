@@ -55,25 +55,25 @@ abbrev pub event : ℕ
 event = 1
 
 -- what a record holds
-pub record Held : Type 0 where
+pub record Record : Type 0 where
   pub number : ℕ
   pub fds : ℕ
   pub kind : ℕ
   pub packet : List ℕ
 
-abbrev pub held : ℕ → ℕ → ℕ → List ℕ → Held
+abbrev pub held : ℕ → ℕ → ℕ → List ℕ → Record
 held number fds kind packet = record { number = number; fds = fds; kind = kind; packet = packet }
 
 -- a packet under its label
-abbrev pub labelled : Label → List ℕ → Held
+abbrev pub labelled : Label → List ℕ → Record
 labelled l packet = held (l .number) (l .fds) (l .kind) packet
 
 -- the bytes that it takes
-abbrev pub cost : Held → ℕ
+abbrev pub cost : Record → ℕ
 cost h = headerSize + length (h .packet)
 
 -- a record as bytes
-unfoldable pub encoded : Held → List ℕ
+unfoldable pub encoded : Record → List ℕ
 encoded h = word 8 (h .number) ++ (word 4 (length (h .packet)) ++ (word 1 (h .fds) ++ (word 1 (h .kind) ++ (word 2 0 ++ h .packet))))
 
 -- the most descriptors of a record: its count is one byte, and an event has none
@@ -81,7 +81,7 @@ unfoldable pub mostFds : ℕ → ℕ
 mostFds kind = choose (eqb kind reply) 255 0
 
 -- The number fits its field, the packet is of a length that is allowed, the kind is known, and there are no more descriptors than it allows.
-pub record Fits (h : Held) : Type 0 where
+pub record Fits (h : Record) : Type 0 where
   pub number : h .number < 2 ^ 64
   pub least : leastPacket ≤ length (h .packet)
   pub most : length (h .packet) ≤ mostPacket
@@ -89,7 +89,7 @@ pub record Fits (h : Held) : Type 0 where
   pub count : h .fds ≤ mostFds (h .kind)
 
 -- the same, tested
-unfoldable pub fits : Held → Bool
+unfoldable pub fits : Record → Bool
 fits h =
     both (ltb (h .number) (2 ^ 64))
     (both (leb leastPacket (length (h .packet)))
@@ -113,21 +113,21 @@ unfoldable pub zeroOf : List ℕ → ℕ
 zeroOf x = field littleOrder zeroAt 2 x
 
 -- the record that bytes begin with
-unfoldable pub decoded : List ℕ → Held
+unfoldable pub decoded : List ℕ → Record
 decoded x = held (numOf x) (fdsOf x) (kindOf x) (cut headerSize (lenOf x) x)
 
 -- A reply made an event: it has no descriptors any more.
-abbrev pub asEvent : Held → Held
+abbrev pub asEvent : Record → Record
 asEvent h = held (h .number) 0 event (h .packet)
 
 -- ---- laws
 
-pub length-encoded : (h : Held) → length (encoded h) ≡ cost h
+pub length-encoded : (h : Record) → length (encoded h) ≡ cost h
 unfolding encoded
 length-encoded h = simp (length-append, length-bytesOf) (omega arith)
 
 -- the test is the sentence
-pub fits-is : (h : Held) → fits h ≡ true → Fits h
+pub fits-is : (h : Record) → fits h ≡ true → Fits h
 unfolding fits
 fits-is h t =
     let t₁ = both-right _ _ t in
@@ -141,7 +141,7 @@ fits-is h t =
       count = leb-true (h .fds) (mostFds (h .kind)) (both-right _ _ t₃);
     }
 
-pub fits-so : (h : Held) → Fits h → fits h ≡ true
+pub fits-so : (h : Record) → Fits h → fits h ≡ true
 unfolding fits
 fits-so h f =
     both-yes _ _ (lt-ltb (h .number) (2 ^ 64) (f .number))
@@ -167,7 +167,7 @@ mostFds-byte kind = go (eqb kind reply)
     go false = omega arith
 
 -- Read after write: a record that fits is read back from its bytes, whatever stands behind them.
-module _ (h : Held) (f : Fits h) (x : List ℕ) where
+module _ (h : Record) (f : Fits h) (x : List ℕ) where
   row : encoded h ++ x ≡ word 8 (h .number) ++ (word 4 (length (h .packet)) ++ (word 1 (h .fds) ++ (word 1 (h .kind) ++ (word 2 0 ++ (h .packet ++ x)))))
   unfolding encoded
   row = simp append-assoc
@@ -239,7 +239,7 @@ module _ (x : List ℕ) (o : Octets x) where
       ∙ sym whole
 
 -- A record is made an event by two bytes.
-pub encoded-event : (h : Held) → put (encoded h) countAt (0 ∷ event ∷ []) ≡ encoded (asEvent h)
+pub encoded-event : (h : Record) → put (encoded h) countAt (0 ∷ event ∷ []) ≡ encoded (asEvent h)
 unfolding encoded
 encoded-event h =
     let a : List ℕ = word 8 (h .number) ++ word 4 (length (h .packet)) in

@@ -11,10 +11,10 @@ use Rattle.octets.specs.Logic.{choose, both, both-right}
 use Rattle.octets.specs.Put.{put, cut, put-cover, length-cut, length-put, cut-put-after, cut-put-inside}
 use Rattle.held.specs.General.{choose-yes, choose-no}
 use Rattle.packet.specs.Packet.{mostPacket}
-use Rattle.held.specs.Head.{Held, cost, encoded, headerSize, countAt, event}
+use Rattle.held.specs.Head.{Record, cost, encoded, headerSize, countAt, event}
 use Rattle.held.specs.Reading.{inside, used}
 use Rattle.held.specs.declared.Window.{Window}
-use Rattle.held.specs.declared.Place.{Place}
+use Rattle.held.specs.declared.Spot.{Spot}
 
 abbrev pub window : ℕ → ℕ → Window
 window start end = record { start = start; end = end }
@@ -35,7 +35,7 @@ pub record Leaves (l : Left) (w : Window) (s : List ℕ) : Type 0 where
 -- ---- append
 
 -- a record written behind the window
-unfoldable pub behind : Left → Held → Left
+unfoldable pub behind : Left → Record → Left
 behind l h = left (window (l .window .start) (l .window .end + cost h)) (put (l .store) (l .window .end) (encoded h))
 
 -- the window slid to the start of the store
@@ -47,7 +47,7 @@ unfoldable pub stays : Window → List ℕ → ℕ → Bool
 stays w s n = both (ltb (w .start) (w .end)) (leb (w .end + n) (length s))
 
 -- A record is written at the end; a window that is empty or has no room behind it first slides to 0.
-unfoldable pub appended : Window → List ℕ → Held → Left
+unfoldable pub appended : Window → List ℕ → Record → Left
 appended w s h = choose (stays w s (cost h)) (behind (left w s) h) (behind (slid (left w s)) h)
 
 -- there is room for a packet of n bytes
@@ -60,37 +60,37 @@ pub record Room (w : Window) (s : List ℕ) (n : ℕ) : Type 0 where
 -- ---- remove
 
 -- the bytes of the record at a place, and where the next one starts
-abbrev pub size : Place → ℕ
+abbrev pub size : Spot → ℕ
 size p = headerSize + p .len
 
-abbrev pub next : Place → ℕ
+abbrev pub next : Spot → ℕ
 next p = p .at + size p
 
 -- a place lies in the window
-pub record Within (w : Window) (s : List ℕ) (p : Place) : Type 0 where
+pub record Within (w : Window) (s : List ℕ) (p : Spot) : Type 0 where
   pub from : w .start ≤ p .at
   pub fits : next p ≤ w .end
   pub within : w .end ≤ length s
 
 -- The shorter side slides over the record: what stands behind it to the left, or what stands before it to the right.
-unfoldable pub removed : Window → List ℕ → Place → Left
+unfoldable pub removed : Window → List ℕ → Spot → Left
 removed w s p =
     choose (ltb (w .end - next p) (p .at - w .start)) (left (window (w .start) (w .end - size p)) (put s (p .at) (cut (next p) (w .end - next p) s)))
     (left (window (w .start + size p) (w .end)) (put s (w .start + size p) (cut (w .start) (p .at - w .start) s)))
 
 -- The packet at a place goes to the start of the output, and the rest of that stays.
-unfoldable pub handed : List ℕ → Place → List ℕ → List ℕ
+unfoldable pub handed : List ℕ → Spot → List ℕ → List ℕ
 handed s p out = put out 0 (cut (p .at + headerSize) (p .len) s)
 
 -- what taking leaves: as removing, and the output
-pub record Takes (w : Window) (s : List ℕ) (p : Place) (out : List ℕ) (w' : Window) (s' out' : List ℕ) : Type 0 where
+pub record Takes (w : Window) (s : List ℕ) (p : Spot) (out : List ℕ) (w' : Window) (s' out' : List ℕ) : Type 0 where
   pub left : Leaves (removed w s p) w' s'
   pub output : out' ≡ handed s p out
 
 -- ---- demote
 
 -- What stands behind the record moves up, and the record stands at the end as an event without descriptors; the window stays.
-unfoldable pub demoted : Window → List ℕ → Place → List ℕ
+unfoldable pub demoted : Window → List ℕ → Spot → List ℕ
 demoted w s p = put s (p .at) (cut (next p) (w .end - next p) s ++ put (cut (p .at) (size p) s) countAt (0 ∷ event ∷ []))
 
 -- ---- laws
@@ -112,7 +112,7 @@ pub stays-behind : (w : Window) (s : List ℕ) (n : ℕ) → w .start < w .end �
 unfolding stays both choose
 stays-behind w s n h k = simp (lt-ltb (w .start) (w .end) h, le-leb (w .end + n) (length s) k)
 
-module _ (w : Window) (s : List ℕ) (h : Held) where
+module _ (w : Window) (s : List ℕ) (h : Record) where
   -- a record behind the window,
   pub behind-is : (s₁ : List ℕ) → s₁ ≡ put s (w .end) (encoded h) → Leaves (behind (left w s) h) (window (w .start) (w .end + cost h)) s₁
   unfolding behind
@@ -131,7 +131,7 @@ module _ (w : Window) (s : List ℕ) (h : Held) where
       let t = ap (λ (x : List ℕ). behind (left (window 0 (used w)) x) h) e ∙ sym (choose-no (stays w s (cost h)) (behind (left w s) h) (behind (slid (left w s)) h) r) in
       record { window = l .window ∙ ap (λ (x : Left). x .window) t; store = l .store ∙ ap (λ (x : Left). x .store) t }
 
-module _ (w : Window) (s : List ℕ) (p : Place) where
+module _ (w : Window) (s : List ℕ) (p : Spot) where
   abbrev one : Left
   one = left (window (w .start) (w .end - size p)) (put s (p .at) (cut (next p) (w .end - next p) s))
 

@@ -6,22 +6,22 @@ use native.Mathlib.Omega.{arith}
 use lib.ListN.{length, drop, length-append}
 use Rattle.octets.specs.Put.{cut, length-cut}
 use Rattle.packet.specs.Packet.{leastPacket}
-use Rattle.held.specs.Head.{Held, Fits, headerSize, cost, encoded, lenOf, length-encoded}
+use Rattle.held.specs.Head.{Record, Fits, headerSize, cost, encoded, lenOf, length-encoded}
 use Rattle.held.specs.Front.{Stands, stands}
 use Rattle.held.specs.Reading.{flat, records, All, Readable}
 use Rattle.held.specs.declared.Window.{Window}
 
 -- the bytes from an index to an end are those of the records hs, which fit
-pub record Rest (s : List ℕ) (at end : ℕ) (hs : List Held) : Type 0 where
+pub record Rest (s : List ℕ) (at end : ℕ) (hs : List Record) : Type 0 where
   pub order : at ≤ end
   pub within : end ≤ length s
   pub bytes : cut at (end - at) s ≡ flat hs
   pub fit : All Fits hs
 
 -- the record that a turn finds, and those behind it
-pub record Turn (s : List ℕ) (at end : ℕ) (hs : List Held) : Type 0 where
-  pub it : Held
-  pub others : List Held
+pub record Turn (s : List ℕ) (at end : ℕ) (hs : List Record) : Type 0 where
+  pub it : Record
+  pub others : List Record
   pub is : hs ≡ it ∷ others
   pub here : Stands s at (end - at) it (flat others)
   pub behind : Rest s (at + cost it) end others
@@ -33,7 +33,7 @@ pub rest-all : (w : Window) (s : List ℕ) → Readable w s → Rest s (w .start
 rest-all w s R = record { order = R .order; within = R .within; bytes = R .bytes; fit = R .fit }
 
 -- before the end a turn finds one,
-pub turn : (s : List ℕ) (at end : ℕ) (hs : List Held) → Rest s at end hs → at < end → Turn s at end hs
+pub turn : (s : List ℕ) (at end : ℕ) (hs : List Record) → Rest s at end hs → at < end → Turn s at end hs
 unfolding flat All
 turn s at end [] R b = absurd (omega (arith, ap length (R .bytes), length-cut at (end - at) s (omega (arith, R .within))))
 turn s at end (h ∷ t) R b =
@@ -48,13 +48,13 @@ turn s at end (h ∷ t) R b =
     }
 
 -- and at the end none is left.
-pub rest-none : (s : List ℕ) (at end : ℕ) (hs : List Held) → Rest s at end hs → end ≤ at → hs ≡ []
+pub rest-none : (s : List ℕ) (at end : ℕ) (hs : List Record) → Rest s at end hs → end ≤ at → hs ≡ []
 unfolding flat
 rest-none s at end [] R b = refl
 rest-none s at end (h ∷ t) R b =
     absurd (omega (arith, ap length (R .bytes), length-cut at (end - at) s (omega (arith, R .order, R .within)), length-append (encoded h) (flat t), length-encoded h))
 
-module _ (s : List ℕ) (at end : ℕ) (hs : List Held) (R : Rest s at end hs) (b : at < end) where
+module _ (s : List ℕ) (at end : ℕ) (hs : List Record) (R : Rest s at end hs) (b : at < end) where
   -- The length that is read there is the record's: it lies before the end,
   pub turn-room : (leastPacket ≤ lenOf (drop at s)) × (headerSize + lenOf (drop at s) ≤ end - at)
   turn-room = let H = turn s at end hs R b .here in (omega (arith, H .len, H .least), omega (arith, H .len, H .most))

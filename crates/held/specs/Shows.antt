@@ -7,11 +7,11 @@ use lib.Dec.{ltb}
 use lib.ListN.{length, length-append}
 use Rattle.octets.specs.Put.{put, cut, cut-add, length-cut, length-put, cut-put, cut-put-after}
 use Rattle.held.specs.General.{choose-either, cut-left, cut-right, cut-put-last}
-use Rattle.held.specs.Head.{Held, cost, encoded, asEvent, length-encoded, encoded-event, headerSize, countAt, event}
+use Rattle.held.specs.Head.{Record, cost, encoded, asEvent, length-encoded, encoded-event, headerSize, countAt, event}
 use Rattle.held.specs.Reading.{inside, used}
 use Rattle.held.specs.Moves.{window, Left, left, behind, slid, stays, stays-room, appended, size, next, Within, removed, demoted}
 use Rattle.held.specs.declared.Window.{Window}
-use Rattle.held.specs.declared.Place.{Place}
+use Rattle.held.specs.declared.Spot.{Spot}
 
 -- the window lies in a store of n bytes, and its bytes are x
 pub record Shows (n : ℕ) (l : Left) (x : List ℕ) : Type 0 where
@@ -25,7 +25,7 @@ shows-used n l x S = sym (length-cut (l .window .start) (used (l .window)) (l .s
 
 -- ---- append
 
-shows-behind : (n : ℕ) (l : Left) (x : List ℕ) (h : Held) → Shows n l x → l .window .end + cost h ≤ n → Shows n (behind l h) (x ++ encoded h)
+shows-behind : (n : ℕ) (l : Left) (x : List ℕ) (h : Record) → Shows n l x → l .window .end + cost h ≤ n → Shows n (behind l h) (x ++ encoded h)
 unfolding behind
 shows-behind n l x h S r =
     let s : List ℕ = l .store in
@@ -55,7 +55,7 @@ shows-slid n l x S =
     }
 
 -- A record that is appended stands behind what was there.
-pub shows-appended : (n : ℕ) (w : Window) (s x : List ℕ) (h : Held) → Shows n (left w s) x → used w + cost h ≤ n → Shows n (appended w s h) (x ++ encoded h)
+pub shows-appended : (n : ℕ) (w : Window) (s x : List ℕ) (h : Record) → Shows n (left w s) x → used w + cost h ≤ n → Shows n (appended w s h) (x ++ encoded h)
 unfolding appended slid
 shows-appended n w s x h S r =
     choose-either (λ (l : Left). Shows n l (x ++ encoded h)) (stays w s (cost h)) (behind (left w s) h) (behind (slid (left w s)) h)
@@ -65,12 +65,12 @@ shows-appended n w s x h S r =
 -- ---- the record at a place
 
 -- between f and b a record h stands at the place p
-pub record Between (n : ℕ) (w : Window) (s : List ℕ) (p : Place) (f : List ℕ) (h : Held) (b : List ℕ) : Type 0 where
+pub record Between (n : ℕ) (w : Window) (s : List ℕ) (p : Spot) (f : List ℕ) (h : Record) (b : List ℕ) : Type 0 where
   pub shows : Shows n (left w s) (f ++ (encoded h ++ b))
   pub at : p .at ≡ w .start + length f
   pub len : p .len ≡ length (h .packet)
 
-module _ (n : ℕ) (w : Window) (s : List ℕ) (p : Place) (f : List ℕ) (h : Held) (b : List ℕ) (B : Between n w s p f h b) where
+module _ (n : ℕ) (w : Window) (s : List ℕ) (p : Spot) (f : List ℕ) (h : Record) (b : List ℕ) (B : Between n w s p f h b) where
   S : Shows n (left w s) (f ++ (encoded h ++ b))
   S = B .shows
 

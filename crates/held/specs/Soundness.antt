@@ -10,17 +10,17 @@ use borrow.Author.Tests.{leb-true, le-leb}
 use Rattle.octets.specs.Logic.{both-left, both-right, both-yes}
 use Rattle.octets.specs.Put.{length-cut}
 use Rattle.held.specs.General.{same-is, same-yes}
-use Rattle.held.specs.Head.{Held, Fits, fits-is, fits-so, reply, mostStore}
+use Rattle.held.specs.Head.{Record, Fits, fits-is, fits-so, reply, mostStore}
 use Rattle.held.specs.Reading.{inside, used, flat, readAll, records, replies, only, costs, All, Rising, Known, Readable, Sound, rising, known, fine, soundb}
 use Rattle.held.specs.Rows.{length-flat, read-flat, only-append, only-is, only-other, all-is, all-so, all-map, all-append, all-without, rising-is, rising-so, rising-without, rising-last}
 use Rattle.held.specs.declared.Window.{Window}
 
 -- ---- the test
 
-known-is : (last : ℕ) (h : Held) → known last h ≡ true → Known last h
+known-is : (last : ℕ) (h : Record) → known last h ≡ true → Known last h
 known-is last h t = leb-true (h .number) last t
 
-known-so : (last : ℕ) (h : Held) → Known last h → known last h ≡ true
+known-so : (last : ℕ) (h : Record) → Known last h → known last h ≡ true
 known-so last h k = le-leb (h .number) last k
 
 -- The test holds exactly for a sound state.
@@ -57,7 +57,7 @@ sound-so last w s S =
 
 -- ---- what a sound state's records are, whatever their bytes
 
-pub record Fine (last : ℕ) (hs : List Held) : Type 0 where
+pub record Fine (last : ℕ) (hs : List Record) : Type 0 where
   pub fit : All Fits hs
   pub rising : Rising 0 (only reply hs)
   pub known : All (Known last) hs
@@ -66,11 +66,11 @@ pub sound-fine : (last : ℕ) (w : Window) (s : List ℕ) → Sound last w s →
 sound-fine last w s S = record { fit = S .readable .fit; rising = S .rising; known = S .known }
 
 -- The last read may rise.
-pub fine-later : (last n : ℕ) (hs : List Held) → last ≤ n → Fine last hs → Fine n hs
+pub fine-later : (last n : ℕ) (hs : List Record) → last ≤ n → Fine last hs → Fine n hs
 fine-later last n hs h F = record { fit = F .fit; rising = F .rising; known = all-map (λ x k. omega arith) hs (F .known) }
 
 -- A record may go.
-pub fine-without : (last : ℕ) (a : List Held) (h : Held) (b : List Held) → Fine last (a ++ (h ∷ b)) → Fine last (a ++ b)
+pub fine-without : (last : ℕ) (a : List Record) (h : Record) (b : List Record) → Fine last (a ++ (h ∷ b)) → Fine last (a ++ b)
 fine-without last a h b F =
     record {
       fit = all-without Fits a h b (F .fit);
@@ -81,13 +81,13 @@ fine-without last a h b F =
     one : h .kind ≡ reply → Rising 0 (only reply a ++ only reply b)
     one e =
         rising-without 0 (only reply a) h (only reply b)
-        (subst (Rising 0) (only-append reply a (h ∷ b) ∙ ap (λ (l : List Held). only reply a ++ l) (only-is reply h b e)) (F .rising))
+        (subst (Rising 0) (only-append reply a (h ∷ b) ∙ ap (λ (l : List Record). only reply a ++ l) (only-is reply h b e)) (F .rising))
 
     other : (h .kind ≡ reply → ⊥) → Rising 0 (only reply a ++ only reply b)
-    other n = subst (Rising 0) (only-append reply a (h ∷ b) ∙ ap (λ (l : List Held). only reply a ++ l) (only-other reply h b n)) (F .rising)
+    other n = subst (Rising 0) (only-append reply a (h ∷ b) ∙ ap (λ (l : List Record). only reply a ++ l) (only-other reply h b n)) (F .rising)
 
 -- A record of a known number may come last: an event, or a reply whose number no other reply's is above.
-pub fine-last : (last : ℕ) (hs : List Held) (h : Held) → Fine last hs → Fits h → Known last h → (h .kind ≡ reply → All (Known (h .number)) (only reply hs)) → Fine last (hs ++ (h ∷ []))
+pub fine-last : (last : ℕ) (hs : List Record) (h : Record) → Fine last hs → Fits h → Known last h → (h .kind ≡ reply → All (Known (h .number)) (only reply hs)) → Fine last (hs ++ (h ∷ []))
 unfolding All only
 fine-last last hs h F f k r =
     record {
@@ -98,27 +98,27 @@ fine-last last hs h F f k r =
   where
     one : h .kind ≡ reply → Rising 0 (only reply hs ++ only reply (h ∷ []))
     one e =
-        subst (λ (l : List Held). Rising 0 (only reply hs ++ l)) (sym (only-is reply h [] e))
+        subst (λ (l : List Record). Rising 0 (only reply hs ++ l)) (sym (only-is reply h [] e))
         (rising-last 0 (only reply hs) h (omega arith) (F .rising) (r e))
 
     other : (h .kind ≡ reply → ⊥) → Rising 0 (only reply hs ++ only reply (h ∷ []))
-    other n = subst (λ (l : List Held). Rising 0 (only reply hs ++ l)) (sym (only-other reply h [] n)) (subst (Rising 0) (sym (append-nil (only reply hs))) (F .rising))
+    other n = subst (λ (l : List Record). Rising 0 (only reply hs ++ l)) (sym (only-other reply h [] n)) (subst (Rising 0) (sym (append-nil (only reply hs))) (F .rising))
 
 -- ---- a state whose bytes are those of fine records
 
-pub record Holds (last : ℕ) (w : Window) (s : List ℕ) (hs : List Held) : Type 0 where
+pub record Holds (last : ℕ) (w : Window) (s : List ℕ) (hs : List Record) : Type 0 where
   pub sound : Sound last w s
   pub reads : records w s ≡ hs
 
 -- A window whose bytes are fine records is sound and reads as them.
-pub holds : (last : ℕ) (w : Window) (s : List ℕ) (hs : List Held) → length s ≤ mostStore → w .start ≤ w .end → w .end ≤ length s → inside w s ≡ flat hs → Fine last hs → Holds last w s hs
+pub holds : (last : ℕ) (w : Window) (s : List ℕ) (hs : List Record) → length s ≤ mostStore → w .start ≤ w .end → w .end ≤ length s → inside w s ≡ flat hs → Fine last hs → Holds last w s hs
 unfolding records
 holds last w s hs m o i e F =
     let r : records w s ≡ hs = ap readAll e ∙ read-flat hs (F .fit) in
     record {
       sound = record {
         readable = record { room = m; order = o; within = i; bytes = e ∙ ap flat (sym r); fit = subst (All Fits) (sym r) (F .fit) };
-        rising = subst (λ (l : List Held). Rising 0 (only reply l)) (sym r) (F .rising);
+        rising = subst (λ (l : List Record). Rising 0 (only reply l)) (sym r) (F .rising);
         known = subst (All (Known last)) (sym r) (F .known);
       };
       reads = r;

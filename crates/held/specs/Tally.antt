@@ -8,26 +8,26 @@ use lib.Dec.{eqb, ltb}
 use lib.ListN.{length}
 use borrow.Author.Tests.{eq-eqb, ne-eqb, lt-ltb, le-ltb}
 use Rattle.octets.specs.Logic.{choose, both}
-use Rattle.held.specs.Head.{Held, reply}
+use Rattle.held.specs.Head.{Record, reply}
 use Rattle.held.specs.Reading.{only, replies}
 use Rattle.held.specs.declared.Window.{Window}
 use Rattle.held.specs.declared.Tally.{Tally}
 
 -- the replies of a number, those of lower numbers and those of higher ones
-unfoldable pub own : ℕ → List Held → List Held
+unfoldable pub own : ℕ → List Record → List Record
 own n [] = []
 own n (h ∷ l) = choose (eqb (h .number) n) (h ∷ own n l) (own n l)
 
-unfoldable pub lower : ℕ → List Held → List Held
+unfoldable pub lower : ℕ → List Record → List Record
 lower n [] = []
 lower n (h ∷ l) = choose (ltb (h .number) n) (h ∷ lower n l) (lower n l)
 
-unfoldable pub higher : ℕ → List Held → List Held
+unfoldable pub higher : ℕ → List Record → List Record
 higher n [] = []
 higher n (h ∷ l) = choose (ltb n (h .number)) (h ∷ higher n l) (higher n l)
 
 -- how many of a row are of the number, and above it
-abbrev pub tallyOf : ℕ → List Held → Tally
+abbrev pub tallyOf : ℕ → List Record → Tally
 tallyOf n l = record { own = length (own n l); above = length (higher n l) }
 
 -- The replies of a window.
@@ -41,18 +41,18 @@ tallyOne n k m = record { own = choose (both (eqb k reply) (eqb m n)) 1 0; above
 -- ---- laws
 
 -- where f picks records by a test t, one in front of a row is one more if it is of the kind and passes
-front-one : (b : Bool) (h : Held) (l : List Held) → length (choose b (h ∷ l) l) ≡ choose b 1 0 + length l
+front-one : (b : Bool) (h : Record) (l : List Record) → length (choose b (h ∷ l) l) ≡ choose b 1 0 + length l
 unfolding choose
 front-one true h l = omega arith
 front-one false h l = omega arith
 
-front-kind : (f : List Held → List Held) (t : Bool) (h : Held) (l : List Held) → f (h ∷ l) ≡ choose t (h ∷ f l) (f l) → (a : Bool) → length (f (choose a (h ∷ l) l)) ≡ choose (both a t) 1 0 + length (f l)
+front-kind : (f : List Record → List Record) (t : Bool) (h : Record) (l : List Record) → f (h ∷ l) ≡ choose t (h ∷ f l) (f l) → (a : Bool) → length (f (choose a (h ∷ l) l)) ≡ choose (both a t) 1 0 + length (f l)
 unfolding choose both
 front-kind f t h l e true = ap length e ∙ front-one t h (f l)
 front-kind f t h l e false = omega arith
 
 -- so it counts for itself, among those of the number and among those above it
-module _ (n : ℕ) (h : Held) (l : List Held) where
+module _ (n : ℕ) (h : Record) (l : List Record) where
   pub own-front : length (own n (only reply (h ∷ l))) ≡ tallyOne n (h .kind) (h .number) .own + length (own n (only reply l))
   unfolding own only tallyOne
   own-front = front-kind (own n) (eqb (h .number) n) h (only reply l) refl (eqb (h .kind) reply)

@@ -9,7 +9,7 @@ use lib.ListN.{length, getD}
 use Rattle.octets.specs.Logic.{choose, apart}
 use Rattle.octets.specs.Put.{put, cut, cut-none, getD-cut}
 use Rattle.held.specs.General.{choose-either}
-use Rattle.held.specs.Head.{Held, Fits, cost, asEvent, reply, event, headerSize, mostStore}
+use Rattle.held.specs.Head.{Record, Fits, cost, asEvent, reply, event, headerSize, mostStore}
 use Rattle.held.specs.Front.{Stands}
 use Rattle.held.specs.Reading.{used, flat, records, replies, events, only, fdsIn, costs, All, Known, Rising, Sound, soundb}
 use Rattle.held.specs.Rows.{only-append, only-is, only-other, costs-append, costs-kinds, all-only}
@@ -21,7 +21,7 @@ use Rattle.held.specs.Shows.{place-within}
 use Rattle.held.specs.Lies.{Lies, lies-others, FindsReply, FindsEvent, finds-reply, finds-event}
 use Rattle.held.specs.Keeps.{Kept, kept-appended, between, fits-it, stands-it, kept-removed, kept-demoted}
 use Rattle.held.specs.declared.Window.{Window}
-use Rattle.held.specs.declared.Place.{Place}
+use Rattle.held.specs.declared.Spot.{Spot}
 use Rattle.held.specs.declared.Walked.{Walked}
 use Rattle.held.specs.declared.Walked.the-variants as Walked
 
@@ -62,7 +62,7 @@ sound-empty last w s m e i =
 -- ---- append
 
 -- The new record is the last of its list, the other list is as it was, its cost is used, and the state is sound with the last read given.
-pub record AppendedUnder (last : ℕ) (w : Window) (s : List ℕ) (h : Held) (l : Left) : Type 0 where
+pub record AppendedUnder (last : ℕ) (w : Window) (s : List ℕ) (h : Record) (l : Left) : Type 0 where
   pub sound : Sound last (l .window) (l .store)
   pub all : records (l .window) (l .store) ≡ records w s ++ (h ∷ [])
   pub own : only (h .kind) (records (l .window) (l .store)) ≡ only (h .kind) (records w s) ++ (h ∷ [])
@@ -71,10 +71,10 @@ pub record AppendedUnder (last : ℕ) (w : Window) (s : List ℕ) (h : Held) (l 
   pub long : length (l .store) ≡ length s
 
 -- so with the new record's number as the last read
-abbrev pub Appended : Window → List ℕ → Held → Left → Type 0
+abbrev pub Appended : Window → List ℕ → Record → Left → Type 0
 Appended w s h = AppendedUnder (h .number) w s h
 
-module _ (last : ℕ) (w : Window) (s : List ℕ) (S : Sound last w s) (h : Held) (f : Fits h) (r : used w + cost h ≤ length s) where
+module _ (last : ℕ) (w : Window) (s : List ℕ) (S : Sound last w s) (h : Record) (f : Fits h) (r : used w + cost h ≤ length s) where
   -- A record that fits is appended if its number is not above the last read, and for a reply not below another reply's; an event's may be lower than those of the records before it. The last read stays.
   pub append-known-law : Known last h → (h .kind ≡ reply → All (Known (h .number)) (replies w s)) → AppendedUnder last w s h (appended w s h)
   unfolding only costs
@@ -84,16 +84,16 @@ module _ (last : ℕ) (w : Window) (s : List ℕ) (S : Sound last w s) (h : Held
         sound = K .holds .sound;
         all = K .holds .reads;
         own = ap (only (h .kind)) (K .holds .reads) ∙ only-append (h .kind) (records w s) (h ∷ [])
-            ∙ ap (λ (l : List Held). only (h .kind) (records w s) ++ l) (only-is (h .kind) h [] refl);
+            ∙ ap (λ (l : List Record). only (h .kind) (records w s) ++ l) (only-is (h .kind) h [] refl);
         other = λ kind d.
-            ap (only kind) (K .holds .reads) ∙ only-append kind (records w s) (h ∷ []) ∙ ap (λ (l : List Held). only kind (records w s) ++ l) (only-other kind h [] d)
+            ap (only kind) (K .holds .reads) ∙ only-append kind (records w s) (h ∷ []) ∙ ap (λ (l : List Record). only kind (records w s) ++ l) (only-other kind h [] d)
             ∙ append-nil (only kind (records w s));
         used = K .used ∙ costs-append (records w s) (h ∷ []) ∙ omega (arith, used-costs w s (S .readable));
         long = K .long;
       }
 
 -- A record that fits, of a number at or above the last read, is appended; its number is then the last read.
-pub append-law : (last : ℕ) (w : Window) (s : List ℕ) → Sound last w s → (h : Held) → Fits h → used w + cost h ≤ length s → last ≤ h .number → Appended w s h (appended w s h)
+pub append-law : (last : ℕ) (w : Window) (s : List ℕ) → Sound last w s → (h : Record) → Fits h → used w + cost h ≤ length s → last ≤ h .number → Appended w s h (appended w s h)
 append-law last w s S h f r n =
     let T : Sound (h .number) w s = sound-later last (h .number) w s n S in
     append-known-law (h .number) w s T h f r (omega arith) (λ e. all-only (Known (h .number)) reply (records w s) (T .known))
@@ -111,7 +111,7 @@ find-event-law w s = finds-event w s
 -- ---- at a place that was found
 
 -- The record leaves its list, the others stay in order, the other list is as it was, and its cost is given back.
-pub record Removed (last kind : ℕ) (w : Window) (s : List ℕ) (before : List Held) (it : Held) (after : List Held) (l : Left) : Type 0 where
+pub record Removed (last kind : ℕ) (w : Window) (s : List ℕ) (before : List Record) (it : Record) (after : List Record) (l : Left) : Type 0 where
   pub sound : Sound last (l .window) (l .store)
   pub own : only kind (records (l .window) (l .store)) ≡ before ++ after
   pub other : (k : ℕ) → (kind ≡ k → ⊥) → only k (records (l .window) (l .store)) ≡ only k (records w s)
@@ -119,13 +119,13 @@ pub record Removed (last kind : ℕ) (w : Window) (s : List ℕ) (before : List 
   pub long : length (l .store) ≡ length s
 
 -- The reply leaves the replies and is the last of the events, without descriptors; what is used stays.
-pub record Demoted (last : ℕ) (w : Window) (s : List ℕ) (before : List Held) (it : Held) (after : List Held) (s' : List ℕ) : Type 0 where
+pub record Demoted (last : ℕ) (w : Window) (s : List ℕ) (before : List Record) (it : Record) (after : List Record) (s' : List ℕ) : Type 0 where
   pub sound : Sound last w s'
   pub replies : replies w s' ≡ before ++ after
   pub events : events w s' ≡ events w s ++ (asEvent it ∷ [])
   pub long : length s' ≡ length s
 
-module _ (last : ℕ) (w : Window) (s : List ℕ) (S : Sound last w s) (kind : ℕ) (p : Place) (before : List Held) (it : Held) (after : List Held) (L : Lies kind w s p before it after) where
+module _ (last : ℕ) (w : Window) (s : List ℕ) (S : Sound last w s) (kind : ℕ) (p : Spot) (before : List Record) (it : Record) (after : List Record) (L : Lies kind w s p before it after) where
   -- A place that was found lies in the window.
   pub place-law : Within w s p
   place-law = place-within (length s) w s p (flat (L .front)) it (flat (L .back)) (between last w s S kind p before it after L)
@@ -167,16 +167,16 @@ module _ (last : ℕ) (w : Window) (s : List ℕ) (S : Sound last w s) (kind : �
       }
 
 -- Moving a reply to the end of the events.
-pub demote-law : (last : ℕ) (w : Window) (s : List ℕ) → Sound last w s → (p : Place) (before : List Held) (it : Held) (after : List Held) → Lies reply w s p before it after → Demoted last w s before it after (demoted w s p)
+pub demote-law : (last : ℕ) (w : Window) (s : List ℕ) → Sound last w s → (p : Spot) (before : List Record) (it : Record) (after : List Record) → Lies reply w s p before it after → Demoted last w s before it after (demoted w s p)
 unfolding only choose
 demote-law last w s S p before it after L =
     let K : Kept last (length s) (left w (demoted w s p)) (L .front ++ L .back ++ (asEvent it ∷ [])) = kept-demoted last w s S reply p before it after L in
-    let a : List Held = L .front ++ L .back in
+    let a : List Record = L .front ++ L .back in
     record {
       sound = K .holds .sound;
       replies = ap (only reply) (K .holds .reads) ∙ only-append reply a (asEvent it ∷ []) ∙ append-nil (only reply a) ∙ only-append reply (L .front) (L .back)
           ∙ (λ k. L .before-is k ++ L .after-is k);
       events = ap (only event) (K .holds .reads) ∙ only-append event a (asEvent it ∷ [])
-          ∙ ap (λ (l : List Held). l ++ (asEvent it ∷ [])) (sym (lies-others reply w s p before it after L event (λ q. omega arith)));
+          ∙ ap (λ (l : List Record). l ++ (asEvent it ∷ [])) (sym (lies-others reply w s p before it after L event (λ q. omega arith)));
       long = K .long;
     }

@@ -12,7 +12,7 @@ use borrow.Author.Tests.{leb-true, le-leb}
 use Rattle.octets.specs.Logic.{choose, both, both-left, both-right}
 use Rattle.octets.specs.Put.{cut}
 use Rattle.held.specs.General.{choose-no, not-so, same, same-is, same-append}
-use Rattle.held.specs.Head.{Held, fits, fits-is, fits-so, cost, encoded, decoded, length-encoded, mostStore, reply}
+use Rattle.held.specs.Head.{Record, fits, fits-is, fits-so, cost, encoded, decoded, length-encoded, mostStore, reply}
 use Rattle.held.specs.Front.{Begins}
 use Rattle.held.specs.Reading.{inside, flat, readUpTo, readAll, records, replies, only, fdsIn, all, rising, known, fine, soundb, Sound}
 use Rattle.held.specs.Rows.{read-step, fds-step}
@@ -55,18 +55,18 @@ walk-end from last sum [] e = ap Walked.Sound (sym (add-zero sum))
 walk-end from last sum (b ∷ x) e = absurd (omega arith)
 
 -- a record at the front, a reply or not, and the replies l behind it
-rising-front : (t : Bool) (h : Held) (l : List Held) (from : ℕ) → rising from (choose t (h ∷ l) l) ≡ true → from ≤ choose t (h .number) from
+rising-front : (t : Bool) (h : Record) (l : List Record) (from : ℕ) → rising from (choose t (h ∷ l) l) ≡ true → from ≤ choose t (h .number) from
 unfolding rising choose
 rising-front true h l from e = leb-true from (h .number) (both-left _ _ e)
 rising-front false h l from e = omega arith
 
-rising-on : (t : Bool) (h : Held) (l : List Held) (from : ℕ) → from ≤ choose t (h .number) from → rising from (choose t (h ∷ l) l) ≡ rising (choose t (h .number) from) l
+rising-on : (t : Bool) (h : Record) (l : List Record) (from : ℕ) → from ≤ choose t (h .number) from → rising from (choose t (h ∷ l) l) ≡ rising (choose t (h .number) from) l
 unfolding rising choose both
 rising-on true h l from e = ap (λ (b : Bool). both b (rising (h .number) l)) (le-leb from (h .number) e)
 rising-on false h l from e = refl
 
 module _ (from last sum : ℕ) (x : List ℕ) (some : 0 < length x) where
-  abbrev h : Held
+  abbrev h : Record
   h = decoded x
 
   abbrev y : List ℕ
@@ -94,7 +94,7 @@ module _ (from last sum : ℕ) (x : List ℕ) (some : 0 < length x) where
   pub walk-step : Begins x → h .number ≤ last → from ≤ raised (h .kind) (h .number) from → walkedOn from last sum x ≡ walkedOn (raised (h .kind) (h .number) from) last (sum + h .fds) y
   unfolding walkedOn fine flat all only both cut
   walk-step b k r =
-      let hs : List Held = readAll y in
+      let hs : List Record = readAll y in
       let t : Bool = eqb (h .kind) reply in
       let e : x ≡ encoded h ++ y = sym (take-append-drop (cost h) x) ∙ ap (λ (l : List ℕ). l ++ y) (b .bytes) in
       let p : same x (encoded h ++ flat hs) ≡ same y (flat hs) = ap (λ (l : List ℕ). same l (encoded h ++ flat hs)) e ∙ same-append (encoded h) y (flat hs) in
@@ -102,5 +102,5 @@ module _ (from last sum : ℕ) (x : List ℕ) (some : 0 < length x) where
       let f = fits-so h (b .fit) in
       let g = le-leb (h .number) last k in
       let d = ap (λ (n : ℕ). sum + n) (fds-step h hs (b .fit)) ∙ sym (add-assoc sum (h .fds) (fdsIn (only reply hs))) in
-      ap (λ (l : List Held). choose (fine from last x l) (Walked.Sound (sum + fdsIn (only reply l))) Walked.Unsound) (read-step x some)
+      ap (λ (l : List Record). choose (fine from last x l) (Walked.Sound (sum + fdsIn (only reply l))) Walked.Unsound) (read-step x some)
       ∙ (λ j. choose (both (p j) (both (both (f j) (all fits hs)) (both (q j) (both (g j) (all (known last) hs))))) (Walked.Sound (d j)) Walked.Unsound)

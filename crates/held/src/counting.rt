@@ -35,7 +35,7 @@ fn count_one(store: &[u8], at: usize, number: u64) -> Tally
     requires { ⌜ at + headerSize ≤ length (now store) ⌝ }
     ensures { λ r. ⌜ r ≡ tallyOne number (kindOf (drop at (now (store .entry)))) (numOf (drop at (now (store .entry)))) ⌝ }
 {
-    if head::kind_at(store, at) != head::REPLY {
+    if head::kind_at(store, at) != head::IN_REPLIES {
         return Tally { own: 0, above: 0 };
     }
     let found = head::number_at(store, at);

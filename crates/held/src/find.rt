@@ -6,7 +6,7 @@ ghost use Rattle.held.specs.Head.{headerSize, kindOf, numOf};
 ghost use Rattle.held.specs.Reading.{Readable};
 ghost use Rattle.held.specs.Find.{suits, found, foundReply, foundEvent};
 use crate::Found;
-use crate::Place;
+use crate::Spot;
 use crate::Window;
 use crate::head;
 
@@ -15,7 +15,7 @@ pub fn find_reply(store: &[u8], window: Window, number: u64) -> Found
     requires { ⌜ Readable window (now store) ⌝ }
     ensures { λ r. ⌜ r ≡ foundReply number window (now (store .entry)) ⌝ }
 {
-    find(store, window, head::REPLY, false, number)
+    find(store, window, head::IN_REPLIES, false, number)
 }
 
 // The oldest event.
@@ -23,7 +23,7 @@ pub fn find_event(store: &[u8], window: Window) -> Found
     requires { ⌜ Readable window (now store) ⌝ }
     ensures { λ r. ⌜ r ≡ foundEvent window (now (store .entry)) ⌝ }
 {
-    find(store, window, head::EVENT, true, 0)
+    find(store, window, head::IN_EVENTS, true, 0)
 }
 
 // Whether the record at an index is of the kind and, unless any will do, of the number.
@@ -51,7 +51,7 @@ fn find(store: &[u8], window: Window, kind: u8, any: bool, number: u64) -> Found
         let len = head::length_at(store, at);
         let fds = head::count_at(store, at);
         if hits(store, at, kind, any, number) {
-            return Found::At(Place {
+            return Found::At(Spot {
                 at: at,
                 len: len,
                 number: head::number_at(store, at),

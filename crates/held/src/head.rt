@@ -24,9 +24,9 @@ const ZERO: usize = 14;
 pub const HEADER: usize = 16;
 
 // The kinds of records.
-pub const REPLY: u8 = 0;
+pub const IN_REPLIES: u8 = 0;
 
-pub const EVENT: u8 = 1;
+pub const IN_EVENTS: u8 = 1;
 
 pub fn number_at(s: &[u8], at: usize) -> u64
     requires { ⌜ at + headerSize ≤ length (now s) ⌝ }
@@ -67,7 +67,7 @@ fn zero_at(s: &[u8], at: usize) -> u16
 fn most_fds(kind: u8) -> u8
     ensures { λ r. ⌜ r ≡ mostFds kind ⌝ }
 {
-    if kind == REPLY { 255 } else { 0 }
+    if kind == IN_REPLIES { 255 } else { 0 }
 }
 
 // The bytes of the record at an index, or 0 where none that fits stands there before the end.
@@ -90,7 +90,7 @@ pub fn size_at(s: &[u8], at: usize, end: usize) -> usize
         return 0;
     }
     let kind = kind_at(s, at);
-    if EVENT < kind {
+    if IN_EVENTS < kind {
         return 0;
     }
     if most_fds(kind) < count_at(s, at) {

@@ -15,9 +15,9 @@ mod soundness;
 pub use counting::count;
 pub use find::find_event;
 pub use find::find_reply;
-pub use head::EVENT;
 pub use head::HEADER;
-pub use head::REPLY;
+pub use head::IN_EVENTS;
+pub use head::IN_REPLIES;
 pub use head::count_at;
 pub use head::kind_at;
 pub use head::length_at;
@@ -56,7 +56,7 @@ pub enum Walked {
 
 // A record that was found: where it starts, the length of its packet, its number and its count of
 // descriptors, and how many descriptors the replies before it have in all.
-pub struct Place {
+pub struct Spot {
     pub at: usize,
     pub len: usize,
     pub number: u64,
@@ -65,7 +65,7 @@ pub struct Place {
 }
 
 pub enum Found {
-    At(Place),
+    At(Spot),
     Nothing,
 }
 

@@ -6,7 +6,7 @@ ghost use Rattle.packet.specs.Packet.{mostPacket};
 ghost use Rattle.held.specs.Head.{headerSize, labelled};
 ghost use Rattle.held.specs.Moves.{Room, Within, Leaves, Takes, left, stays, behind, appended, removed, demoted};
 use crate::Label;
-use crate::Place;
+use crate::Spot;
 use crate::Window;
 use crate::head;
 
@@ -62,7 +62,7 @@ pub fn behind(store: &mut [u8], window: Window, label: Label, packet: &[u8]) -> 
 }
 
 // The record at a place goes; the shorter side of the window slides over it.
-pub fn remove(store: &mut [u8], window: Window, place: Place) -> Window
+pub fn remove(store: &mut [u8], window: Window, place: Spot) -> Window
     requires { ⌜ Within window (now store) place ⌝ }
     ensures { λ r. ⌜ Leaves (removed window (now (store .entry)) place) r (now (store .exit)) ⌝ }
 {
@@ -86,7 +86,7 @@ pub fn remove(store: &mut [u8], window: Window, place: Place) -> Window
 }
 
 // The packet at a place goes to the start of out, and its record goes.
-pub fn take(store: &mut [u8], window: Window, place: Place, out: &mut [u8]) -> Window
+pub fn take(store: &mut [u8], window: Window, place: Spot, out: &mut [u8]) -> Window
     requires { ⌜ Within window (now store) place ⌝ }
     requires { ⌜ place .len ≤ length (now out) ⌝ }
     ensures { λ r. ⌜ Takes window (now (store .entry)) place (now (out .entry)) r (now (store .exit)) (now (out .exit)) ⌝ }
@@ -99,18 +99,18 @@ pub fn take(store: &mut [u8], window: Window, place: Place, out: &mut [u8]) -> W
 
 // The record at a place becomes an event without descriptors and goes to the end of the window,
 // which stays: it needs no room.
-pub fn demote(store: &mut [u8], window: Window, place: Place)
+pub fn demote(store: &mut [u8], window: Window, place: Spot)
     requires { ⌜ Within window (now store) place ⌝ }
     ensures { λ _. ⌜ now (store .exit) ≡ demoted window (now (store .entry)) place ⌝ }
 {
     let at = place.at;
     let next = at + (head::HEADER + place.len);
-    head::put_kind(store, at, 0, head::EVENT);
+    head::put_kind(store, at, 0, head::IN_EVENTS);
     octets::rotate(store, at, next, window.end);
 }
 
 // The first byte of the packet at a place: 0 in an error.
-pub fn first_byte(store: &[u8], place: Place) -> u8
+pub fn first_byte(store: &[u8], place: Spot) -> u8
     requires { ⌜ place .at + headerSize < length (now store) ⌝ }
     ensures { λ r. ⌜ r ≡ getD (now (store .entry)) (place .at + headerSize) 0 ⌝ }
 {

@@ -36,7 +36,7 @@ pub fn walk(store: &[u8], window: Window, last: u64) -> Walked
 fn pick(kind: u8, a: u64, b: u64) -> u64
     ensures { λ r. ⌜ r ≡ choose (eqb kind reply) a b ⌝ }
 {
-    if kind == head::REPLY { a } else { b }
+    if kind == head::IN_REPLIES { a } else { b }
 }
 
 fn records(store: &[u8], start: usize, end: usize, last: u64) -> Walked

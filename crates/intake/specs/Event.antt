@@ -27,7 +27,7 @@ use Rattle.intake.specs.declared.event.Plain.{Plain}
 use Rattle.intake.specs.declared.event.Plain.the-variants as Plain
 use Rattle.filing.specs.Plan.{task, packetNumberIn, askedIn, overRoom, planBy, planOf, numberedState}
 use Rattle.model.specs.Moved.{movedState}
-use Rattle.intake.specs.Exact.{Ready, filing, carriedOut, enqueueExact}
+use Rattle.intake.specs.Exact.{Takeable, filing, carriedOut, enqueueExact}
 use Rattle.intake.specs.Steps.{file-event}
 
 -- what is asked of the state: the window lies in its store, and the last written is a full number
@@ -36,7 +36,7 @@ pub record Writable (c : Connection) (s : List ℕ) : Type 0 where
   pub store : length s ≡ c .room
   pub written : c .written ≤ lastNumber
 
-pub ready-writable : (c : Connection) (q s f : List ℕ) → Ready c q s f → Writable c s
+pub ready-writable : (c : Connection) (q s f : List ℕ) → Takeable c q s f → Writable c s
 ready-writable c q s f R = record { within = R .within; store = R .store; written = R .numbers .written-most }
 
 -- an event with the number n for which the window stays where it is

@@ -25,7 +25,7 @@ use Rattle.filing.specs.Plan.{planOf, numberedState}
 -- ---- the state
 
 -- what the step needs of a sound state
-pub record Ready (c : Connection) (q s f : List ℕ) : Type 0 where
+pub record Takeable (c : Connection) (q s f : List ℕ) : Type 0 where
   pub some : 0 < capacity q
   pub numbers : Ranges c
   pub order : c .window .start ≤ c .window .end

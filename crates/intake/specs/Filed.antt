@@ -7,7 +7,7 @@ use native.Mathlib.Omega.{arith}
 use lib.ListN.{length, take, drop}
 use lib.Seq.{drop-at, take-take}
 use Rattle.octets.specs.Logic.{choose}
-use Rattle.held.specs.Head as Record
+use Rattle.held.specs.Head as Head
 use Rattle.held.specs.Reading as Store
 use Rattle.held.specs.Moves.{appended}
 use Rattle.held.specs.Rows.{fdsIn-append}
@@ -32,17 +32,17 @@ pub record Fine (c : Connection) (place : Place) (k n : ℕ) : Type 0 where
   pub most : n ≤ mostPacket
   pub some : k ≤ c .counts .waiting
   pub byte : k ≤ 255
-  pub room : isHeld place ≡ true → Store.used (c .window) + (Record.headerSize + n) ≤ c .room
+  pub room : isHeld place ≡ true → Store.used (c .window) + (Head.headerSize + n) ≤ c .room
 
 -- one record more, with the descriptors that stand behind all others
-with-one : (a : List Record.Held) (h : Record.Held) (fds more : List ℕ) → Store.fdsIn a ≡ length fds
+with-one : (a : List Head.Record) (h : Head.Record) (fds more : List ℕ) → Store.fdsIn a ≡ length fds
     → withDescriptors (a ++ (h ∷ [])) (fds ++ more) ≡ withDescriptors a fds ++ (heldPacket (h .number) (h .packet) (take (h .fds) more) ∷ [])
 unfolding withDescriptors
 with-one a h fds more e =
     with-append a (h ∷ []) (fds ++ more)
     ∙ (λ i. with-more a fds more (omega arith) i ++ withDescriptors (h ∷ []) (drop-at fds more (Store.fdsIn a) (sym e) i))
 
-fds-one : (a : List Record.Held) (h : Record.Held) → Store.fdsIn (a ++ (h ∷ [])) ≡ Store.fdsIn a + h .fds
+fds-one : (a : List Head.Record) (h : Head.Record) → Store.fdsIn (a ++ (h ∷ [])) ≡ Store.fdsIn a + h .fds
 unfolding Store.fdsIn
 fds-one a h = fdsIn-append a (h ∷ []) ∙ omega arith
 
@@ -52,8 +52,8 @@ module _ (c : Connection) (r : Rooms) (S : Sound c r) where
 
   -- ---- held
 
-  module _ (p : List ℕ) (least : leastPacket ≤ length p) (most : length p ≤ mostPacket) (room : Store.used (c .window) + (Record.headerSize + length p) ≤ c .room) where
-    append-done : (h : Record.Held) → h .number ≡ c .read → h .packet ≡ p → h .kind ≤ Record.event → h .fds ≤ Record.mostFds (h .kind)
+  module _ (p : List ℕ) (least : leastPacket ≤ length p) (most : length p ≤ mostPacket) (room : Store.used (c .window) + (Head.headerSize + length p) ≤ c .room) where
+    append-done : (h : Head.Record) → h .number ≡ c .read → h .packet ≡ p → h .kind ≤ Head.event → h .fds ≤ Head.mostFds (h .kind)
         → Held.Appended (c .window) (r .store) h (appended (c .window) (r .store) h)
     append-done h n e kind count =
         let l : length (h .packet) ≡ length p = ap length e in
@@ -62,11 +62,11 @@ module _ (c : Connection) (r : Rooms) (S : Sound c r) where
         (omega (arith, S .store)) (omega arith)
 
     module _ (k : ℕ) (some : k ≤ c .counts .waiting) (byte : k ≤ 255) where
-      abbrev rec : Record.Held
-      rec = Record.held (c .read) k Record.reply p
+      abbrev rec : Head.Record
+      rec = Head.held (c .read) k Head.reply p
 
       reply-done : Held.Appended (c .window) (r .store) rec (appended (c .window) (r .store) rec)
-      unfolding Record.mostFds choose
+      unfolding Head.mostFds choose
       reply-done = append-done rec refl refl (omega arith) byte
 
       reply-sound : Sound (filedAs Place.Replies c r k p .state) (filedAs Place.Replies c r k p .left)
@@ -82,17 +82,17 @@ module _ (c : Connection) (r : Rooms) (S : Sound c r) where
           let L = Fds.hold-lists (slotsOf c r) (slots-there c r S) k some in
           let fds : List ℕ = Slots.holding (slotsOf c r) in
           let wait : List ℕ = Slots.waiting (slotsOf c r) in
-          let old : List Record.Held = Store.replies (c .window) (r .store) in
+          let old : List Head.Record = Store.replies (c .window) (r .store) in
           let f : Store.fdsIn old ≡ length fds = S .descriptors ∙ sym (Fds.length-holding (slotsOf c r) (slots-there c r S)) in
           moved-read c r (appended (c .window) (r .store) rec) (Slots.hold k (slotsOf c r)) _ _ _ _
           ((λ i. withDescriptors (reply-done .own i) (L .holding-is i))
           ∙ with-one old rec fds (take k wait) f
           ∙ ap (λ (x : List ℕ). withDescriptors old fds ++ (heldPacket (c .read) p x ∷ [])) (take-take k k wait (omega arith)))
-          (ap (map eventOf) (reply-done .other Record.event (λ q. omega arith)))
+          (ap (map eventOf) (reply-done .other Head.event (λ q. omega arith)))
           (L .waiting-is) (L .closing-is)
 
-    abbrev ev : Record.Held
-    ev = Record.held (c .read) 0 Record.event p
+    abbrev ev : Head.Record
+    ev = Head.held (c .read) 0 Head.event p
 
     event-done : Held.Appended (c .window) (r .store) ev (appended (c .window) (r .store) ev)
     event-done = append-done ev refl refl (omega arith) (omega arith)
@@ -100,14 +100,14 @@ module _ (c : Connection) (r : Rooms) (S : Sound c r) where
     event-sound : (k : ℕ) → Sound (filedAs Place.Events c r k p .state) (filedAs Place.Events c r k p .left)
     event-sound k =
         moved-sound c r S (appended (c .window) (r .store) ev) (slotsOf c r) (event-done .long) (event-done .sound) (slots-there c r S)
-        (ap Store.fdsIn (event-done .other Record.reply (λ q. omega arith)) ∙ S .descriptors)
+        (ap Store.fdsIn (event-done .other Head.reply (λ q. omega arith)) ∙ S .descriptors)
 
     event-read : (k : ℕ) → reads (filedAs Place.Events c r k p .state) (filedAs Place.Events c r k p .left)
         ≡ filed Place.Events (arriving (reads c r) p (c .read) 0) (setWaiting (reads c r) (drop 0 (reads c r .waiting)))
     unfolding reads
     event-read k =
         moved-read c r (appended (c .window) (r .store) ev) (slotsOf c r) _ _ _ _
-        (ap (λ (l : List Record.Held). withDescriptors l (Slots.holding (slotsOf c r))) (event-done .other Record.reply (λ q. omega arith)))
+        (ap (λ (l : List Head.Record). withDescriptors l (Slots.holding (slotsOf c r))) (event-done .other Head.reply (λ q. omega arith)))
         (ap (map eventOf) (event-done .own) ∙ map-append eventOf (Store.events (c .window) (r .store)) (ev ∷ []))
         refl refl
 

@@ -25,7 +25,7 @@ use Rattle.filing.specs.declared.Plan.the-variants as Plan
 use Rattle.filing.specs.Plan.{saysPlan, planOf, numberedState}
 use Rattle.filing.specs.Planned.{Planned, planned}
 use Rattle.model.specs.Moved.{movedState}
-use Rattle.intake.specs.Exact.{Ready, filing, filedAs, MayFile, FileDone, carriedOut, enqueueExact, EnqueueStep}
+use Rattle.intake.specs.Exact.{Takeable, filing, filedAs, MayFile, FileDone, carriedOut, enqueueExact, EnqueueStep}
 
 -- ---- filing
 
@@ -84,7 +84,7 @@ module _ (c : Connection) (q s f p : List ℕ) (x : Plan) (e : saysPlan x ≡ pl
     step-some = omega (arith, step-planned .least)
 
     module _ (next : Connection) (N : next ≡ numberedState c (codeOf p) (n .0)) where
-      pub step-may : Ready c q s f → MayFile next s f place k (length p)
+      pub step-may : Takeable c q s f → MayFile next s f place k (length p)
       step-may R =
           let P = step-planned in
           subst (λ (y : Connection). MayFile y s f place k (length p)) (sym N)

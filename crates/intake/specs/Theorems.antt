@@ -23,12 +23,12 @@ use Rattle.filing.specs.Plan.{packetNumberIn, askedIn, planOf, numberedState}
 use Rattle.filing.specs.Planned.{Planned, planned}
 use Rattle.filing.specs.Numbered.{numbered-sound, numbered-read}
 use Rattle.filing.specs.Theorems.{claimed-most, event-claims, plan-read}
-use Rattle.intake.specs.Exact.{Ready, filing, filedAs, carriedOut, enqueueExact}
+use Rattle.intake.specs.Exact.{Takeable, filing, filedAs, carriedOut, enqueueExact}
 use Rattle.intake.specs.Filed.{Fine, filed-sound, filed-read}
 
 -- A sound state is one that the step can be made from.
-pub ready : (c : Connection) (r : Rooms) → Sound c r → Ready c (r .requests) (r .store) (r .slots)
-ready c r S =
+pub takeable : (c : Connection) (r : Rooms) → Sound c r → Takeable c (r .requests) (r .store) (r .slots)
+takeable c r S =
     let z = sized-is (c .capacity) (r .requests) .0 (S .requests) in
     let h = Held.sound-exactly (c .read) (c .window) (r .store) .0 (S .held) in
     record {

@@ -50,7 +50,7 @@ pub fn take_plain(
     let label = Label {
         number: number.0,
         fds: 0,
-        kind: held::EVENT,
+        kind: held::IN_EVENTS,
     };
     let after = held::behind(store, window, label, packet);
     moved(next, after, c.counts)

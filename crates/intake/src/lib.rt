@@ -17,7 +17,7 @@ use model::Enqueued;
 use model::Place;
 use model::moved;
 ghost use lib.ListN.{length};
-ghost use Rattle.intake.specs.Exact.{Ready, MayFile, FileDone, EnqueueStep};
+ghost use Rattle.intake.specs.Exact.{Takeable, MayFile, FileDone, EnqueueStep};
 
 // A packet is filed under the last number read, with so many descriptors.
 fn file(
@@ -39,7 +39,7 @@ fn file(
             let label = Label {
                 number: number,
                 fds: claim,
-                kind: held::REPLY,
+                kind: held::IN_REPLIES,
             };
             let next = held::append(store, window, label, packet);
             let fds = descriptors::hold(counts, claim as usize);
@@ -49,7 +49,7 @@ fn file(
             let label = Label {
                 number: number,
                 fds: 0,
-                kind: held::EVENT,
+                kind: held::IN_EVENTS,
             };
             let next = held::append(store, window, label, packet);
             moved(c, next, counts)
@@ -70,7 +70,7 @@ pub fn enqueue_packet(
     slots: &mut [u32],
     packet: &[u8],
 ) -> Enqueued
-    requires { ⌜ Ready c (now requests) (now store) (now slots) ⌝ }
+    requires { ⌜ Takeable c (now requests) (now store) (now slots) ⌝ }
     ensures { λ r. ⌜ EnqueueStep c (now (requests .entry)) (now (store .entry)) (now (slots .entry)) (now (packet .entry)) r (now (store .exit)) (now (slots .exit)) ⌝ }
 {
     match filing::plan_of(c, requests, packet) {

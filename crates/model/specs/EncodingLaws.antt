@@ -13,7 +13,7 @@ use Rattle.sequence.specs.Numbering.{lastNumber}
 use Rattle.requests.specs.Room as Requests
 use Rattle.requests.specs.Room.{outstanding, legals}
 use Rattle.requests.specs.Theorems.{sized-is, legals-exactly, encoded-read as requests-read}
-use Rattle.held.specs.Head as Record
+use Rattle.held.specs.Head as Head
 use Rattle.held.specs.Head.{Fits, mostFds, mostFds-byte, fits-reply, fits-event}
 use Rattle.held.specs.Reading as Store
 use Rattle.held.specs.Rows.{only-is, only-other, all-only}
@@ -33,21 +33,21 @@ use Rattle.model.specs.Encoding.{ReplyFits, EventFits, NeverFall, InRang
 -- ---- records of two lists
 
 -- those of each kind are the lists'
-mixed-replies : {rows : List Record.Held} {rs es : List Held} → Mixed rows rs es → Store.only Record.reply rows ≡ map replyRow rs
+mixed-replies : {rows : List Head.Record} {rs es : List Held} → Mixed rows rs es → Store.only Head.reply rows ≡ map replyRow rs
 unfolding Store.only choose
 mixed-replies none = refl
-mixed-replies (a-reply h k) = ap (λ (l : List Record.Held). replyRow h ∷ l) (mixed-replies k)
+mixed-replies (a-reply h k) = ap (λ (l : List Head.Record). replyRow h ∷ l) (mixed-replies k)
 mixed-replies (an-event h k) = mixed-replies k
 
-mixed-events : {rows : List Record.Held} {rs es : List Held} → Mixed rows rs es → Store.only Record.event rows ≡ map eventRow es
+mixed-events : {rows : List Head.Record} {rs es : List Held} → Mixed rows rs es → Store.only Head.event rows ≡ map eventRow es
 unfolding Store.only choose
 mixed-events none = refl
 mixed-events (a-reply h k) = mixed-events k
-mixed-events (an-event h k) = ap (λ (l : List Record.Held). eventRow h ∷ l) (mixed-events k)
+mixed-events (an-event h k) = ap (λ (l : List Head.Record). eventRow h ∷ l) (mixed-events k)
 
 -- what each of either list has, each record has
-module _ (P : Held → Type 0) (Q : Held → Type 0) (R : Record.Held → Type 0) (of-reply : (h : Held) → P h → R (replyRow h)) (of-event : (h : Held) → Q h → R (eventRow h)) where
-  mixed-all : {rows : List Record.Held} {rs es : List Held} → Mixed rows rs es → Each P rs → Each Q es → Store.All R rows
+module _ (P : Held → Type 0) (Q : Held → Type 0) (R : Head.Record → Type 0) (of-reply : (h : Held) → P h → R (replyRow h)) (of-event : (h : Held) → Q h → R (eventRow h)) where
+  mixed-all : {rows : List Head.Record} {rs es : List Held} → Mixed rows rs es → Each P rs → Each Q es → Store.All R rows
   unfolding Store.All
   mixed-all none p q = tt
   mixed-all (a-reply h k) p q = (of-reply h (p .0), mixed-all k (p .1) q)
@@ -136,7 +136,7 @@ module _ (m : Client) (c : Connection) (r : Rooms) (E : Encodes m c r) (I : InRa
         legal-bytes = (λ i. legals (r .requests) (E .first-is i) (counted i)) ∙ legals-exactly (r .requests) (first m) (length (m .outstanding)) .1 (subst (Requests.Encodes (r .requests) (first m)) (sym read-again) (E .requests));
         slots = Fds.sound-is (slotsOf c r) .1 (record { long = E .slots-long; most = rw (E .counts) (omega (arith, I .descriptors-most)) });
         held = Stores.sound-exactly (c .read) (c .window) (r .store) .1 (stored .sound);
-        descriptors = ap (λ (l : List Record.Held). Store.fdsIn (Store.only Record.reply l)) (stored .reads) ∙ ap Store.fdsIn (mixed-replies (E .mixed)) ∙ fds-rows (m .replies) ∙ ap (λ k. k .held) (sym (E .counts));
+        descriptors = ap (λ (l : List Head.Record). Store.fdsIn (Store.only Head.reply l)) (stored .reads) ∙ ap Store.fdsIn (mixed-replies (E .mixed)) ∙ fds-rows (m .replies) ∙ ap (λ k. k .held) (sym (E .counts));
       }
 
   outstanding-read : outstanding (r .requests) (c .first) (count c) ≡ m .outstanding
@@ -144,12 +144,12 @@ module _ (m : Client) (c : Connection) (r : Rooms) (E : Encodes m c r) (I : InRa
 
   replies-read : withDescriptors (Store.replies (c .window) (r .store)) (Slots.holding (slotsOf c r)) ≡ m .replies
   replies-read =
-      ap (λ (l : List Record.Held). withDescriptors (Store.only Record.reply l) (Slots.holding (slotsOf c r))) (stored .reads)
+      ap (λ (l : List Head.Record). withDescriptors (Store.only Head.reply l) (Slots.holding (slotsOf c r))) (stored .reads)
       ∙ (λ i. withDescriptors (mixed-replies (E .mixed) i) (listed .holding-is i)) ∙ read-replies (m .replies)
 
   events-read : map eventOf (Store.events (c .window) (r .store)) ≡ m .events
   events-read =
-      ap (λ (l : List Record.Held). map eventOf (Store.only Record.event l)) (stored .reads) ∙ ap (map eventOf) (mixed-events (E .mixed)) ∙ read-events (m .numbers .read) (m .events) (I .events)
+      ap (λ (l : List Head.Record). map eventOf (Store.only Head.event l)) (stored .reads) ∙ ap (map eventOf) (mixed-events (E .mixed)) ∙ read-events (m .numbers .read) (m .events) (I .events)
 
   -- and is read as it
   pub encoded-read : reads c r ≡ m
@@ -168,52 +168,52 @@ module _ (m : Client) (c : Connection) (r : Rooms) (E : Encodes m c r) (I : InRa
 
 -- ---- a sound state is an encoding of what it is read as
 
-module _ (h : Record.Held) (rows : List Record.Held) (fds : List ℕ) where
-  row-is : h .kind ≡ Record.reply → h .fds ≤ length fds → replyRow (heldWith h (take (h .fds) fds)) ≡ h
+module _ (h : Head.Record) (rows : List Head.Record) (fds : List ℕ) where
+  row-is : h .kind ≡ Head.reply → h .fds ≤ length fds → replyRow (heldWith h (take (h .fds) fds)) ≡ h
   row-is e l =
       let n : length (take (h .fds) fds) ≡ h .fds = length-take-le (h .fds) fds l in
       λ k. record { number = h .number; fds = n k; kind = sym e k; packet = h .packet }
 
-  mix-reply : h .kind ≡ Record.reply → h .fds ≤ length fds → Mixed rows (withDescriptors (Store.only Record.reply rows) (drop (h .fds) fds)) (map eventOf (Store.only Record.event rows))
-      → Mixed (h ∷ rows) (withDescriptors (Store.only Record.reply (h ∷ rows)) fds) (map eventOf (Store.only Record.event (h ∷ rows)))
+  mix-reply : h .kind ≡ Head.reply → h .fds ≤ length fds → Mixed rows (withDescriptors (Store.only Head.reply rows) (drop (h .fds) fds)) (map eventOf (Store.only Head.event rows))
+      → Mixed (h ∷ rows) (withDescriptors (Store.only Head.reply (h ∷ rows)) fds) (map eventOf (Store.only Head.event (h ∷ rows)))
   unfolding withDescriptors
   mix-reply e l k =
-      rw (only-is Record.reply h rows e, only-other Record.event h rows (λ q. omega arith))
-      (subst (λ (x : Record.Held). Mixed (x ∷ rows) (withDescriptors (h ∷ Store.only Record.reply rows) fds) (map eventOf (Store.only Record.event rows))) (row-is e l) (a-reply _ k))
+      rw (only-is Head.reply h rows e, only-other Head.event h rows (λ q. omega arith))
+      (subst (λ (x : Head.Record). Mixed (x ∷ rows) (withDescriptors (h ∷ Store.only Head.reply rows) fds) (map eventOf (Store.only Head.event rows))) (row-is e l) (a-reply _ k))
 
-  event-row-is : h .kind ≡ Record.event → h .fds ≤ mostFds (h .kind) → eventRow (eventOf h) ≡ h
+  event-row-is : h .kind ≡ Head.event → h .fds ≤ mostFds (h .kind) → eventRow (eventOf h) ≡ h
   unfolding mostFds choose
   event-row-is e l =
       let n : h .fds ≤ 0 = subst (λ (x : ℕ). h .fds ≤ mostFds x) e l in
       let z : 0 ≡ h .fds = omega arith in
       λ k. record { number = h .number; fds = z k; kind = sym e k; packet = h .packet }
 
-  mix-event : h .kind ≡ Record.event → h .fds ≤ mostFds (h .kind) → Mixed rows (withDescriptors (Store.only Record.reply rows) fds) (map eventOf (Store.only Record.event rows))
-      → Mixed (h ∷ rows) (withDescriptors (Store.only Record.reply (h ∷ rows)) fds) (map eventOf (Store.only Record.event (h ∷ rows)))
+  mix-event : h .kind ≡ Head.event → h .fds ≤ mostFds (h .kind) → Mixed rows (withDescriptors (Store.only Head.reply rows) fds) (map eventOf (Store.only Head.event rows))
+      → Mixed (h ∷ rows) (withDescriptors (Store.only Head.reply (h ∷ rows)) fds) (map eventOf (Store.only Head.event (h ∷ rows)))
   mix-event e l k =
-      rw (only-other Record.reply h rows (λ q. omega arith), only-is Record.event h rows e)
-      (subst (λ (x : Record.Held). Mixed (x ∷ rows) (withDescriptors (Store.only Record.reply rows) fds) (map eventOf (h ∷ Store.only Record.event rows))) (event-row-is e l) (an-event (eventOf h) k))
+      rw (only-other Head.reply h rows (λ q. omega arith), only-is Head.event h rows e)
+      (subst (λ (x : Head.Record). Mixed (x ∷ rows) (withDescriptors (Store.only Head.reply rows) fds) (map eventOf (h ∷ Store.only Head.event rows))) (event-row-is e l) (an-event (eventOf h) k))
 
-mixing : (rows : List Record.Held) (fds : List ℕ) → Store.All Fits rows → Store.fdsIn (Store.only Record.reply rows) ≤ length fds → Mixed rows (withDescriptors (Store.only Record.reply rows) fds) (map eventOf (Store.only Record.event rows))
+mixing : (rows : List Head.Record) (fds : List ℕ) → Store.All Fits rows → Store.fdsIn (Store.only Head.reply rows) ≤ length fds → Mixed rows (withDescriptors (Store.only Head.reply rows) fds) (map eventOf (Store.only Head.event rows))
 unfolding Store.only Store.All Store.fdsIn withDescriptors
 mixing [] fds f l = none
-mixing (h ∷ rows) fds f l = elim (ℕ-discrete (h .kind) Record.reply) [ yes e ↦ a e (λ n. mixing rows (drop (h .fds) fds) (f .1) n) | no n ↦ b n (λ n. mixing rows fds (f .1) n) ]
+mixing (h ∷ rows) fds f l = elim (ℕ-discrete (h .kind) Head.reply) [ yes e ↦ a e (λ n. mixing rows (drop (h .fds) fds) (f .1) n) | no n ↦ b n (λ n. mixing rows fds (f .1) n) ]
   where
-    a : h .kind ≡ Record.reply → (Store.fdsIn (Store.only Record.reply rows) ≤ length (drop (h .fds) fds) → Mixed rows (withDescriptors (Store.only Record.reply rows) (drop (h .fds) fds)) (map eventOf (Store.only Record.event rows)))
-        → Mixed (h ∷ rows) (withDescriptors (Store.only Record.reply (h ∷ rows)) fds) (map eventOf (Store.only Record.event (h ∷ rows)))
+    a : h .kind ≡ Head.reply → (Store.fdsIn (Store.only Head.reply rows) ≤ length (drop (h .fds) fds) → Mixed rows (withDescriptors (Store.only Head.reply rows) (drop (h .fds) fds)) (map eventOf (Store.only Head.event rows)))
+        → Mixed (h ∷ rows) (withDescriptors (Store.only Head.reply (h ∷ rows)) fds) (map eventOf (Store.only Head.event (h ∷ rows)))
     a e k =
-        let n : Store.fdsIn (Store.only Record.reply (h ∷ rows)) ≡ h .fds + Store.fdsIn (Store.only Record.reply rows) = ap Store.fdsIn (only-is Record.reply h rows e) in
+        let n : Store.fdsIn (Store.only Head.reply (h ∷ rows)) ≡ h .fds + Store.fdsIn (Store.only Head.reply rows) = ap Store.fdsIn (only-is Head.reply h rows e) in
         mix-reply h rows fds e (omega arith) (k (omega (arith, length-drop (h .fds) fds)))
 
-    b : (h .kind ≡ Record.reply → ⊥) → (Store.fdsIn (Store.only Record.reply rows) ≤ length fds → Mixed rows (withDescriptors (Store.only Record.reply rows) fds) (map eventOf (Store.only Record.event rows)))
-        → Mixed (h ∷ rows) (withDescriptors (Store.only Record.reply (h ∷ rows)) fds) (map eventOf (Store.only Record.event (h ∷ rows)))
+    b : (h .kind ≡ Head.reply → ⊥) → (Store.fdsIn (Store.only Head.reply rows) ≤ length fds → Mixed rows (withDescriptors (Store.only Head.reply rows) fds) (map eventOf (Store.only Head.event rows)))
+        → Mixed (h ∷ rows) (withDescriptors (Store.only Head.reply (h ∷ rows)) fds) (map eventOf (Store.only Head.event (h ∷ rows)))
     b d k =
-        let n : Store.fdsIn (Store.only Record.reply (h ∷ rows)) ≡ Store.fdsIn (Store.only Record.reply rows) = ap Store.fdsIn (only-other Record.reply h rows d) in
+        let n : Store.fdsIn (Store.only Head.reply (h ∷ rows)) ≡ Store.fdsIn (Store.only Head.reply rows) = ap Store.fdsIn (only-other Head.reply h rows d) in
         mix-event h rows fds (omega (arith, f .0 .kind)) (f .0 .count) (k (omega arith))
 
 -- each list is in range
 module _ (last : ℕ) where
-  replies-fit : (l : List Record.Held) (fds : List ℕ) → Store.All Fits l → Store.All (Store.Known last) l → Each (ReplyFits last) (withDescriptors l fds)
+  replies-fit : (l : List Head.Record) (fds : List ℕ) → Store.All Fits l → Store.All (Store.Known last) l → Each (ReplyFits last) (withDescriptors l fds)
   unfolding Store.All withDescriptors
   replies-fit [] fds f k = tt
   replies-fit (h ∷ l) fds f k = (
@@ -221,18 +221,18 @@ module _ (last : ℕ) where
     replies-fit l (drop (h .fds) fds) (f .1) (k .1),
   )
 
-  events-fit : (l : List Record.Held) → Store.All Fits l → Store.All (Store.Known last) l → Each (EventFits last) (map eventOf l)
+  events-fit : (l : List Head.Record) → Store.All Fits l → Store.All (Store.Known last) l → Each (EventFits last) (map eventOf l)
   unfolding Store.All
   events-fit [] f k = tt
   events-fit (h ∷ l) f k = (record { least = f .0 .least; most = f .0 .most; known = k .0; descriptors = refl }, events-fit l (f .1) (k .1))
 
-never-falls : (from : ℕ) (l : List Record.Held) (fds : List ℕ) → Store.Rising from l → NeverFall from (withDescriptors l fds)
+never-falls : (from : ℕ) (l : List Head.Record) (fds : List ℕ) → Store.Rising from l → NeverFall from (withDescriptors l fds)
 unfolding Store.Rising withDescriptors
 never-falls from [] fds n = tt
 never-falls from (h ∷ l) fds n = (n .0, never-falls (h .number) l (drop (h .fds) fds) (n .1))
 
 module _ (c : Connection) (r : Rooms) (S : Sound c r) where
-  abbrev kept : List Record.Held
+  abbrev kept : List Head.Record
   kept = Store.records (c .window) (r .store)
 
   stands : Store.Sound (c .read) (c .window) (r .store)
@@ -254,9 +254,9 @@ module _ (c : Connection) (r : Rooms) (S : Sound c r) where
         read-most = N .read-most;
         run-from-one = omega (arith, length-out c r S, N .first-least);
         run-most = omega (arith, length-out c r S, N .count-most);
-        replies = replies-fit (c .read) (Store.only Record.reply kept) (Slots.holding (slotsOf c r)) (all-only Fits Record.reply kept (stands .readable .fit)) (all-only (Store.Known (c .read)) Record.reply kept (stands .known));
-        events = events-fit (c .read) (Store.only Record.event kept) (all-only Fits Record.event kept (stands .readable .fit)) (all-only (Store.Known (c .read)) Record.event kept (stands .known));
-        never-fall = never-falls 0 (Store.only Record.reply kept) (Slots.holding (slotsOf c r)) (stands .rising);
+        replies = replies-fit (c .read) (Store.only Head.reply kept) (Slots.holding (slotsOf c r)) (all-only Fits Head.reply kept (stands .readable .fit)) (all-only (Store.Known (c .read)) Head.reply kept (stands .known));
+        events = events-fit (c .read) (Store.only Head.event kept) (all-only Fits Head.event kept (stands .readable .fit)) (all-only (Store.Known (c .read)) Head.event kept (stands .known));
+        never-fall = never-falls 0 (Store.only Head.reply kept) (Slots.holding (slotsOf c r)) (stands .rising);
         used-most = omega (arith, used-read c r S, stands .readable .within, S .store);
         descriptors-most = omega (arith, inside-read c r S, slots-there c r S .most);
       }

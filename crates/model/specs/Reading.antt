@@ -3,7 +3,7 @@ use mathlib.Core.List.{List, [], _∷_, map}
 use Prim.Native.Nat.{ℕ, _+_, _-_}
 use lib.ListN.{take, drop}
 use Rattle.requests.specs.Room.{outstanding}
-use Rattle.held.specs.Head as Record
+use Rattle.held.specs.Head as Head
 use Rattle.held.specs.Reading as Store
 use Rattle.descriptors.specs.Room as Slots
 use Rattle.model.specs.Client.{Held, Client, heldPacket}
@@ -23,16 +23,16 @@ abbrev pub count : Connection → ℕ
 count c = c .written + 1 - c .first
 
 -- a held record with these descriptors
-abbrev pub heldWith : Record.Held → List ℕ → Held
+abbrev pub heldWith : Head.Record → List ℕ → Held
 heldWith h fds = heldPacket (h .number) (h .packet) fds
 
 -- held records with the descriptors that they have, one record's behind the other's
-unfoldable pub withDescriptors : List Record.Held → List ℕ → List Held
+unfoldable pub withDescriptors : List Head.Record → List ℕ → List Held
 withDescriptors [] fds = []
 withDescriptors (h ∷ l) fds = heldWith h (take (h .fds) fds) ∷ withDescriptors l (drop (h .fds) fds)
 
 -- events have none
-abbrev pub eventOf : Record.Held → Held
+abbrev pub eventOf : Head.Record → Held
 eventOf h = heldWith h []
 
 abbrev pub slotsOf : Connection → Rooms → Slots.Room

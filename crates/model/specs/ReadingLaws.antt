@@ -6,7 +6,7 @@ use native.Mathlib.Omega.{arith}
 use lib.ListN.{length, take, drop, length-drop, take-append-drop}
 use lib.Seq.{take-append-le, drop-append-le, drop-drop, drop-at, length-take-le}
 use Rattle.requests.specs.Theorems.{length-outstanding}
-use Rattle.held.specs.Head as Record
+use Rattle.held.specs.Head as Head
 use Rattle.held.specs.Reading as Store
 use Rattle.held.specs.Theorems as Held
 use Rattle.descriptors.specs.Room as Slots
@@ -19,7 +19,7 @@ use Rattle.model.specs.declared.Connection.{Connection}
 -- ---- records with their descriptors
 
 -- those of a row are the row's, then those of what follows
-pub with-append : (a b : List Record.Held) (fds : List ℕ) → withDescriptors (a ++ b) fds ≡ withDescriptors a fds ++ withDescriptors b (drop (Store.fdsIn a) fds)
+pub with-append : (a b : List Head.Record) (fds : List ℕ) → withDescriptors (a ++ b) fds ≡ withDescriptors a fds ++ withDescriptors b (drop (Store.fdsIn a) fds)
 unfolding withDescriptors Store.fdsIn
 with-append [] b fds = refl
 with-append (h ∷ a) b fds =
@@ -28,7 +28,7 @@ with-append (h ∷ a) b fds =
     (with-append a b (drop (h .fds) fds) ∙ ap (λ (x : List ℕ). withDescriptors a (drop (h .fds) fds) ++ withDescriptors b x) e)
 
 -- descriptors behind theirs do not matter
-pub with-more : (a : List Record.Held) (fds more : List ℕ) → Store.fdsIn a ≤ length fds → withDescriptors a (fds ++ more) ≡ withDescriptors a fds
+pub with-more : (a : List Head.Record) (fds more : List ℕ) → Store.fdsIn a ≤ length fds → withDescriptors a (fds ++ more) ≡ withDescriptors a fds
 unfolding withDescriptors Store.fdsIn
 with-more [] fds more h = refl
 with-more (x ∷ a) fds more h =
@@ -39,7 +39,7 @@ with-more (x ∷ a) fds more h =
     ∙ ap (λ (l : List Held). heldWith x (take (x .fds) fds) ∷ l) (with-more a (drop (x .fds) fds) more l)
 
 -- a row without records that stood in its midst, and without their k descriptors
-pub with-without : (before after : List Record.Held) (fds : List ℕ) (k : ℕ) → Store.fdsIn before ≤ length fds
+pub with-without : (before after : List Head.Record) (fds : List ℕ) (k : ℕ) → Store.fdsIn before ≤ length fds
     → withDescriptors (before ++ after) (take (Store.fdsIn before) fds ++ drop (Store.fdsIn before + k) fds)
     ≡ withDescriptors before fds ++ withDescriptors after (drop (Store.fdsIn before + k) fds)
 with-without before after fds k h =
@@ -52,12 +52,12 @@ with-without before after fds k h =
     with-append before after (x ++ y) ∙ (λ j. (u ∙ sym v) j ++ withDescriptors after (drop-at x y b l j))
 
 -- events, one row behind another
-pub events-append : (a b : List Record.Held) → map eventOf (a ++ b) ≡ map eventOf a ++ map eventOf b
+pub events-append : (a b : List Head.Record) → map eventOf (a ++ b) ≡ map eventOf a ++ map eventOf b
 events-append [] b = refl
 events-append (h ∷ a) b = ap (λ (l : List Held). eventOf h ∷ l) (events-append a b)
 
 -- all descriptors of the records are the row itself, as far as they have any
-pub descriptors-with : (a : List Record.Held) (fds : List ℕ) → descriptorsOf (withDescriptors a fds) ≡ take (Store.fdsIn a) fds
+pub descriptors-with : (a : List Head.Record) (fds : List ℕ) → descriptorsOf (withDescriptors a fds) ≡ take (Store.fdsIn a) fds
 unfolding withDescriptors Store.fdsIn descriptorsOf
 descriptors-with [] fds = refl
 descriptors-with (h ∷ a) fds =
@@ -65,15 +65,15 @@ descriptors-with (h ∷ a) fds =
 
 -- ---- costs
 
-pub costs-with : (a : List Record.Held) (fds : List ℕ) → costs (withDescriptors a fds) ≡ Store.costs a
+pub costs-with : (a : List Head.Record) (fds : List ℕ) → costs (withDescriptors a fds) ≡ Store.costs a
 unfolding withDescriptors costs Store.costs
 costs-with [] fds = refl
-costs-with (h ∷ a) fds = ap (λ (n : ℕ). Record.headerSize + length (h .packet) + n) (costs-with a (drop (h .fds) fds))
+costs-with (h ∷ a) fds = ap (λ (n : ℕ). Head.headerSize + length (h .packet) + n) (costs-with a (drop (h .fds) fds))
 
-pub costs-events : (a : List Record.Held) → costs (map eventOf a) ≡ Store.costs a
+pub costs-events : (a : List Head.Record) → costs (map eventOf a) ≡ Store.costs a
 unfolding costs Store.costs
 costs-events [] = refl
-costs-events (h ∷ a) = ap (λ (n : ℕ). Record.headerSize + length (h .packet) + n) (costs-events a)
+costs-events (h ∷ a) = ap (λ (n : ℕ). Head.headerSize + length (h .packet) + n) (costs-events a)
 
 -- ---- of a sound state
 

@@ -11,7 +11,7 @@ use Rattle.refusal.specs.Answer.{Answer, gives, refuse}
 use Rattle.held.specs.Head.{headerSize}
 use Rattle.held.specs.Find.{foundReply, foundEvent}
 use Rattle.held.specs.Moves.{Left, left, removed, demoted}
-use Rattle.held.specs.declared.Place.{Place}
+use Rattle.held.specs.declared.Spot.{Spot}
 use Rattle.held.specs.declared.Found.{Found}
 use Rattle.held.specs.declared.Found.the-variants as Found
 use Rattle.descriptors.specs.Room as Slots
@@ -37,36 +37,36 @@ abbrev pub moved : {A : Type 0} → A → Connection → Rooms → Left → Slot
 moved x c r l d = record { value = x; state = movedState c (l .window) (d .counts); left = rooms (r .requests) (l .store) (d .slots) }
 
 -- the packet at a place of the store
-abbrev pub packetAt : List ℕ → Place → List ℕ
+abbrev pub packetAt : List ℕ → Spot → List ℕ
 packetAt s p = cut (p .at + headerSize) (p .len) s
 
 -- what is handed out of it, with so many descriptors
-abbrev pub handedAt : Place → ℕ → Handed
+abbrev pub handedAt : Spot → ℕ → Handed
 handedAt p fds = record { number = record { 0 = p .number }; length = p .len; descriptors = fds }
 
 -- it is held with these descriptors
-abbrev pub heldAt : Rooms → Place → List ℕ → Held
+abbrev pub heldAt : Rooms → Spot → List ℕ → Held
 heldAt r p fds = heldPacket (p .number) (packetAt (r .store) p) fds
 
 -- an event, and a reply with its descriptors: they stand behind those of the replies before it
-abbrev pub eventAt : Rooms → Place → Held
+abbrev pub eventAt : Rooms → Spot → Held
 eventAt r p = heldAt r p []
 
-abbrev pub replyAt : Connection → Rooms → Place → Held
+abbrev pub replyAt : Connection → Rooms → Spot → Held
 replyAt c r p = heldAt r p (Slots.heldRun (p .before) (p .fds) (slotsOf c r))
 
 -- the record at a place is removed; it becomes an event
-abbrev pub without : Connection → Rooms → Place → Left
+abbrev pub without : Connection → Rooms → Spot → Left
 without c r p = removed (c .window) (r .store) p
 
-abbrev pub turnedEvent : Connection → Rooms → Place → Left
+abbrev pub turnedEvent : Connection → Rooms → Spot → Left
 turnedEvent c r p = left (c .window) (demoted (c .window) (r .store) p)
 
 -- its descriptors are handed out; they are to be closed
-abbrev pub handingOut : Connection → Rooms → Place → Slots.Room
+abbrev pub handingOut : Connection → Rooms → Spot → Slots.Room
 handingOut c r p = Slots.handOut (p .before) (p .fds) (slotsOf c r)
 
-abbrev pub closing : Connection → Rooms → Place → Slots.Room
+abbrev pub closing : Connection → Rooms → Spot → Slots.Room
 closing c r p = Slots.closeHeld (p .before) (p .fds) (slotsOf c r)
 
 -- ---- `poll_for_event_with_sequence`: the oldest event; nothing found, then 8
@@ -100,7 +100,7 @@ checkedExact c r n bytes = checkedFrom c r n bytes (foundReply n (c .window) (r 
 -- ---- `poll_for_reply`: the same, but an error becomes an event, which needs no output
 
 -- the first byte of the packet at a place is an error's
-abbrev pub errorAt : Rooms → Place → Bool
+abbrev pub errorAt : Rooms → Spot → Bool
 errorAt r p = eqb (getD (r .store) (p .at + headerSize) 0) errorCode
 
 abbrev pub repliedFrom : Connection → Rooms → ℕ → Found → Answer (Done Model.PollReply)

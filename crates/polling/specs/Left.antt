@@ -6,13 +6,13 @@ use native.Mathlib.Omega.{arith}
 use lib.Dec.{eqb}
 use lib.ListN.{length, take, drop, getD}
 use Rattle.octets.specs.Put.{cut, put-empty, length-cut}
-use Rattle.held.specs.Head as Record
+use Rattle.held.specs.Head as Head
 use Rattle.held.specs.Reading as Store
 use Rattle.held.specs.Rows.{fdsIn-append}
 use Rattle.held.specs.Moves.{Left, demoted, handed}
 use Rattle.held.specs.Lies.{FirstReply, FirstEvent}
 use Rattle.held.specs.Theorems as Held
-use Rattle.held.specs.declared.Place.{Place}
+use Rattle.held.specs.declared.Spot.{Spot}
 use Rattle.descriptors.specs.Room as Slots
 use Rattle.descriptors.specs.Theorems as Fds
 use Rattle.model.specs.Client.{heldPacket, setReplies, setEvents}
@@ -34,13 +34,13 @@ module _ (c : Connection) (r : Rooms) (S : Sound c r) where
 
   -- ---- the oldest event
 
-  module _ (p : Place) (F : FirstEvent (c .window) (r .store) p) where
-    event-removed : Held.Removed (c .read) Record.event (c .window) (r .store) [] (F .it) (F .after) (without c r p)
-    event-removed = Held.remove-law (c .read) (c .window) (r .store) (parts .held) Record.event p [] (F .it) (F .after) (F .lies)
+  module _ (p : Spot) (F : FirstEvent (c .window) (r .store) p) where
+    event-removed : Held.Removed (c .read) Head.event (c .window) (r .store) [] (F .it) (F .after) (without c r p)
+    event-removed = Held.remove-law (c .read) (c .window) (r .store) (parts .held) Head.event p [] (F .it) (F .after) (F .lies)
 
     event-packet : packetAt (r .store) p ≡ F .it .packet
     unfolding handed
-    event-packet = sym (put-empty _) ∙ Held.take-law (c .read) (c .window) (r .store) (parts .held) Record.event p [] (F .it) (F .after) (F .lies) [] ∙ put-empty _
+    event-packet = sym (put-empty _) ∙ Held.take-law (c .read) (c .window) (r .store) (parts .held) Head.event p [] (F .it) (F .after) (F .lies) [] ∙ put-empty _
 
     pub event-is : eventAt r p ≡ eventOf (F .it)
     event-is = λ k. heldPacket (F .number k) (event-packet k) []
@@ -49,20 +49,20 @@ module _ (c : Connection) (r : Rooms) (S : Sound c r) where
     unfolding reads
     event-left =
         moved-read c r (without c r p) (slotsOf c r) _ _ _ _
-        (ap (λ l. withDescriptors l (Slots.holding (slotsOf c r))) (event-removed .other Record.reply (λ q. omega arith)))
+        (ap (λ l. withDescriptors l (Slots.holding (slotsOf c r))) (event-removed .other Head.reply (λ q. omega arith)))
         (ap (map eventOf) (event-removed .own)) refl refl
 
     pub event-sound : Sound (movedState c (without c r p .window) (c .counts)) (rooms (r .requests) (without c r p .store) (r .slots))
     event-sound = moved-sound c r S (without c r p) (slotsOf c r) (event-removed .long) (event-removed .sound) (parts .slots)
-        (ap Store.fdsIn (event-removed .other Record.reply (λ q. omega arith)) ∙ S .descriptors)
+        (ap Store.fdsIn (event-removed .other Head.reply (λ q. omega arith)) ∙ S .descriptors)
 
   -- ---- the oldest reply of a number
 
-  module _ (n : ℕ) (p : Place) (F : FirstReply n (c .window) (r .store) p) where
-    abbrev it : Record.Held
+  module _ (n : ℕ) (p : Spot) (F : FirstReply n (c .window) (r .store) p) where
+    abbrev it : Head.Record
     it = F .it
 
-    abbrev others : List Record.Held
+    abbrev others : List Head.Record
     others = F .before ++ F .after
 
     abbrev fds : List ℕ
@@ -72,15 +72,15 @@ module _ (c : Connection) (r : Rooms) (S : Sound c r) where
     abbrev keep : List ℕ
     keep = take (p .before) fds ++ drop (p .before + p .fds) fds
 
-    reply-removed : Held.Removed (c .read) Record.reply (c .window) (r .store) (F .before) it (F .after) (without c r p)
-    reply-removed = Held.remove-law (c .read) (c .window) (r .store) (parts .held) Record.reply p (F .before) it (F .after) (F .lies)
+    reply-removed : Held.Removed (c .read) Head.reply (c .window) (r .store) (F .before) it (F .after) (without c r p)
+    reply-removed = Held.remove-law (c .read) (c .window) (r .store) (parts .held) Head.reply p (F .before) it (F .after) (F .lies)
 
     reply-demoted : Held.Demoted (c .read) (c .window) (r .store) (F .before) it (F .after) (demoted (c .window) (r .store) p)
     reply-demoted = Held.demote-law (c .read) (c .window) (r .store) (parts .held) p (F .before) it (F .after) (F .lies)
 
     reply-packet : packetAt (r .store) p ≡ it .packet
     unfolding handed
-    reply-packet = sym (put-empty _) ∙ Held.take-law (c .read) (c .window) (r .store) (parts .held) Record.reply p (F .before) it (F .after) (F .lies) [] ∙ put-empty _
+    reply-packet = sym (put-empty _) ∙ Held.take-law (c .read) (c .window) (r .store) (parts .held) Head.reply p (F .before) it (F .after) (F .lies) [] ∙ put-empty _
 
     -- all that the replies have, are counted as held
     all-fds : Store.fdsIn (F .before) + (it .fds + Store.fdsIn (F .after)) ≡ c .counts .held
@@ -124,21 +124,21 @@ module _ (c : Connection) (r : Rooms) (S : Sound c r) where
     unfolding reads
     taken-left =
         moved-read c r (without c r p) (handingOut c r p) _ _ _ _ (replies-left (without c r p) (handingOut c r p) (reply-removed .own) (handed-lists .holding-is))
-        (ap (map eventOf) (reply-removed .other Record.event (λ q. omega arith))) (handed-lists .waiting-is) (handed-lists .closing-is)
+        (ap (map eventOf) (reply-removed .other Head.event (λ q. omega arith))) (handed-lists .waiting-is) (handed-lists .closing-is)
 
     pub closed-left : reads (movedState c (without c r p .window) (closing c r p .counts)) (rooms (r .requests) (without c r p .store) (closing c r p .slots))
         ≡ Model.close (replyAt c r p .descriptors) (setReplies (reads c r) (withDescriptors others keep))
     unfolding reads
     closed-left =
         moved-read c r (without c r p) (closing c r p) _ _ _ _ (replies-left (without c r p) (closing c r p) (reply-removed .own) (closed-lists .holding-is))
-        (ap (map eventOf) (reply-removed .other Record.event (λ q. omega arith))) (closed-lists .waiting-is) (closed-lists .closing-is)
+        (ap (map eventOf) (reply-removed .other Head.event (λ q. omega arith))) (closed-lists .waiting-is) (closed-lists .closing-is)
 
     pub turned-left : reads (movedState c (c .window) (closing c r p .counts)) (rooms (r .requests) (demoted (c .window) (r .store) p) (closing c r p .slots))
         ≡ Model.close (replyAt c r p .descriptors) (setEvents (setReplies (reads c r) (withDescriptors others keep)) (reads c r .events ++ (Model.asEvent (replyAt c r p) ∷ [])))
     unfolding reads
     turned-left =
         moved-read c r (turnedEvent c r p) (closing c r p) _ _ _ _ (replies-left (turnedEvent c r p) (closing c r p) (reply-demoted .replies) (closed-lists .holding-is))
-        (ap (map eventOf) (reply-demoted .events) ∙ events-append (Store.events (c .window) (r .store)) (Record.asEvent it ∷ [])
+        (ap (map eventOf) (reply-demoted .events) ∙ events-append (Store.events (c .window) (r .store)) (Head.asEvent it ∷ [])
         ∙ (λ k. map eventOf (Store.events (c .window) (r .store)) ++ (Model.asEvent (sym reply-is k) ∷ [])))
         (closed-lists .waiting-is) (closed-lists .closing-is)
 
@@ -166,7 +166,7 @@ module _ (c : Connection) (r : Rooms) (S : Sound c r) where
     -- its first byte in the store is its packet's
     pub same-error : errorAt r p ≡ Model.isError (replyAt c r p)
     same-error =
-        ap (λ (b : ℕ). eqb b errorCode) (Held.first-law (c .read) (c .window) (r .store) (parts .held) Record.reply p (F .before) it (F .after) (F .lies) .1
+        ap (λ (b : ℕ). eqb b errorCode) (Held.first-law (c .read) (c .window) (r .store) (parts .held) Head.reply p (F .before) it (F .after) (F .lies) .1
         ∙ ap (λ (l : List ℕ). getD l 0 0) (sym reply-packet))
 
     pub bytes-is : p .len ≡ length (replyAt c r p .packet)

@@ -11,7 +11,7 @@ use Rattle.octets.specs.Logic.{choose}
 use Rattle.octets.specs.Put.{cut}
 use Rattle.refusal.specs.Answer.{Answer}
 use Rattle.held.specs.General.{choose-yes, choose-no}
-use Rattle.held.specs.Head as Record
+use Rattle.held.specs.Head as Head
 use Rattle.held.specs.Reading.{All, fdsIn}
 use Rattle.held.specs.Lies.{Other}
 use Rattle.model.specs.Client.{Held}
@@ -30,7 +30,7 @@ model-choose false x y = refl
 -- ---- rows of records with their descriptors
 
 -- the first of a number is found behind those of other numbers,
-pub find-at : (n : ℕ) (before : List Record.Held) (fds : List ℕ) (h : Held) (l : List Held) → All (Other n) before → h .number ≡ n
+pub find-at : (n : ℕ) (before : List Head.Record) (fds : List ℕ) (h : Held) (l : List Held) → All (Other n) before → h .number ≡ n
     → find n (withDescriptors before fds ++ (h ∷ l)) ≡ at h (withDescriptors before fds ++ l)
 unfolding find withDescriptors All
 find-at n [] fds h l a e = choose-yes (eqb (h .number) n) (at h l) (behind h (find n l)) (eq-eqb (h .number) n e)
@@ -41,7 +41,7 @@ find-at n (x ∷ before) fds h l a e =
     ∙ ap (behind (heldWith x (take (x .fds) fds))) (find-at n before (drop (x .fds) fds) h l (a .1) e)
 
 -- and none where all are of others.
-pub find-none : (n : ℕ) (row : List Record.Held) (fds : List ℕ) → All (Other n) row → find n (withDescriptors row fds) ≡ nothing
+pub find-none : (n : ℕ) (row : List Head.Record) (fds : List ℕ) → All (Other n) row → find n (withDescriptors row fds) ≡ nothing
 unfolding find withDescriptors All
 find-none n [] fds a = refl
 find-none n (x ∷ row) fds a =
@@ -50,7 +50,7 @@ find-none n (x ∷ row) fds a =
     (ne-eqb (x .number) n (a .0))
     ∙ ap (behind (heldWith x (take (x .fds) fds))) (find-none n row (drop (x .fds) fds) (a .1))
 
-module _ (before : List Record.Held) (it : Record.Held) (after : List Record.Held) (fds : List ℕ) where
+module _ (before : List Head.Record) (it : Head.Record) (after : List Head.Record) (fds : List ℕ) where
   -- a row, split at one of its records
   pub with-split : withDescriptors (before ++ (it ∷ after)) fds
       ≡ withDescriptors before fds ++ (heldWith it (cut (fdsIn before) (it .fds) fds) ∷ withDescriptors after (drop (fdsIn before + it .fds) fds))

@@ -20,7 +20,7 @@ use Rattle.held.specs.Moves.{Left, Leaves, Within, Takes, demoted, handed}
 use Rattle.held.specs.Lies.{FirstReply, FirstEvent, FindsReply, FindsEvent}
 use Rattle.held.specs.Theorems.{find-reply-law, find-event-law, place-law, first-law}
 use Rattle.held.specs.declared.Window.{Window}
-use Rattle.held.specs.declared.Place.{Place}
+use Rattle.held.specs.declared.Spot.{Spot}
 use Rattle.held.specs.declared.Found.the-variants as Found
 use Rattle.descriptors.specs.Room as Slots
 use Rattle.descriptors.specs.Theorems.{length-holding}
@@ -62,7 +62,7 @@ unfolding outputOf
 output-refused f e out n h = ap (λ k. outputOf f k out) h
 
 -- what is handed out of a place is as much as its packet and its descriptors
-handed-is : (p : Place) (packet fds : List ℕ) (k : ℕ) → p .len ≡ length packet → k ≡ length fds → handedAt p k ≡ handedWith (heldPacket (p .number) packet fds) (length fds)
+handed-is : (p : Spot) (packet fds : List ℕ) (k : ℕ) → p .len ≡ length packet → k ≡ length fds → handedAt p k ≡ handedWith (heldPacket (p .number) packet fds) (length fds)
 handed-is p packet fds k l n = λ j. record { number = record { 0 = p .number }; length = l j; descriptors = n j }
 
 -- ---- the oldest event
@@ -72,7 +72,7 @@ pub record MetEvent : Type 0 where
   pub c : Connection
   pub s : List ℕ
   pub sound : Store.Sound (c .read) (c .window) s
-  pub p : Place
+  pub p : Spot
   pub found : Found.At p ≡ foundEvent (c .window) s
 
 module _ (met : MetEvent) where
@@ -126,7 +126,7 @@ pub record MetReply : Type 0 where
   pub s : List ℕ
   pub f : List ℕ
   pub ready : Ready c s f
-  pub p : Place
+  pub p : Spot
   pub found : Found.At p ≡ foundReply n (c .window) s
 
 module _ (met : MetReply) where

@@ -6,7 +6,7 @@
 // it is in the model's terms, and that the state it leaves is sound. (01, Numbering and filing; the
 // order of refusals is 01's for taking: nothing found, then 8.)
 use held::Found;
-use held::Place;
+use held::Spot;
 use model::Connection;
 use model::Event;
 use model::Handed;
@@ -145,7 +145,7 @@ pub fn poll_for_reply(
 }
 
 // What is handed out of the record at a place, with so many descriptors.
-fn handed_out(place: Place, fds: usize) -> Handed
+fn handed_out(place: Spot, fds: usize) -> Handed
     ensures { λ r. ⌜ r ≡ handedAt place fds ⌝ }
 {
     Handed {

@@ -4,8 +4,8 @@ use leaves::Leaves;
 use model::Connection;
 use model::Next;
 use refusal::Refusal;
-use script::Op;
 use script::Input;
+use script::Op;
 
 // What a script works on; where the text ends that waits; and how many commands there were.
 pub struct State {

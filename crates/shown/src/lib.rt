@@ -152,7 +152,7 @@ fn event(store: &[u8], at: usize, out: &mut [u8], waiting: usize) -> usize {
     if store.len() - held::HEADER < at {
         return waiting;
     }
-    if held::kind_at(store, at) != held::EVENT {
+    if held::kind_at(store, at) != held::IN_EVENTS {
         return waiting;
     }
     record(store, at, out, waiting)
@@ -219,7 +219,7 @@ fn reply(
     if store.len() - held::HEADER < at {
         return waiting;
     }
-    if held::kind_at(store, at) != held::REPLY {
+    if held::kind_at(store, at) != held::IN_REPLIES {
         return waiting;
     }
     let a = record(store, at, out, waiting);

@@ -9,7 +9,7 @@ use Rattle.octets.specs.Put.{cut}
 use Rattle.refusal.specs.Answer.{Answer, gives, refuses, refuse}
 use Rattle.requests.specs.Room.{sized, capacity, requestAt}
 use Rattle.requests.specs.declared.Request.{Request}
-use Rattle.held.specs.Head.{Held, decoded, cost, headerSize, numOf, lenOf, fdsOf, kindOf}
+use Rattle.held.specs.Head.{Record, decoded, cost, headerSize, numOf, lenOf, fdsOf, kindOf}
 use Rattle.held.specs.Front.{Begins, Stands, begins-stands}
 use Rattle.answers.specs.Shown.{modeNumber, kindNumber}
 
@@ -22,12 +22,12 @@ abbrev pub requestFields : Request → List ℕ
 requestFields q = cond (q .descriptors) 1 0 ∷ modeNumber (q .mode) ∷ []
 
 -- The record that the bytes from an index up to an end begin with, or 9 where they begin with none or are not there.
-pub data Looks (s : List ℕ) (at end : ℕ) : Answer Held → Type 0 where
+pub data Looks (s : List ℕ) (at end : ℕ) : Answer Record → Type 0 where
   here : at ≤ end → end ≤ length s → Begins (cut at (end - at) s) → Looks s at end (gives (decoded (cut at (end - at) s)))
   nowhere : (at ≤ end → end ≤ length s → Begins (cut at (end - at) s) → ⊥) → Looks s at end (refuses 9)
 
 -- its kind, its number, the length of its packet and its descriptors
-abbrev pub recordFields : Held → List ℕ
+abbrev pub recordFields : Record → List ℕ
 recordFields h = kindNumber (h .kind) ∷ h .number ∷ length (h .packet) ∷ h .fds ∷ []
 
 -- ---- laws
@@ -41,7 +41,7 @@ unfolding requestKept refuse
 kept-some room n e h = let q : sized (capacity room) room ≡ true = ap (λ (m : ℕ). sized m room) (sym e) ∙ h in simp q
 
 -- Any two answers that looking may give are equal.
-pub looks-one : {s : List ℕ} {at end : ℕ} (a b : Answer Held) → Looks s at end a → Looks s at end b → a ≡ b
+pub looks-one : {s : List ℕ} {at end : ℕ} (a b : Answer Record) → Looks s at end a → Looks s at end b → a ≡ b
 looks-one a b (here p q r) (here k l m) = refl
 looks-one a b (here p q r) (nowhere h) = absurd (h p q r)
 looks-one a b (nowhere h) (here p q r) = absurd (h p q r)

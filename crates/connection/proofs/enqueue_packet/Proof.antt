@@ -1,6 +1,6 @@
 -- `connection::enqueue_packet` meets its contract. Assumes nothing.
 use native.Mathlib.Omega.{arith}
-use Rattle.intake.specs.Theorems.{ready, enqueue-model}
+use Rattle.intake.specs.Theorems.{takeable, enqueue-model}
 use Rattle.model.specs.Promise.{promise-unsound, promise-sound}
 use Rattle.model.specs.Sound.{sound-is, sound-seen, unsound-seen}
 use borrow.Author.Needs.{needs}
@@ -20,7 +20,7 @@ returns : tie.Need-returns
 returns c = promise-unsound _ _ _ _ _ (λ S. enqueue-model _ _ S _ (omega (arith, c .before .before .before .before .shared-slice-known2 .given 1))) (unsound-seen _ _ _ (c .before .is-sound .ensures) (c .if1 .taken))
 
 enqueue-packet-requires : tie.Need-enqueue-packet-requires
-enqueue-packet-requires c κs = ready _ _ (sound-is _ _ (sound-seen _ _ _ (c .before .before .before .is-sound .ensures) (c .before .before .if1 .left)))
+enqueue-packet-requires c κs = takeable _ _ (sound-is _ _ (sound-seen _ _ _ (c .before .before .before .is-sound .ensures) (c .before .before .if1 .left)))
 
 same-length-3 : tie.Need-same-length-3
 same-length-3 c = search needs

@@ -4,7 +4,7 @@ use lib.ListN.{length}
 use native.Mathlib.Omega.{arith}
 use mathlib.Core.Path.{refl}
 use borrow.Author.Needs.{needs}
-use Rattle.intake.specs.Theorems.{ready}
+use Rattle.intake.specs.Theorems.{takeable}
 use Rattle.batch.specs.FeedLoop.{Inv, inv-start, inv-end, inv-stop, inv-least, inv-next}
 use Rattle.batch.specs.Plain.{ahead-event, sound-writable}
 use Rattle.batch.proofs.feed.enqueue_packets.Statement.{statement}
@@ -53,7 +53,7 @@ enum-told : tie.Need-enum-told Inv-loop μ-loop
 enum-told c = search needs
 
 front-turn-requires : tie.Need-front-turn-requires Inv-loop μ-loop
-front-turn-requires c κs = ready _ _ (c .before .before .before .before .before .before .before .before .loop .inv .sound)
+front-turn-requires c κs = takeable _ _ (c .before .before .before .before .before .before .before .before .loop .inv .sound)
 
 enum-known-n : tie.Need-enum-known-n Inv-loop μ-loop
 enum-known-n c = search needs

@@ -5,7 +5,7 @@ use Prim.Native.Nat.{ℕ, _+_, _-_, _≤_, _<_}
 use native.Mathlib.Omega.{arith}
 use lib.ListN.{length, drop}
 use Rattle.octets.specs.Put.{cut}
-use Rattle.held.specs.Head.{Held, headerSize, numOf, lenOf, kindOf, reply}
+use Rattle.held.specs.Head.{Record, headerSize, numOf, lenOf, kindOf, reply}
 use Rattle.held.specs.Reading.{readAll, records, only}
 use Rattle.held.specs.Rest.{Rest, Turn, rest-all, rest-none, turn, turn-room, turn-behind}
 use Rattle.held.specs.Tally.{own, higher, tallyOf, tallied, tallyOne, own-front, above-front, one-few}
@@ -14,12 +14,12 @@ use Rattle.held.proofs.counting.count.Statement.{statement}
 use Rattle.held.proofs.counting.count.Tie as tie
 
 -- the replies in all
-abbrev rs : List ℕ → ℕ → ℕ → List Held
+abbrev rs : List ℕ → ℕ → ℕ → List Record
 rs s start end = only reply (readAll (cut start (end - start) s))
 
 -- what was counted and what the records hs that are left count is what all count
 record Inv (s : List ℕ) (n start end at a b : ℕ) : Type 0 where
-  hs : List Held
+  hs : List Record
   rest : Rest s at end hs
   few : (a ≤ at) × (b ≤ at)
   owns : length (own n (rs s start end)) ≡ a + length (own n (only reply hs))
@@ -30,8 +30,8 @@ module _ (s : List ℕ) (n start end at a b : ℕ) (I : Inv s n start end at a b
   unfolding own higher only
   ends h =
       let z : I .hs ≡ [] = rest-none s at end (I .hs) (I .rest) h in
-      let p : a ≡ length (own n (rs s start end)) = omega (arith, I .owns, ap (λ (l : List Held). length (own n (only reply l))) z) in
-      let q : b ≡ length (higher n (rs s start end)) = omega (arith, I .aboves, ap (λ (l : List Held). length (higher n (only reply l))) z) in
+      let p : a ≡ length (own n (rs s start end)) = omega (arith, I .owns, ap (λ (l : List Record). length (own n (only reply l))) z) in
+      let q : b ≡ length (higher n (rs s start end)) = omega (arith, I .aboves, ap (λ (l : List Record). length (higher n (only reply l))) z) in
       λ k. record { own = p k; above = q k }
 
   module _ (below : at < end) (one : Tally) (e : one ≡ tallyOne n (kindOf (drop at s)) (numOf (drop at s))) where
@@ -50,8 +50,8 @@ module _ (s : List ℕ) (n start end at a b : ℕ) (I : Inv s n start end at a b
           hs = T .others;
           rest = turn-behind s at end (I .hs) (I .rest) below len p;
           few = (omega (arith, once, I .few), omega (arith, once, I .few));
-          owns = omega (arith, I .owns, ap (λ (l : List Held). length (own n (only reply l))) (T .is), own-front n (T .it) (T .others), ap (λ (x : Tally). x .own) is-one);
-          aboves = omega (arith, I .aboves, ap (λ (l : List Held). length (higher n (only reply l))) (T .is), above-front n (T .it) (T .others), ap (λ (x : Tally). x .above) is-one);
+          owns = omega (arith, I .owns, ap (λ (l : List Record). length (own n (only reply l))) (T .is), own-front n (T .it) (T .others), ap (λ (x : Tally). x .own) is-one);
+          aboves = omega (arith, I .aboves, ap (λ (l : List Record). length (higher n (only reply l))) (T .is), above-front n (T .it) (T .others), ap (λ (x : Tally). x .above) is-one);
         }
 
 abbrev Inv-loop : tie.InvT-loop

@@ -7,7 +7,7 @@ use native.Mathlib.Omega.{arith}
 use lib.ListN.{drop}
 use Rattle.octets.specs.Put.{cut}
 use Rattle.held.specs.General.{choose-yes, choose-no}
-use Rattle.held.specs.Head.{Held, headerSize, numOf, lenOf, fdsOf, kindOf}
+use Rattle.held.specs.Head.{Record, headerSize, numOf, lenOf, fdsOf, kindOf}
 use Rattle.held.specs.Reading.{readAll, records}
 use Rattle.held.specs.Rest.{Rest, Turn, rest-all, rest-none, turn, turn-room, turn-behind}
 use Rattle.held.specs.Find.{sought, suits, wanted}
@@ -18,7 +18,7 @@ use Rattle.held.proofs.find.find.Tie as tie
 
 -- the records hs that are left say what all say; each has at most 255 descriptors and 48 bytes or more
 record Inv (s : List ℕ) (kind : ℕ) (any : Bool) (number start end at before : ℕ) : Type 0 where
-  hs : List Held
+  hs : List Record
   rest : Rest s at end hs
   few : before ≤ 6 * at
   same : sought (wanted kind any number) start 0 (readAll (cut start (end - start) s)) ≡ sought (wanted kind any number) at before hs
