@@ -1,2 +1,4 @@
 pub mod Numbering
 pub mod Sending
+pub mod Promises
+pub mod Examples

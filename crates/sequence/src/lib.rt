@@ -7,7 +7,8 @@
 ghost use mathlib.Core.Path.{_≡_};
 ghost use Prim.Native.Nat.{_≤_, _<_};
 ghost use Rattle.sequence.specs.Numbering.{FullNumber, saysFull, full, lastNumber, wireValues};
-ghost use Rattle.sequence.specs.Sending.{sending, saysSent, mustSync};
+ghost use Rattle.sequence.specs.Sending.{mustSync};
+ghost use Rattle.sequence.specs.Promises.{SendsNumber};
 use refusal::Refusal;
 
 // The 16 bits that a packet carries of the number of its request.
@@ -80,7 +81,7 @@ fn must_sync(written: u64, expected: u64) -> bool
 // the numbers, and then by 6 where the request has no reply and a sync must come first; a request
 // with a reply is never refused by 6.
 pub fn send(written: SequenceNumber, expected: SequenceNumber, reply: bool) -> Sent
-    ensures { λ r. ⌜ saysSent r ≡ sending (written .0) (expected .0) reply ⌝ }
+    ensures { λ r. ⌜ SendsNumber (written .0) (expected .0) reply r ⌝ }
 {
     let last = written.0;
     if LAST_NUMBER <= last {

@@ -1,5 +1,6 @@
-// The engine as a static library: its public calls, for C and whoever can call C. Left out are `front`
-// and `has_length` of the reader, a refusal's `number`, and the calls that are lent an id allocator.
+// The engine as a static library: its public calls, for C and whoever can call C. Left out are
+// `unfilled`, whose numbers the two `buffer` calls give, `front`, which is inside, a refusal's
+// `number`, and the calls that are lent an id allocator.
 //
 // Every function is `xm_` and the name of the call below it. It answers 0, or the number of a refusal,
 // and then the state, every lent room and every number behind a pointer are as they were. State is a
