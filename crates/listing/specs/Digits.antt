@@ -6,6 +6,8 @@ use native.Mathlib.Nat.{pow-succ', one-le-pow, pow-le-pow-right}
 use native.Mathlib.Decide.{decLe}
 use native.Mathlib.Omega.{arith}
 use lib.Dec.{ltb}
+use mir.Syntax.{w64}
+use mir.Val.{Fits}
 use borrow.Author.Tests.{lt-ltb, le-ltb}
 use Rattle.io.specs.Digits.{digits, Fewest, glyph}
 use Rattle.listing.specs.Text.{digitsIn, decimal}
@@ -41,7 +43,7 @@ decimal-is n zero f = let z : ⊥ = omega (arith, f .0) in absurd z
 decimal-is n (suc k) f = digits-in k n (suc n) (omega arith) (f .1) (λ h. let e : suc k - 1 ≡ k = omega arith in subst (λ (j : ℕ). 10 ^ j ≤ n) e (f .2 (omega arith)))
 
 -- A number of 64 bits has at most 20 digits.
-pub few-digits : (n k : ℕ) → n < 18446744073709551616 → Fewest 10 1 n k → k ≤ 20
+pub few-digits : (n k : ℕ) → Fits w64 n → Fewest 10 1 n k → k ≤ 20
 few-digits n k h f =
     elim (decLe k 20) [
       | yes p ↦ p
@@ -49,5 +51,5 @@ few-digits n k h f =
           let m : 20 ≤ k - 1 = omega arith in
           let w : 10 ^ 20 ≤ 10 ^ (k - 1) = pow-le-pow-right {n = 10} (omega arith) {i = 20} m in
           let l : 10 ^ (k - 1) ≤ n = f .2 (omega arith) in
-          absurd (let z : ⊥ = omega arith in z)
+          absurd (let z : ⊥ = omega (arith, h) in z)
     ]

@@ -4,5 +4,6 @@ pub mod Call
 pub mod Laws
 pub mod Loop
 pub mod Due
+pub mod Ends
 pub mod Theorems
 pub mod Examples

@@ -223,23 +223,29 @@ call-ended over place s out e =
     subst (λ (p : Place). Lists (callOf over (length out) (spotOf p) s) 0 0 out (record { used = 0; written = 0; place = Place.Ended; wants = Wants.Nothing }) out) (sym e)
     (record { used = refl; written = refl; place = refl; wants = refl; fits = omega arith; stands = sym (put-none out 0) })
 
--- what is not used is held at the start of the buffer
-pub list-turns : (row : Row) (buf : List ℕ) (held : ℕ) (out : List ℕ) (r : Listed) (buf' out' : List ℕ) → held ≤ length buf → row .used ≤ length (take held buf) → Lists row 0 0 out r out'
-    → buf' ≡ put buf 0 (cut (r .used) (held - r .used) buf) → Turns row buf held out (record { held = held - r .used; written = r .written; place = r .place; wants = r .wants }) buf' out'
-unfolding cut
-list-turns row buf held out r buf' out' h u L b =
-    let l : length (take held buf) ≡ held = length-take-le held buf h in
-    let e : r .used ≡ row .used = omega (arith, L .used) in
-    let a : r .used + (held - r .used) ≡ held = omega arith in
-    let d : take (held - r .used) (drop (r .used) buf) ≡ drop (row .used) (take held buf) =
-    take-drop (r .used) (held - r .used) buf ∙ (λ i. drop (e i) (take (a i) buf)) in
-    record {
-      kept = omega (arith, length-drop (row .used) (take held buf));
-      within = omega arith;
-      written = omega (arith, L .written);
-      fits = omega (arith, L .written, L .fits, ap length (L .stands), length-put out 0 (row .text) (L .fits));
-      place = L .place;
-      wants = L .wants;
-      holds = b ∙ ap (put buf 0) d;
-      stands = L .stands;
-    }
+module _ (over : Bool) (place : Place) (buf : List ℕ) (held : ℕ) (out : List ℕ) (r : Listed) (out' : List ℕ) (h : held ≤ length buf) (L : Lists (callOf over (length out) (spotOf place) (take held buf)) 0 0 out r out') where
+  pub list-used : r .used ≤ held
+  list-used = omega (arith, L .used, call-used over (length out) (spotOf place) (take held buf), length-take-le held buf h)
+
+  -- what is not used is held at the start of the buffer
+  pub list-turns : (buf' : List ℕ) → buf' ≡ put buf 0 (cut (r .used) (held - r .used) buf)
+      → Turns (callOf over (length out) (spotOf place) (take held buf)) buf held out (record { held = held - r .used; written = r .written; place = r .place; wants = r .wants }) buf' out'
+  unfolding cut
+  list-turns buf' b =
+      let row : Row = callOf over (length out) (spotOf place) (take held buf) in
+      let l : length (take held buf) ≡ held = length-take-le held buf h in
+      let e : r .used ≡ row .used = omega (arith, L .used) in
+      let u : r .used ≤ held = list-used in
+      let a : r .used + (held - r .used) ≡ held = omega arith in
+      let d : take (held - r .used) (drop (r .used) buf) ≡ drop (row .used) (take held buf) =
+      take-drop (r .used) (held - r .used) buf ∙ (λ i. drop (e i) (take (a i) buf)) in
+      record {
+        kept = omega (arith, length-drop (row .used) (take held buf));
+        within = omega arith;
+        written = omega (arith, L .written);
+        fits = omega (arith, L .written, L .fits, ap length (L .stands), length-put out 0 (row .text) (L .fits));
+        place = L .place;
+        wants = L .wants;
+        holds = b ∙ ap (put buf 0) d;
+        stands = L .stands;
+      }

@@ -4,15 +4,15 @@
 // an output. A call takes lines of as many packets as the bytes have and the output has room for,
 // and says what it wants then. Nothing is kept here, and nothing is read or written but what is
 // lent: the text of a stream is the same however the bytes come and however often the output is
-// handed on (`gathered`).
+// handed on (`any-pieces`).
 mod lines;
 
 use lines::Listed;
+use lines::MOST_LINE;
 use sequence::SequenceNumber;
 ghost use Prim.Native.Nat.{_≤_};
 ghost use lib.ListN.{length, take};
 ghost use Rattle.listing.specs.Call.{opening, callOf, spotOf, Lists, Turns};
-pub use lines::MOST_LINE;
 
 // Where a listing is: nothing is written yet, all that is used is written and this is the last
 // number read, or the last line is written.

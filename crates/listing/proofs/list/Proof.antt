@@ -2,10 +2,8 @@
 use mathlib.Core.Path.{sym}
 use native.Mathlib.Omega.{arith}
 use lib.Seq.{length-take-le}
-use lib.ListN.{length, take}
 use borrow.Author.Needs.{needs}
-use Rattle.listing.specs.Loop.{call-used, list-turns}
-use Rattle.listing.specs.Call.{spotOf}
+use Rattle.listing.specs.Loop.{list-used, list-turns}
 use Rattle.listing.proofs.list.Statement.{statement}
 use Rattle.listing.proofs.list.Tie as tie
 
@@ -19,10 +17,10 @@ call-requires : tie.Need-call-requires
 call-requires c κs = search needs
 
 sub-left : tie.Need-sub-left
-sub-left c = let u = call-used (c .before .before .before .before .before .before .before .args .over) (length (c .before .before .before .before .before .before .before .args .out .now)) (spotOf (c .before .before .before .before .before .before .before .args .place)) (take (c .before .before .before .before .before .before .before .args .held) (c .before .before .before .before .before .before .before .args .buf .now)) in let l = length-take-le (c .before .before .before .before .before .before .before .args .held) (c .before .before .before .before .before .before .before .args .buf .now) (c .before .before .before .before .before .before .before .pre) in omega (arith, c .before .before .call .ensures .used)
+sub-left c = list-used (c .before .before .before .before .before .before .before .args .over) (c .before .before .before .before .before .before .before .args .place) (c .before .before .before .before .before .before .before .args .buf .now) (c .before .before .before .before .before .before .before .args .held) (c .before .before .before .before .before .before .before .args .out .now) (c .before .before .call .result) _ (c .before .before .before .before .before .before .before .pre) (c .before .before .call .ensures)
 
 slide-requires : tie.Need-slide-requires
-slide-requires c κs = let u = call-used (c .before .before .before .before .before .before .before .before .args .over) (length (c .before .before .before .before .before .before .before .before .args .out .now)) (spotOf (c .before .before .before .before .before .before .before .before .args .place)) (take (c .before .before .before .before .before .before .before .before .args .held) (c .before .before .before .before .before .before .before .before .args .buf .now)) in let l = length-take-le (c .before .before .before .before .before .before .before .before .args .held) (c .before .before .before .before .before .before .before .before .args .buf .now) (c .before .before .before .before .before .before .before .before .pre) in (omega (arith, c .before .before .before .call .ensures .used), omega (arith, c .before .before .before .call .ensures .used))
+slide-requires c κs = let u = list-used (c .before .before .before .before .before .before .before .before .args .over) (c .before .before .before .before .before .before .before .before .args .place) (c .before .before .before .before .before .before .before .before .args .buf .now) (c .before .before .before .before .before .before .before .before .args .held) (c .before .before .before .before .before .before .before .before .args .out .now) (c .before .before .before .call .result) _ (c .before .before .before .before .before .before .before .before .pre) (c .before .before .before .call .ensures) in (omega arith, omega arith)
 
 same-length : tie.Need-same-length
 same-length c = search needs
@@ -31,7 +29,7 @@ same-length-2 : tie.Need-same-length-2
 same-length-2 c = search needs
 
 returns : tie.Need-returns
-returns c = let u = call-used (c .before .before .before .before .before .before .before .before .before .before .before .args .over) (length (c .before .before .before .before .before .before .before .before .before .before .before .args .out .now)) (spotOf (c .before .before .before .before .before .before .before .before .before .before .before .args .place)) (take (c .before .before .before .before .before .before .before .before .before .before .before .args .held) (c .before .before .before .before .before .before .before .before .before .before .before .args .buf .now)) in let l = length-take-le (c .before .before .before .before .before .before .before .before .before .before .before .args .held) (c .before .before .before .before .before .before .before .before .before .before .before .args .buf .now) (c .before .before .before .before .before .before .before .before .before .before .before .pre) in list-turns _ _ _ _ (c .before .before .before .before .before .before .call .result) _ _ (c .before .before .before .before .before .before .before .before .before .before .before .pre) u (c .before .before .before .before .before .before .call .ensures) (c .before .before .slide .ensures)
+returns c = list-turns (c .before .before .before .before .before .before .before .before .before .before .before .args .over) (c .before .before .before .before .before .before .before .before .before .before .before .args .place) (c .before .before .before .before .before .before .before .before .before .before .before .args .buf .now) (c .before .before .before .before .before .before .before .before .before .before .before .args .held) (c .before .before .before .before .before .before .before .before .before .before .before .args .out .now) (c .before .before .before .before .before .before .call .result) _ (c .before .before .before .before .before .before .before .before .before .before .before .pre) (c .before .before .before .before .before .before .call .ensures) _ (c .before .before .slide .ensures)
 
 pub list-spec : {M : Type 1} → statement M
 list-spec =

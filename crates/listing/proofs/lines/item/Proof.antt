@@ -1,5 +1,4 @@
 -- `listing::lines::item` meets its contract. Assumes nothing.
-use Prim.Native.Nat.{_<_, _≤_}
 use native.Mathlib.Omega.{arith}
 use borrow.Author.Needs.{needs}
 use Rattle.listing.specs.Digits.{few-digits}
@@ -17,22 +16,22 @@ slice-aggregate-copy-in : tie.Need-slice-aggregate-copy-in
 slice-aggregate-copy-in c = search needs
 
 copy-in-requires : tie.Need-copy-in-requires
-copy-in-requires c κs = let b : c .before .before .before .before .before .args .n < 18446744073709551616 = omega (arith, c .before .before .before .before .before .fits .n) in let f : c .before .before .decimal .result ≤ 20 = few-digits (c .before .before .before .before .before .args .n) (c .before .before .decimal .result) b (c .before .before .decimal .ensures .1 .0) in omega (arith, c .before .before .decimal .ensures .0 .1)
+copy-in-requires c κs = let f = few-digits _ _ (c .before .before .before .before .before .fits .n) (c .before .before .decimal .ensures .1 .0) in omega (arith, c .before .before .decimal .ensures .0 .1)
 
 add-end : tie.Need-add-end
-add-end c = let b : c .before .before .before .before .before .before .before .before .args .n < 18446744073709551616 = omega (arith, c .before .before .before .before .before .before .before .before .fits .n) in let f : c .before .before .before .before .before .decimal .result ≤ 20 = few-digits (c .before .before .before .before .before .before .before .before .args .n) (c .before .before .before .before .before .decimal .result) b (c .before .before .before .before .before .decimal .ensures .1 .0) in omega arith
+add-end c = let f = few-digits _ _ (c .before .before .before .before .before .before .before .before .fits .n) (c .before .before .before .before .before .decimal .ensures .1 .0) in omega arith
 
 slice-write-out : tie.Need-slice-write-out
-slice-write-out c = let b : c .before .before .before .before .before .before .before .before .args .n < 18446744073709551616 = omega (arith, c .before .before .before .before .before .before .before .before .fits .n) in let f : c .before .before .before .before .before .decimal .result ≤ 20 = few-digits (c .before .before .before .before .before .before .before .before .args .n) (c .before .before .before .before .before .decimal .result) b (c .before .before .before .before .before .decimal .ensures .1 .0) in item-room _ _ _ _ _ (c .before .before .before .before .before .before .before .before .pre) f (c .before .before .before .before .before .decimal .ensures .0 .1) (c .before .before .copy-in .ensures)
+slice-write-out c = let f = few-digits _ _ (c .before .before .before .before .before .before .before .before .fits .n) (c .before .before .before .before .before .decimal .ensures .1 .0) in item-room _ _ _ _ _ (c .before .before .before .before .before .before .before .before .pre) f (c .before .before .before .before .before .decimal .ensures .0 .1) (c .before .before .copy-in .ensures)
 
 add-result : tie.Need-add-result
-add-result c = let b : c .before .before .before .before .before .before .before .before .args .n < 18446744073709551616 = omega (arith, c .before .before .before .before .before .before .before .before .fits .n) in let f : c .before .before .before .before .before .decimal .result ≤ 20 = few-digits (c .before .before .before .before .before .before .before .before .args .n) (c .before .before .before .before .before .decimal .result) b (c .before .before .before .before .before .decimal .ensures .1 .0) in omega arith
+add-result c = let f = few-digits _ _ (c .before .before .before .before .before .before .before .before .fits .n) (c .before .before .before .before .before .decimal .ensures .1 .0) in omega arith
 
 same-length : tie.Need-same-length
 same-length c = search needs
 
 returns : tie.Need-returns
-returns c = let b : c .before .before .before .before .before .before .before .before .args .n < 18446744073709551616 = omega (arith, c .before .before .before .before .before .before .before .before .fits .n) in let f : c .before .before .before .before .before .decimal .result ≤ 20 = few-digits (c .before .before .before .before .before .before .before .before .args .n) (c .before .before .before .before .before .decimal .result) b (c .before .before .before .before .before .decimal .ensures .1 .0) in item-wrote _ _ _ _ _ _ _ (c .before .before .before .before .before .before .before .before .pre) f (c .before .before .before .before .before .decimal .ensures .1 .0) (c .before .before .before .before .before .decimal .ensures .1 .1) (c .before .before .before .before .before .decimal .ensures .0 .1) (c .before .before .copy-in .ensures)
+returns c = let f = few-digits _ _ (c .before .before .before .before .before .before .before .before .fits .n) (c .before .before .before .before .before .decimal .ensures .1 .0) in item-wrote _ _ _ _ _ _ _ (c .before .before .before .before .before .before .before .before .pre) f (c .before .before .before .before .before .decimal .ensures .1 .0) (c .before .before .before .before .before .decimal .ensures .1 .1) (c .before .before .before .before .before .decimal .ensures .0 .1) (c .before .before .copy-in .ensures)
 
 pub item-spec : {M : Type 1} → statement M
 item-spec =
