@@ -1,158 +1,57 @@
 // Says what packets a stream has: little-endian server bytes after the setup on standard input.
 //
-// The first line is `packets`; then a line for each packet with its code, length and full number,
-// counted from 0 (for code 11 the last read); last `end` and the bytes left over, or `refused` and
-// the number of the refusal that stopped it. Nothing is filed.
-mod lines;
-
+// The program reads, asks `listing` for text, and writes it. What the text is, and when bytes or
+// room are wanted, is decided there.
 use libc::STDIN_FILENO;
-use packet_reader::Advanced;
-use packet_reader::Capacity;
-use packet_reader::Made;
-use packet_reader::PacketReader;
-use refusal::Refusal;
-use sequence::Full;
-use sequence::SequenceNumber;
-ghost use Prim.Native.Nat.{_≤_, _<_};
+use libc::STDOUT_FILENO;
+use listing::Place;
+use listing::Wants;
+ghost use Prim.Native.Nat.{_≤_};
 ghost use lib.ListN.{length};
-ghost use Rattle.packet.specs.Packet.{leastPacket};
-
-// Where a run is: the reader, the last number read, and how many bytes of output wait.
-pub struct Place {
-    pub reader: PacketReader,
-    pub last: SequenceNumber,
-    pub waiting: usize,
-}
-
-// What a piece of the stream came to.
-pub enum Went {
-    On(Place),
-    Stopped(Refusal, usize),
-}
 
 fn main() {
-    let mut space = io::large_buffer();
+    let mut space = [0u8; 131072];
     let buf: &mut [u8] = &mut space;
     let mut text = io::large_buffer();
     let out: &mut [u8] = &mut text;
-    let waiting = lines::append(out, 0, b"packets\n");
-    match PacketReader::new(octets::LITTLE, buf) {
-        Made::Reader(reader) => {
-            let start = Place {
-                reader: reader,
-                last: SequenceNumber(0),
-                waiting: waiting,
-            };
-            run(start, buf, out);
-        }
-        Made::Refused(refusal) => lines::refused(out, waiting, refusal),
-    }
+    run(buf, out);
 }
 
-// The whole input. A proved loop has to end, so it counts turns down from a number that no run uses
-// up.
-fn run(start: Place, buf: &mut [u8], out: &mut [u8]) {
-    let mut space = io::large_buffer();
-    let input: &mut [u8] = &mut space;
-    let mut place = start;
+// More bytes behind those held; how many are held then.
+fn more(buf: &mut [u8], held: usize) -> usize
+    requires { ⌜ held ≤ length (now buf) ⌝ }
+    ensures { λ r. ⌜ (held ≤ r) × (r ≤ length (now (buf .exit))) ⌝ }
+{
+    let end = buf.len();
+    let part = &mut buf[held..end];
+    let n = io::count(libc::read(STDIN_FILENO, part), part);
+    held + n
+}
+
+// A proved loop has to end, so it counts turns down from a number that no run uses up.
+fn run(buf: &mut [u8], out: &mut [u8]) {
+    let mut place = Place::Start;
+    let mut held = 0;
+    let mut over = false;
     let mut turns = u64::MAX;
     while turns > 0 {
         turns -= 1;
-        let n = io::count(libc::read(STDIN_FILENO, input), input);
-        if n == 0 {
-            break;
-        }
-        match feed(place, buf, &input[..n], out) {
-            Went::On(next) => {
-                place = next;
+        let turn = listing::list(place, buf, held, over, out);
+        let written = turn.written;
+        io::write_all(STDOUT_FILENO, &out[..written]);
+        place = turn.place;
+        held = turn.held;
+        let wants = turn.wants;
+        match wants {
+            Wants::Bytes => {
+                let filled = more(buf, held);
+                over = filled == held;
+                held = filled;
             }
-            Went::Stopped(refusal, waiting) => {
-                lines::refused(out, waiting, refusal);
+            Wants::Room => {}
+            Wants::Nothing => {
                 return;
             }
         }
-    }
-    lines::end(out, place.waiting, place.reader.filled);
-}
-
-// A piece of the input, as far as nothing is refused.
-fn feed(start: Place, buf: &mut [u8], bytes: &[u8], out: &mut [u8]) -> Went {
-    let mut place = start;
-    let mut at = 0;
-    while at < bytes.len() {
-        let n = fill(place.reader, buf, &bytes[at..]);
-        if n == 0 {
-            return Went::Stopped(Refusal::BadRoom, place.waiting);
-        }
-        at += n;
-        match count(place, buf, n, out) {
-            Went::On(next) => {
-                place = next;
-            }
-            Went::Stopped(refusal, waiting) => {
-                return Went::Stopped(refusal, waiting);
-            }
-        }
-    }
-    Went::On(place)
-}
-
-fn least(a: usize, b: usize) -> usize
-    ensures { λ r. ⌜ (r ≤ a) × (r ≤ b) ⌝ }
-{
-    if a < b { a } else { b }
-}
-
-// As many bytes as the reader's part takes, put there.
-fn fill(reader: PacketReader, buf: &mut [u8], bytes: &[u8]) -> usize
-    ensures { λ r. ⌜ r ≤ length (now (bytes .entry)) ⌝ }
-{
-    match reader.remaining_capacity(buf) {
-        Capacity::Bytes(room) => {
-            let n = least(room, bytes.len());
-            let start = reader.filled;
-            octets::copy_in(buf, start, &bytes[..n]);
-            n
-        }
-        Capacity::Refused(_) => 0,
-    }
-}
-
-// n bytes more are in the reader's part.
-fn count(place: Place, buf: &[u8], n: usize, out: &mut [u8]) -> Went {
-    let last = place.last;
-    let waiting = place.waiting;
-    match place.reader.advance(buf, n) {
-        Advanced::NotYet(reader) => Went::On(Place {
-            reader: reader,
-            last: last,
-            waiting: waiting,
-        }),
-        Advanced::Packet(len, reader) => packet(buf, len, reader, last, out, waiting),
-        Advanced::Refused(refusal) => Went::Stopped(refusal, waiting),
-    }
-}
-
-// A whole packet of len bytes is at the start of buf.
-fn packet(
-    buf: &[u8],
-    len: usize,
-    reader: PacketReader,
-    last: SequenceNumber,
-    out: &mut [u8],
-    waiting: usize,
-) -> Went
-    requires { ⌜ leastPacket ≤ length (now buf) ⌝ }
-{
-    match packet::number_after(octets::LITTLE, last, buf) {
-        Full::Number(number) => {
-            let next = lines::packet(out, waiting, buf[0], len, number.0);
-            Went::On(Place {
-                reader: reader,
-                last: number,
-                waiting: next,
-            })
-        }
-        Full::Refused(refusal) => Went::Stopped(refusal, waiting),
     }
 }

@@ -1,22 +1,17 @@
 -- `packets::run` meets its contract. Assumes nothing.
-use mathlib.Core.Path.{_≡_}
-use Prim.Native.Nat.{_-_}
+use mathlib.Core.Path.{sym, _≡_}
+use Prim.Native.Nat.{_≤_}
+use lib.Seq.{length-take-le}
 use lib.ListN.{length}
 use borrow.Author.Needs.{needs}
 use Rattle.packets.proofs.run.Statement.{statement}
 use Rattle.packets.proofs.run.Tie as tie
 
 abbrev Inv-loop : tie.InvT-loop
-Inv-loop buf₀ out₀ input₀ place₀ turns₀ buf out input place turns = (length buf ≡ length buf₀) × (length out ≡ length out₀) × (length input ≡ length input₀)
+Inv-loop buf₀ out₀ place₀ held₀ over₀ turns₀ buf out place held over turns = (held ≤ length buf) × (length buf ≡ length buf₀) × (length out ≡ length out₀)
 
 abbrev μ-loop : tie.MeasureT-loop
-μ-loop buf₀ out₀ input₀ place₀ turns₀ buf out input place turns = turns
-
-large-buffer-requires : tie.Need-large-buffer-requires Inv-loop μ-loop
-large-buffer-requires c κs = search needs
-
-slice-aggregate-input : tie.Need-slice-aggregate-input Inv-loop μ-loop
-slice-aggregate-input c = search needs
+μ-loop buf₀ out₀ place₀ held₀ over₀ turns₀ buf out place held over turns = turns
 
 loop-holds : tie.Need-loop-holds Inv-loop μ-loop
 loop-holds c = search needs
@@ -24,23 +19,23 @@ loop-holds c = search needs
 sub-turns : tie.Need-sub-turns Inv-loop μ-loop
 sub-turns c = search needs
 
-read-requires : tie.Need-read-requires Inv-loop μ-loop
-read-requires c κs = search needs
+list-requires : tie.Need-list-requires Inv-loop μ-loop
+list-requires c κs = search needs
 
-count-requires : tie.Need-count-requires Inv-loop μ-loop
-count-requires c κs = search needs
+slice-reshare-prefix-write-all : tie.Need-slice-reshare-prefix-write-all Inv-loop μ-loop
+slice-reshare-prefix-write-all c = search needs
 
-slice-reshare-prefix-feed : tie.Need-slice-reshare-prefix-feed Inv-loop μ-loop
-slice-reshare-prefix-feed c = search needs
+slice-aggregate-write-all : tie.Need-slice-aggregate-write-all Inv-loop μ-loop
+slice-aggregate-write-all c = sym (length-take-le _ _ (c .before .before .before .before .before .list .ensures .fits))
 
-slice-aggregate-feed : tie.Need-slice-aggregate-feed Inv-loop μ-loop
-slice-aggregate-feed c = search needs
+write-all-requires : tie.Need-write-all-requires Inv-loop μ-loop
+write-all-requires c κs = search needs
 
-feed-requires : tie.Need-feed-requires Inv-loop μ-loop
-feed-requires c κs = search needs
+enum-told : tie.Need-enum-told Inv-loop μ-loop
+enum-told c = search needs
 
-enum-known-next : tie.Need-enum-known-next Inv-loop μ-loop
-enum-known-next c = search needs
+more-requires : tie.Need-more-requires Inv-loop μ-loop
+more-requires c κs = search needs
 
 loop-less : tie.Need-loop-less Inv-loop μ-loop
 loop-less c = search needs
@@ -48,11 +43,17 @@ loop-less c = search needs
 loop-again : tie.Need-loop-again Inv-loop μ-loop
 loop-again c = search needs
 
-enum-known-refusal : tie.Need-enum-known-refusal Inv-loop μ-loop
-enum-known-refusal c = search needs
+enum-told-2 : tie.Need-enum-told-2 Inv-loop μ-loop
+enum-told-2 c = search needs
 
-refused-requires : tie.Need-refused-requires Inv-loop μ-loop
-refused-requires c κs = search needs
+loop-less-2 : tie.Need-loop-less-2 Inv-loop μ-loop
+loop-less-2 c = search needs
+
+loop-again-2 : tie.Need-loop-again-2 Inv-loop μ-loop
+loop-again-2 c = search needs
+
+enum-told-3 : tie.Need-enum-told-3 Inv-loop μ-loop
+enum-told-3 c = search needs
 
 same-length : tie.Need-same-length Inv-loop μ-loop
 same-length c = search needs
@@ -62,9 +63,6 @@ same-length-2 c = search needs
 
 returns : tie.Need-returns Inv-loop μ-loop
 returns c = search needs
-
-end-requires : tie.Need-end-requires Inv-loop μ-loop
-end-requires c κs = search needs
 
 same-length-3 : tie.Need-same-length-3 Inv-loop μ-loop
 same-length-3 c = search needs
@@ -81,24 +79,23 @@ run-spec =
     (tie.spec
     Inv-loop
     μ-loop
-    large-buffer-requires
-    slice-aggregate-input
     loop-holds
     sub-turns
-    read-requires
-    count-requires
-    slice-reshare-prefix-feed
-    slice-aggregate-feed
-    feed-requires
-    enum-known-next
+    list-requires
+    slice-reshare-prefix-write-all
+    slice-aggregate-write-all
+    write-all-requires
+    enum-told
+    more-requires
     loop-less
     loop-again
-    enum-known-refusal
-    refused-requires
+    enum-told-2
+    loop-less-2
+    loop-again-2
+    enum-told-3
     same-length
     same-length-2
     returns
-    end-requires
     same-length-3
     same-length-4
     returns-2)
