@@ -13,8 +13,8 @@ use Rattle.refusal.specs.Numbers.{numberOf}
 use Rattle.packet.specs.Packet.{codeOf, numberAfter}
 use Rattle.packet_reader.specs.Front.{Front, nothing, part, long, whole, frontOf}
 use Rattle.listing.specs.Text.{firstLine, lineOf, endLine, refusedLine}
-use Rattle.listing.specs.declared.Place.{Place}
-use Rattle.listing.specs.declared.Place.the-variants as Place
+use Rattle.listing.specs.declared.Stage.{Stage}
+use Rattle.listing.specs.declared.Stage.the-variants as Stage
 use Rattle.listing.specs.declared.Wants.{Wants}
 use Rattle.listing.specs.declared.Wants.the-variants as Wants
 use Rattle.listing.specs.declared.Turn.{Turn}
@@ -67,10 +67,10 @@ saysNext (Next.Packet n m) = packet n (m .0)
 -- ---- What a call comes to
 
 -- where a listing is
-pub data Spot : Type 0 where
-  start : Spot
-  after : ℕ → Spot
-  ended : Spot
+pub data Point : Type 0 where
+  start : Point
+  after : ℕ → Point
+  ended : Point
 
 -- what is wanted
 pub data Want : Type 0 where
@@ -82,20 +82,20 @@ pub data Want : Type 0 where
 pub record Row : Type 0 where
   pub text : List ℕ
   pub used : ℕ
-  pub spot : Spot
+  pub point : Point
   pub want : Want
 
 -- nothing, for a want
-abbrev pub waits : Spot → Want → Row
-waits p w = record { text = []; used = 0; spot = p; want = w }
+abbrev pub waits : Point → Want → Row
+waits p w = record { text = []; used = 0; point = p; want = w }
 
 -- the last line
 abbrev pub closes : List ℕ → Row
-closes t = record { text = t; used = 0; spot = ended; want = nothing-more }
+closes t = record { text = t; used = 0; point = ended; want = nothing-more }
 
 -- a text of n bytes, and then a row
 abbrev pub behind : List ℕ → ℕ → Row → Row
-behind t n r = record { text = t ++ r .text; used = n + r .used; spot = r .spot; want = r .want }
+behind t n r = record { text = t ++ r .text; used = n + r .used; point = r .point; want = r .want }
 
 -- no whole packet is left: the last line if the stream is over
 unfoldable pub closing : Bool → ℕ → ℕ → Row
@@ -120,20 +120,20 @@ rowOf over left read s = rows (suc (length s)) over left read s
 
 -- the first line
 unfoldable pub opening : ℕ → Row
-opening left = choose (ltb left lineMost) (waits start room) (record { text = firstLine; used = 0; spot = after 0; want = room })
+opening left = choose (ltb left lineMost) (waits start room) (record { text = firstLine; used = 0; point = after 0; want = room })
 
 -- WHAT A CALL COMES TO, where the stream is over or not, with an output of so many bytes, from a place, of the bytes so far
-unfoldable pub callOf : Bool → ℕ → Spot → List ℕ → Row
+unfoldable pub callOf : Bool → ℕ → Point → List ℕ → Row
 callOf over left start s = opening left
 callOf over left (after read) s = rowOf over left read s
 callOf over left ended s = waits ended nothing-more
 
 -- ---- What the types of the code say
 
-abbrev pub spotOf : Place → Spot
-spotOf Place.Start = start
-spotOf (Place.After n) = after (n .0)
-spotOf Place.Ended = ended
+abbrev pub pointOf : Stage → Point
+pointOf Stage.Start = start
+pointOf (Stage.After n) = after (n .0)
+pointOf Stage.Ended = ended
 
 abbrev pub wantOf : Wants → Want
 wantOf Wants.Bytes = bytes
@@ -144,7 +144,7 @@ wantOf Wants.Nothing = nothing-more
 pub record Lists (row : Row) (n at : ℕ) (out : List ℕ) (r : Listed) (out' : List ℕ) : Type 0 where
   pub used : r .used ≡ n + row .used
   pub written : r .written ≡ at + length (row .text)
-  pub place : spotOf (r .place) ≡ row .spot
+  pub place : pointOf (r .place) ≡ row .point
   pub wants : wantOf (r .wants) ≡ row .want
   pub fits : at + length (row .text) ≤ length out
   pub stands : out' ≡ put out at (row .text)
@@ -155,7 +155,7 @@ pub record Turns (row : Row) (buf : List ℕ) (held : ℕ) (out : List ℕ) (r :
   pub within : r .held ≤ length buf
   pub written : r .written ≡ length (row .text)
   pub fits : r .written ≤ length out'
-  pub place : spotOf (r .place) ≡ row .spot
+  pub place : pointOf (r .place) ≡ row .point
   pub wants : wantOf (r .wants) ≡ row .want
   pub holds : buf' ≡ put buf 0 (drop (row .used) (take held buf))
   pub stands : out' ≡ put out 0 (row .text)

@@ -17,11 +17,11 @@ use Rattle.packet_reader.specs.Frame.{aim, Cut, cutPackets}
 use Rattle.packet_reader.specs.CutLaws.{aim-head, aim-total, total-append}
 use Rattle.packet_reader.specs.Front.{Front, nothing, part, long, whole, frontOf, front-long, front-whole, tells-nothing, tells-part, tells-long, tells-whole, packets-none, packets-next}
 use Rattle.listing.specs.Text.{firstLine, lineOf, endLine, refusedLine, lastLine, numbered, packetLines, linesOf, textOf}
-use Rattle.listing.specs.Call.{lineMost, Ahead, none, refused, packet, withNumber, numberedOf, aheadBy, aheadOf, Spot, start, after, ended, room, Row, waits, closing, turn, rows, rowOf, opening, callOf}
+use Rattle.listing.specs.Call.{lineMost, Ahead, none, refused, packet, withNumber, numberedOf, aheadBy, aheadOf, Point, start, after, ended, room, Row, waits, closing, turn, rows, rowOf, opening, callOf}
 use Rattle.listing.specs.Laws.{packet-fits}
 
 -- the text that is due at a place, where these bytes are all that is to come
-unfoldable pub due : Spot → List ℕ → List ℕ
+unfoldable pub due : Point → List ℕ → List ℕ
 due start s = textOf s
 due (after read) s = linesOf read s
 due ended s = []
@@ -179,7 +179,7 @@ module _ (read : ℕ) (s u : List ℕ) where
 
 -- what a row leaves due
 abbrev pub Pays : List ℕ → List ℕ → List ℕ → Row → Type 0
-Pays whole-text s u r = whole-text ≡ r .text ++ due (r .spot) (drop (r .used) s ++ u)
+Pays whole-text s u r = whole-text ≡ r .text ++ due (r .point) (drop (r .used) s ++ u)
 
 turn-pays : (k : ℕ) (over : Bool) (left read : ℕ) (s u : List ℕ) (a : Ahead) → a ≡ aheadOf read s → (over ≡ true → u ≡ [])
     → ((n m : ℕ) → leastPacket ≤ n → n ≤ length s → Pays (linesOf m (drop n s ++ u)) (drop n s) u (rows k over (left - length (lineOf (codeOf s) n m)) m (drop n s)))
@@ -195,8 +195,8 @@ turn-pays k over left read s u (packet n m) e o h =
     let x : r .used + n ≡ n + r .used = omega arith in
     due-packet read s u n m e
     ∙ ap (λ (y : List ℕ). lineOf (codeOf s) n m ++ y) (h n m (p .least) (p .most))
-    ∙ sym (append-assoc (lineOf (codeOf s) n m) (r .text) (due (r .spot) (drop (r .used) (drop n s) ++ u)))
-    ∙ ap (λ (y : List ℕ). lineOf (codeOf s) n m ++ r .text ++ due (r .spot) (y ++ u)) (drop-drop (r .used) n s)
+    ∙ sym (append-assoc (lineOf (codeOf s) n m) (r .text) (due (r .point) (drop (r .used) (drop n s) ++ u)))
+    ∙ ap (λ (y : List ℕ). lineOf (codeOf s) n m ++ r .text ++ due (r .point) (y ++ u)) (drop-drop (r .used) n s)
 
 rows-pays : (k : ℕ) (over : Bool) (left read : ℕ) (s u : List ℕ) → (over ≡ true → u ≡ []) → Pays (linesOf read (s ++ u)) s u (rows k over left read s)
 unfolding rows choose due
@@ -211,11 +211,11 @@ rows-pays (suc k) over left read s u o =
     go false h = h
 
 -- What was due is the text of a call and what is due then, whatever bytes come behind; none may come behind a stream that is over.
-pub call-due : (over : Bool) (left : ℕ) (p : Spot) (s u : List ℕ) → (over ≡ true → u ≡ []) → Pays (due p (s ++ u)) s u (callOf over left p s)
+pub call-due : (over : Bool) (left : ℕ) (p : Point) (s u : List ℕ) → (over ≡ true → u ≡ []) → Pays (due p (s ++ u)) s u (callOf over left p s)
 unfolding callOf opening rowOf choose due textOf
 call-due over left start s u o = go (ltb left lineMost)
   where
-    go : (b : Bool) → Pays (due start (s ++ u)) s u (choose b (waits start room) (record { text = firstLine; used = 0; spot = after 0; want = room }))
+    go : (b : Bool) → Pays (due start (s ++ u)) s u (choose b (waits start room) (record { text = firstLine; used = 0; point = after 0; want = room }))
     go true = refl
     go false = refl
 call-due over left (after read) s u o = rows-pays (suc (length s)) over left read s u o

@@ -15,8 +15,8 @@ use Rattle.listing.specs.Laws.{packet-fits}
 
 -- where a row ends: behind the last line, or after a number, with so many bytes used at least
 pub data Comes (least : ℕ) (r : Row) : Type 0 where
-  last : r .spot ≡ ended → Comes least r
-  later : (m : ℕ) → r .spot ≡ after m → least ≤ r .used → Comes least r
+  last : r .point ≡ ended → Comes least r
+  later : (m : ℕ) → r .point ≡ after m → least ≤ r .used → Comes least r
 
 turn-comes : (k : ℕ) (left read : ℕ) (s : List ℕ) (a : Ahead) → a ≡ aheadOf read s → ((n m : ℕ) → Comes 0 (rows k true (left - length (lineOf (codeOf s) n m)) m (drop n s)))
     → Comes leastPacket (turn true read s a (λ n m. rows k true (left - length (lineOf (codeOf s) n m)) m (drop n s)))
@@ -48,6 +48,6 @@ call-comes left read s h =
     subst (λ (b : Bool). Comes leastPacket (choose b (waits (after read) room) (turn true read s (aheadOf read s) (λ n m. rows (length s) true (left - length (lineOf (codeOf s) n m)) m (drop n s))))) (sym (le-ltb left lineMost h))
     (turn-comes (length s) left read s (aheadOf read s) refl (λ n m. rows-comes (length s) (left - length (lineOf (codeOf s) n m)) m (drop n s)))
 
-pub call-opens : (left : ℕ) (s : List ℕ) → lineMost ≤ left → callOf true left start s ≡ record { text = firstLine; used = 0; spot = after 0; want = room }
+pub call-opens : (left : ℕ) (s : List ℕ) → lineMost ≤ left → callOf true left start s ≡ record { text = firstLine; used = 0; point = after 0; want = room }
 unfolding callOf opening choose
 call-opens left s h = simp (le-ltb left lineMost h)

@@ -25,8 +25,8 @@ use Rattle.packet_reader.specs.declared.Begins.the-variants as Begins
 use Rattle.listing.specs.Text.{decimal, item, firstLine, lineOf, endLine, refusedLine}
 use Rattle.listing.specs.Digits.{decimal-is}
 use Rattle.listing.specs.Call.{itemMost, lineMost, Wrote, none, refused, packet, withNumber, numberedOf, aheadBy, aheadOf, saysNext, opening, closing, closes, waits, start, after, room, Lists}
-use Rattle.listing.specs.declared.Place.{Place}
-use Rattle.listing.specs.declared.Place.the-variants as Place
+use Rattle.listing.specs.declared.Stage.{Stage}
+use Rattle.listing.specs.declared.Stage.the-variants as Stage
 use Rattle.listing.specs.declared.Wants.{Wants}
 use Rattle.listing.specs.declared.Wants.the-variants as Wants
 use Rattle.listing.specs.declared.lines.Next.{Next}
@@ -79,37 +79,37 @@ word-wrote s s₁ s₂ at w n r p q h =
 
 -- the two last lines
 pub refused-lists : (out out' : List ℕ) (at used end n : ℕ) → at + lineMost ≤ length out → Wrote 29 out at (refusedLine n) end out'
-    → Lists (closes (refusedLine n)) used at out (record { used = used; written = end; place = Place.Ended; wants = Wants.Nothing }) out'
+    → Lists (closes (refusedLine n)) used at out (record { used = used; written = end; place = Stage.Ended; wants = Wants.Nothing }) out'
 refused-lists out out' at used end n h w =
     record { used = omega arith; written = w .end; place = refl; wants = refl; fits = omega (arith, w .few); stands = w .stands }
 
 pub end-lists : (out out' : List ℕ) (at used end : ℕ) (over : Bool) (read left : ℕ) → over ≡ true → at + lineMost ≤ length out → Wrote 25 out at (endLine left) end out'
-    → Lists (closing over read left) used at out (record { used = used; written = end; place = Place.Ended; wants = Wants.Nothing }) out'
+    → Lists (closing over read left) used at out (record { used = used; written = end; place = Stage.Ended; wants = Wants.Nothing }) out'
 unfolding closing choose
 end-lists out out' at used end over read left e h w =
-    subst (λ (b : Bool). Lists (closing b read left) used at out (record { used = used; written = end; place = Place.Ended; wants = Wants.Nothing }) out') (sym e)
+    subst (λ (b : Bool). Lists (closing b read left) used at out (record { used = used; written = end; place = Stage.Ended; wants = Wants.Nothing }) out') (sym e)
     (record { used = omega arith; written = w .end; place = refl; wants = refl; fits = omega (arith, w .few); stands = w .stands })
 
 -- nothing is written where more bytes may come
 pub more-lists : (out : List ℕ) (at used : ℕ) (over : Bool) (read : SequenceNumber) (left : ℕ) → over ≡ false → at + lineMost ≤ length out
-    → Lists (closing over (read .0) left) used at out (record { used = used; written = at; place = Place.After read; wants = Wants.Bytes }) out
+    → Lists (closing over (read .0) left) used at out (record { used = used; written = at; place = Stage.After read; wants = Wants.Bytes }) out
 unfolding closing choose
 more-lists out at used over read left e h =
-    subst (λ (b : Bool). Lists (closing b (read .0) left) used at out (record { used = used; written = at; place = Place.After read; wants = Wants.Bytes }) out) (sym e)
+    subst (λ (b : Bool). Lists (closing b (read .0) left) used at out (record { used = used; written = at; place = Stage.After read; wants = Wants.Bytes }) out) (sym e)
     (record { used = omega arith; written = omega arith; place = refl; wants = refl; fits = omega arith; stands = sym (put-none out at) })
 
 -- the first line, and no room for it
 pub opening-lists : (out out' : List ℕ) → lineMost ≤ length out → out' ≡ put out 0 firstLine
-    → Lists (opening (length out)) 0 0 out (record { used = 0; written = 8; place = Place.After (record { 0 = 0 }); wants = Wants.Room }) out'
+    → Lists (opening (length out)) 0 0 out (record { used = 0; written = 8; place = Stage.After (record { 0 = 0 }); wants = Wants.Room }) out'
 unfolding opening choose firstLine
 opening-lists out out' h e =
-    subst (λ (b : Bool). Lists (choose b (waits start room) (record { text = firstLine; used = 0; spot = after 0; want = room })) 0 0 out (record { used = 0; written = 8; place = Place.After (record { 0 = 0 }); wants = Wants.Room }) out')
+    subst (λ (b : Bool). Lists (choose b (waits start room) (record { text = firstLine; used = 0; point = after 0; want = room })) 0 0 out (record { used = 0; written = 8; place = Stage.After (record { 0 = 0 }); wants = Wants.Room }) out')
     (sym (le-ltb (length out) lineMost h)) (record { used = refl; written = refl; place = refl; wants = refl; fits = omega arith; stands = e })
 
-pub opening-waits : (out : List ℕ) → length out < lineMost → Lists (opening (length out)) 0 0 out (record { used = 0; written = 0; place = Place.Start; wants = Wants.Room }) out
+pub opening-waits : (out : List ℕ) → length out < lineMost → Lists (opening (length out)) 0 0 out (record { used = 0; written = 0; place = Stage.Start; wants = Wants.Room }) out
 unfolding opening choose
 opening-waits out h =
-    subst (λ (b : Bool). Lists (choose b (waits start room) (record { text = firstLine; used = 0; spot = after 0; want = room })) 0 0 out (record { used = 0; written = 0; place = Place.Start; wants = Wants.Room }) out)
+    subst (λ (b : Bool). Lists (choose b (waits start room) (record { text = firstLine; used = 0; point = after 0; want = room })) 0 0 out (record { used = 0; written = 0; place = Stage.Start; wants = Wants.Room }) out)
     (sym (lt-ltb (length out) lineMost h)) (record { used = refl; written = refl; place = refl; wants = refl; fits = omega arith; stands = sym (put-none out 0) })
 
 -- ---- What bytes begin with

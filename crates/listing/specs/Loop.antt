@@ -13,10 +13,10 @@ use Rattle.octets.specs.Put.{put, cut, length-put, put-none, put-more, take-dro
 use Rattle.sequence.specs.declared.SequenceNumber.{SequenceNumber}
 use Rattle.packet.specs.Packet.{leastPacket, codeOf}
 use Rattle.listing.specs.Text.{firstLine, lineOf, refusedLine}
-use Rattle.listing.specs.Call.{lineMost, Wrote, Ahead, none, refused, packet, aheadOf, Spot, Row, waits, closes, behind, closing, turn, rows, rowOf, opening, callOf, start, after, ended, room, spotOf, wantOf, Lists, Turns}
+use Rattle.listing.specs.Call.{lineMost, Wrote, Ahead, none, refused, packet, aheadOf, Point, Row, waits, closes, behind, closing, turn, rows, rowOf, opening, callOf, start, after, ended, room, pointOf, wantOf, Lists, Turns}
 use Rattle.listing.specs.Laws.{packet-fits}
-use Rattle.listing.specs.declared.Place.{Place}
-use Rattle.listing.specs.declared.Place.the-variants as Place
+use Rattle.listing.specs.declared.Stage.{Stage}
+use Rattle.listing.specs.declared.Stage.the-variants as Stage
 use Rattle.listing.specs.declared.Wants.the-variants as Wants
 use Rattle.listing.specs.declared.lines.Listed.{Listed}
 
@@ -59,7 +59,7 @@ behind-behind : (t u : List ℕ) (n m : ℕ) (r : Row) → behind t n (behind u 
 behind-behind t u n m r =
     let a : t ++ (u ++ r .text) ≡ t ++ u ++ r .text = sym (append-assoc t u (r .text)) in
     let b : n + (m + r .used) ≡ n + m + r .used = omega arith in
-    λ i. record { text = a i; used = b i; spot = r .spot; want = r .want }
+    λ i. record { text = a i; used = b i; point = r .point; want = r .want }
 
 -- the bytes from used on
 pub part-rest : (bytes : List ℕ) (used : ℕ) → take (length bytes - used) (drop used bytes) ≡ drop used bytes
@@ -93,7 +93,7 @@ inv-start over bytes out read =
       fits = omega arith;
       long = refl;
       stands = sym (put-none out 0);
-      same = (λ i. record { text = r .text; used = z i; spot = r .spot; want = r .want }) ∙ ap (λ (n : ℕ). behind [] 0 (rows (suc (length bytes)) over n read bytes)) l;
+      same = (λ i. record { text = r .text; used = z i; point = r .point; want = r .want }) ∙ ap (λ (n : ℕ). behind [] 0 (rows (suc (length bytes)) over n read bytes)) l;
     }
 
 module _ (over : Bool) (bytes out₀ : List ℕ) (read₀ : ℕ) (out : List ℕ) (read used end : ℕ) (J : Inv over bytes out₀ read₀ out read used end) where
@@ -118,7 +118,7 @@ module _ (over : Bool) (bytes out₀ : List ℕ) (read₀ : ℕ) (out : List ℕ
   some : 0 < J .turns
   some = omega (arith, J .enough)
 
-  pub inv-full : (r : Listed) → length out - end < lineMost → r .used ≡ used → r .written ≡ end → spotOf (r .place) ≡ after read → wantOf (r .wants) ≡ room → Lists (rowOf over (length out₀) read₀ bytes) 0 0 out₀ r out
+  pub inv-full : (r : Listed) → length out - end < lineMost → r .used ≡ used → r .written ≡ end → pointOf (r .place) ≡ after read → wantOf (r .wants) ≡ room → Lists (rowOf over (length out₀) read₀ bytes) 0 0 out₀ r out
   inv-full r h a b c d =
       done (waits (after read) room) r out (rows-full (J .turns) over (length out₀ - end) read (drop used bytes) some (omega (arith, J .long)))
       (record { used = omega arith; written = omega arith; place = c; wants = d; fits = omega (arith, J .fits, J .long); stands = sym (put-none out end) })
@@ -195,11 +195,11 @@ rows-used (suc k) over left read s = go (ltb left lineMost) (turn-used k over le
     go true h = omega arith
     go false h = h
 
-pub call-used : (over : Bool) (left : ℕ) (p : Spot) (s : List ℕ) → callOf over left p s .used ≤ length s
+pub call-used : (over : Bool) (left : ℕ) (p : Point) (s : List ℕ) → callOf over left p s .used ≤ length s
 unfolding callOf opening choose rowOf
 call-used over left start s = go (ltb left lineMost)
   where
-    go : (b : Bool) → choose b (waits start room) (record { text = firstLine; used = 0; spot = after 0; want = room }) .used ≤ length s
+    go : (b : Bool) → choose b (waits start room) (record { text = firstLine; used = 0; point = after 0; want = room }) .used ≤ length s
     go true = omega arith
     go false = omega arith
 call-used over left (after read) s = rows-used (suc (length s)) over left read s
@@ -207,32 +207,32 @@ call-used over left ended s = omega arith
 
 -- ---- A call
 
-module _ (over : Bool) (place : Place) (s out : List ℕ) (r : Listed) (out' : List ℕ) where
-  pub call-start : place ≡ Place.Start → Lists (opening (length out)) 0 0 out r out' → Lists (callOf over (length out) (spotOf place) s) 0 0 out r out'
+module _ (over : Bool) (place : Stage) (s out : List ℕ) (r : Listed) (out' : List ℕ) where
+  pub call-start : place ≡ Stage.Start → Lists (opening (length out)) 0 0 out r out' → Lists (callOf over (length out) (pointOf place) s) 0 0 out r out'
   unfolding callOf
-  call-start e L = subst (λ (p : Place). Lists (callOf over (length out) (spotOf p) s) 0 0 out r out') (sym e) L
+  call-start e L = subst (λ (p : Stage). Lists (callOf over (length out) (pointOf p) s) 0 0 out r out') (sym e) L
 
-  pub call-lines : (n : SequenceNumber) → place ≡ Place.After n → Lists (rowOf over (length out) (n .0) s) 0 0 out r out' → Lists (callOf over (length out) (spotOf place) s) 0 0 out r out'
+  pub call-lines : (n : SequenceNumber) → place ≡ Stage.After n → Lists (rowOf over (length out) (n .0) s) 0 0 out r out' → Lists (callOf over (length out) (pointOf place) s) 0 0 out r out'
   unfolding callOf
-  call-lines n e L = subst (λ (p : Place). Lists (callOf over (length out) (spotOf p) s) 0 0 out r out') (sym e) L
+  call-lines n e L = subst (λ (p : Stage). Lists (callOf over (length out) (pointOf p) s) 0 0 out r out') (sym e) L
 
-pub call-ended : (over : Bool) (place : Place) (s out : List ℕ) → place ≡ Place.Ended
-    → Lists (callOf over (length out) (spotOf place) s) 0 0 out (record { used = 0; written = 0; place = Place.Ended; wants = Wants.Nothing }) out
+pub call-ended : (over : Bool) (place : Stage) (s out : List ℕ) → place ≡ Stage.Ended
+    → Lists (callOf over (length out) (pointOf place) s) 0 0 out (record { used = 0; written = 0; place = Stage.Ended; wants = Wants.Nothing }) out
 unfolding callOf
 call-ended over place s out e =
-    subst (λ (p : Place). Lists (callOf over (length out) (spotOf p) s) 0 0 out (record { used = 0; written = 0; place = Place.Ended; wants = Wants.Nothing }) out) (sym e)
+    subst (λ (p : Stage). Lists (callOf over (length out) (pointOf p) s) 0 0 out (record { used = 0; written = 0; place = Stage.Ended; wants = Wants.Nothing }) out) (sym e)
     (record { used = refl; written = refl; place = refl; wants = refl; fits = omega arith; stands = sym (put-none out 0) })
 
-module _ (over : Bool) (place : Place) (buf : List ℕ) (held : ℕ) (out : List ℕ) (r : Listed) (out' : List ℕ) (h : held ≤ length buf) (L : Lists (callOf over (length out) (spotOf place) (take held buf)) 0 0 out r out') where
+module _ (over : Bool) (place : Stage) (buf : List ℕ) (held : ℕ) (out : List ℕ) (r : Listed) (out' : List ℕ) (h : held ≤ length buf) (L : Lists (callOf over (length out) (pointOf place) (take held buf)) 0 0 out r out') where
   pub list-used : r .used ≤ held
-  list-used = omega (arith, L .used, call-used over (length out) (spotOf place) (take held buf), length-take-le held buf h)
+  list-used = omega (arith, L .used, call-used over (length out) (pointOf place) (take held buf), length-take-le held buf h)
 
   -- what is not used is held at the start of the buffer
   pub list-turns : (buf' : List ℕ) → buf' ≡ put buf 0 (cut (r .used) (held - r .used) buf)
-      → Turns (callOf over (length out) (spotOf place) (take held buf)) buf held out (record { held = held - r .used; written = r .written; place = r .place; wants = r .wants }) buf' out'
+      → Turns (callOf over (length out) (pointOf place) (take held buf)) buf held out (record { held = held - r .used; written = r .written; place = r .place; wants = r .wants }) buf' out'
   unfolding cut
   list-turns buf' b =
-      let row : Row = callOf over (length out) (spotOf place) (take held buf) in
+      let row : Row = callOf over (length out) (pointOf place) (take held buf) in
       let l : length (take held buf) ≡ held = length-take-le held buf h in
       let e : r .used ≡ row .used = omega (arith, L .used) in
       let u : r .used ≤ held = list-used in

@@ -8,9 +8,9 @@ use lib.ListN.{length, drop, length-drop}
 use Rattle.packet_reader.specs.Stream.{joined}
 use Rattle.listing.specs.Text.{firstLine, textOf}
 use Rattle.packet.specs.Packet.{leastPacket}
-use Rattle.listing.specs.Call.{lineMost, Spot, start, after, ended, Want, bytes, room, nothing-more, Row, callOf, spotOf, wantOf, Turns}
-use Rattle.listing.specs.declared.Place.{Place}
-use Rattle.listing.specs.declared.Place.the-variants as Place
+use Rattle.listing.specs.Call.{lineMost, Point, start, after, ended, Want, bytes, room, nothing-more, Row, callOf, pointOf, wantOf, Turns}
+use Rattle.listing.specs.declared.Stage.{Stage}
+use Rattle.listing.specs.declared.Stage.the-variants as Stage
 use Rattle.listing.specs.declared.Wants.{Wants}
 use Rattle.listing.specs.declared.Wants.the-variants as Wants
 use Rattle.listing.specs.declared.Turn.{Turn}
@@ -19,14 +19,14 @@ use Rattle.listing.specs.Ends.{Comes, last, later, call-comes, call-open
 use Rattle.listing.specs.Due.{due, call-due}
 
 -- A run of calls, from a place with bytes in hand and pieces to come, and the text that it gathers: the next piece comes, or a call is made with an output of any size, or, once no piece is to come, one that says so; until the last line is written.
-pub data Gathers : Spot → List ℕ → List (List ℕ) → List ℕ → Type 0 where
+pub data Gathers : Point → List ℕ → List (List ℕ) → List ℕ → Type 0 where
   done : {s : List ℕ} {xs : List (List ℕ)} → Gathers ended s xs []
-  piece : {p : Spot} {s x t : List ℕ} {xs : List (List ℕ)} → Gathers p (s ++ x) xs t → Gathers p s (x ∷ xs) t
-  call : {p : Spot} {s t : List ℕ} {xs : List (List ℕ)} (left : ℕ) → Gathers (callOf false left p s .spot) (drop (callOf false left p s .used) s) xs t → Gathers p s xs (callOf false left p s .text ++ t)
-  over : {p : Spot} {s t : List ℕ} (left : ℕ) → Gathers (callOf true left p s .spot) (drop (callOf true left p s .used) s) [] t → Gathers p s [] (callOf true left p s .text ++ t)
+  piece : {p : Point} {s x t : List ℕ} {xs : List (List ℕ)} → Gathers p (s ++ x) xs t → Gathers p s (x ∷ xs) t
+  call : {p : Point} {s t : List ℕ} {xs : List (List ℕ)} (left : ℕ) → Gathers (callOf false left p s .point) (drop (callOf false left p s .used) s) xs t → Gathers p s xs (callOf false left p s .text ++ t)
+  over : {p : Point} {s t : List ℕ} (left : ℕ) → Gathers (callOf true left p s .point) (drop (callOf true left p s .used) s) [] t → Gathers p s [] (callOf true left p s .text ++ t)
 
 -- What is gathered is what was due of all the bytes.
-gathered : {p : Spot} {s t : List ℕ} {xs : List (List ℕ)} → Gathers p s xs t → t ≡ due p (s ++ joined xs)
+gathered : {p : Point} {s t : List ℕ} {xs : List (List ℕ)} → Gathers p s xs t → t ≡ due p (s ++ joined xs)
 unfolding due
 gathered done = refl
 gathered {p} {s} (piece {x = x} {xs = xs} q) = gathered q ∙ ap (due p) (append-assoc s x (joined xs))
@@ -44,7 +44,7 @@ any-pieces q = gathered q
 -- ---- And every run comes to its end.
 
 -- a run, and its text
-pub record Ended (p : Spot) (s : List ℕ) (xs : List (List ℕ)) : Type 0 where
+pub record Ended (p : Point) (s : List ℕ) (xs : List (List ℕ)) : Type 0 where
   pub text : List ℕ
   pub run : Gathers p s xs text
 
@@ -58,19 +58,19 @@ module _ (left : ℕ) (h : lineMost ≤ left) where
       go (last e) w =
           record {
             text = callOf true left (after read) s .text ++ [];
-            run = over left (subst (λ (q : Spot). Gathers q (drop (callOf true left (after read) s .used) s) [] []) (sym e) done);
+            run = over left (subst (λ (q : Point). Gathers q (drop (callOf true left (after read) s .used) s) [] []) (sym e) done);
           }
       go (later m e u) w =
           record {
             text = callOf true left (after read) s .text ++ w m u .text;
-            run = over left (subst (λ (q : Spot). Gathers q (drop (callOf true left (after read) s .used) s) [] (w m u .text)) (sym e) (w m u .run));
+            run = over left (subst (λ (q : Point). Gathers q (drop (callOf true left (after read) s .used) s) [] (w m u .text)) (sym e) (w m u .run));
           }
 
   ends-over : (s : List ℕ) → Ended start s []
   ends-over s =
       let w = ends-after (suc (length s)) 0 s (omega arith) in
-      let e : callOf true left start s ≡ record { text = firstLine; used = 0; spot = after 0; want = room } = call-opens left s h in
-      record { text = callOf true left start s .text ++ w .text; run = over left (subst (λ (r : Row). Gathers (r .spot) (drop (r .used) s) [] (w .text)) (sym e) (w .run)) }
+      let e : callOf true left start s ≡ record { text = firstLine; used = 0; point = after 0; want = room } = call-opens left s h in
+      record { text = callOf true left start s .text ++ w .text; run = over left (subst (λ (r : Row). Gathers (r .point) (drop (r .used) s) [] (w .text)) (sym e) (w .run)) }
 
   ends-from : (s : List ℕ) (xs : List (List ℕ)) → Ended start s xs
   ends-from s [] = ends-over s
@@ -82,16 +82,16 @@ module _ (left : ℕ) (h : lineMost ≤ left) where
 
 -- ---- Any two outcomes that the promise allows are equal.
 
-backSpot : Spot → Place
-backSpot start = Place.Start
-backSpot (after n) = Place.After (record { 0 = n })
-backSpot ended = Place.Ended
+backPoint : Point → Stage
+backPoint start = Stage.Start
+backPoint (after n) = Stage.After (record { 0 = n })
+backPoint ended = Stage.Ended
 
-back-spot : (p : Place) → backSpot (spotOf p) ≡ p
-unfolding backSpot
-back-spot Place.Start = refl
-back-spot (Place.After n) = refl
-back-spot Place.Ended = refl
+back-point : (p : Stage) → backPoint (pointOf p) ≡ p
+unfolding backPoint
+back-point Stage.Start = refl
+back-point (Stage.After n) = refl
+back-point Stage.Ended = refl
 
 backWant : Want → Wants
 backWant bytes = Wants.Bytes
@@ -109,6 +109,6 @@ pub turns-one : (row : Row) (buf : List ℕ) (held : ℕ) (out : List ℕ) (a b 
 turns-one row buf held out a b buf₁ buf₂ out₁ out₂ p q =
     let h : a .held ≡ b .held = p .kept ∙ sym (q .kept) in
     let w : a .written ≡ b .written = p .written ∙ sym (q .written) in
-    let l : a .place ≡ b .place = sym (back-spot (a .place)) ∙ ap backSpot (p .place ∙ sym (q .place)) ∙ back-spot (b .place) in
+    let l : a .place ≡ b .place = sym (back-point (a .place)) ∙ ap backPoint (p .place ∙ sym (q .place)) ∙ back-point (b .place) in
     let n : a .wants ≡ b .wants = sym (back-want (a .wants)) ∙ ap backWant (p .wants ∙ sym (q .wants)) ∙ back-want (b .wants) in
     (λ i. record { held = h i; written = w i; place = l i; wants = n i }, p .holds ∙ sym (q .holds), p .stands ∙ sym (q .stands))

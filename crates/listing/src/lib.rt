@@ -1,6 +1,6 @@
 // Inside: the text that the program `packets` writes of a stream (01, Values to meet).
 //
-// The program keeps where it is (`Place`), the bytes that it has read and not yet used, and lends
+// The program keeps where it is (`Stage`), the bytes that it has read and not yet used, and lends
 // an output. A call takes lines of as many packets as the bytes have and the output has room for,
 // and says what it wants then. Nothing is kept here, and nothing is read or written but what is
 // lent: the text of a stream is the same however the bytes come and however often the output is
@@ -12,11 +12,11 @@ use lines::MOST_LINE;
 use sequence::SequenceNumber;
 ghost use Prim.Native.Nat.{_≤_};
 ghost use lib.ListN.{length, take};
-ghost use Rattle.listing.specs.Call.{opening, callOf, spotOf, Lists, Turns};
+ghost use Rattle.listing.specs.Call.{opening, callOf, pointOf, Lists, Turns};
 
 // Where a listing is: nothing is written yet, all that is used is written and this is the last
 // number read, or the last line is written.
-pub enum Place {
+pub enum Stage {
     Start,
     After(SequenceNumber),
     Ended,
@@ -35,7 +35,7 @@ pub enum Wants {
 pub struct Turn {
     pub held: usize,
     pub written: usize,
-    pub place: Place,
+    pub place: Stage,
     pub wants: Wants,
 }
 
@@ -47,7 +47,7 @@ fn start(out: &mut [u8]) -> Listed
         return Listed {
             used: 0,
             written: 0,
-            place: Place::Start,
+            place: Stage::Start,
             wants: Wants::Room,
         };
     }
@@ -55,22 +55,22 @@ fn start(out: &mut [u8]) -> Listed
     Listed {
         used: 0,
         written: 8,
-        place: Place::After(SequenceNumber(0)),
+        place: Stage::After(SequenceNumber(0)),
         wants: Wants::Room,
     }
 }
 
 // The text from a place on, of the bytes so far.
-fn call(place: Place, bytes: &[u8], over: bool, out: &mut [u8]) -> Listed
-    ensures { λ r. ⌜ Lists (callOf over (length (now (out .entry))) (spotOf place) (now (bytes .entry))) 0 0 (now (out .entry)) r (now (out .exit)) ⌝ }
+fn call(place: Stage, bytes: &[u8], over: bool, out: &mut [u8]) -> Listed
+    ensures { λ r. ⌜ Lists (callOf over (length (now (out .entry))) (pointOf place) (now (bytes .entry))) 0 0 (now (out .entry)) r (now (out .exit)) ⌝ }
 {
     match place {
-        Place::Start => start(out),
-        Place::After(last) => lines::lines(last, bytes, over, out),
-        Place::Ended => Listed {
+        Stage::Start => start(out),
+        Stage::After(last) => lines::lines(last, bytes, over, out),
+        Stage::Ended => Listed {
             used: 0,
             written: 0,
-            place: Place::Ended,
+            place: Stage::Ended,
             wants: Wants::Nothing,
         },
     }
@@ -78,9 +78,9 @@ fn call(place: Place, bytes: &[u8], over: bool, out: &mut [u8]) -> Listed
 
 // The text from a place on, of the held bytes at the start of the buffer, behind which more may
 // come unless the stream is over. What is not used moves to the start of the buffer.
-pub fn list(place: Place, buf: &mut [u8], held: usize, over: bool, out: &mut [u8]) -> Turn
+pub fn list(place: Stage, buf: &mut [u8], held: usize, over: bool, out: &mut [u8]) -> Turn
     requires { ⌜ held ≤ length (now buf) ⌝ }
-    ensures { λ r. ⌜ Turns (callOf over (length (now (out .entry))) (spotOf place) (take held (now (buf .entry)))) (now (buf .entry)) held (now (out .entry)) r (now (buf .exit)) (now (out .exit)) ⌝ }
+    ensures { λ r. ⌜ Turns (callOf over (length (now (out .entry))) (pointOf place) (take held (now (buf .entry)))) (now (buf .entry)) held (now (out .entry)) r (now (buf .exit)) (now (out .exit)) ⌝ }
 {
     let listed = call(place, &buf[..held], over, out);
     let used = listed.used;

@@ -1,5 +1,5 @@
 // Lines, one behind the other from the start of a lent output.
-use super::Place;
+use super::Stage;
 use super::Wants;
 use packet_reader::Begins;
 use refusal::Refusal;
@@ -21,7 +21,7 @@ pub const MOST_LINE: usize = 63;
 pub struct Listed {
     pub used: usize,
     pub written: usize,
-    pub place: Place,
+    pub place: Stage,
     pub wants: Wants,
 }
 
@@ -104,14 +104,14 @@ fn closing(
         return Listed {
             used: used,
             written: end,
-            place: Place::Ended,
+            place: Stage::Ended,
             wants: Wants::Nothing,
         };
     }
     Listed {
         used: used,
         written: at,
-        place: Place::After(read),
+        place: Stage::After(read),
         wants: Wants::Bytes,
     }
 }
@@ -125,7 +125,7 @@ fn refused(refusal: Refusal, out: &mut [u8], used: usize, at: usize) -> Listed
     Listed {
         used: used,
         written: end,
-        place: Place::Ended,
+        place: Stage::Ended,
         wants: Wants::Nothing,
     }
 }
@@ -155,7 +155,7 @@ pub fn lines(start: SequenceNumber, bytes: &[u8], over: bool, out: &mut [u8]) ->
     Listed {
         used: used,
         written: end,
-        place: Place::After(read),
+        place: Stage::After(read),
         wants: Wants::Room,
     }
 }

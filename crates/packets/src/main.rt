@@ -4,7 +4,7 @@
 // room are wanted, is decided there.
 use libc::STDIN_FILENO;
 use libc::STDOUT_FILENO;
-use listing::Place;
+use listing::Stage;
 use listing::Wants;
 ghost use Prim.Native.Nat.{_≤_};
 ghost use lib.ListN.{length};
@@ -30,7 +30,7 @@ fn more(buf: &mut [u8], held: usize) -> usize
 
 // A proved loop has to end, so it counts turns down from a number that no run uses up.
 fn run(buf: &mut [u8], out: &mut [u8]) {
-    let mut place = Place::Start;
+    let mut place = Stage::Start;
     let mut held = 0;
     let mut over = false;
     let mut turns = u64::MAX;
