@@ -9,6 +9,8 @@ use listing::Wants;
 ghost use Prim.Native.Nat.{_≤_};
 ghost use lib.ListN.{length};
 
+// The buffer has twice the bytes of the longest packet: where bytes are wanted less than one packet
+// is held, so there is room behind it.
 fn main() {
     let mut space = [0u8; 131072];
     let buf: &mut [u8] = &mut space;
