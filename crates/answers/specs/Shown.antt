@@ -27,7 +27,8 @@ use Rattle.requests.specs.declared.Mode.{Mode}
 use Rattle.requests.specs.declared.Mode.the-variants as Mode
 use Rattle.held.specs.Head as Head
 use Rattle.model.specs.Model.{Filing}
-use Rattle.model.specs.Says.{Shown, none, packet, ShownPoll, again, noReply, reply, ShownEvent, noEvent, event as anEvent}
+use Rattle.model.specs.Says.{Shown, none, packet, ShownPoll, again, noReply, reply, IfShown, IfPolled, Under, Bare}
+use Rattle.model.specs.declared.Handed.{Handed}
 use Rattle.model.specs.Batch.{Stop, ended, refused, meaningless}
 use Rattle.model.specs.SendRequests.{ShownSendings}
 use Rattle.model.specs.PollForEvents.{ShownHandings}
@@ -154,7 +155,7 @@ filing x = placeNumber (x .0 .place) ∷ x .0 .number ∷ []
 -- whether a packet was found, its bytes and its descriptors
 abbrev pub polledOf : Shown → List ℕ
 polledOf none = 0 ∷ 0 ∷ 0 ∷ []
-polledOf (packet z) = 1 ∷ z .bytes ∷ z .places ∷ []
+polledOf (packet z) = 1 ∷ z .length ∷ z .descriptors ∷ []
 
 abbrev pub polled : Shown × Connection → List ℕ
 polled x = polledOf (x .0)
@@ -163,17 +164,17 @@ polled x = polledOf (x .0)
 abbrev pub pollOf : ShownPoll → List ℕ
 pollOf again = 0 ∷ 0 ∷ []
 pollOf noReply = 1 ∷ 0 ∷ []
-pollOf (reply n) = 2 ∷ n ∷ []
+pollOf (reply z) = 2 ∷ z .length ∷ []
 
 abbrev pub poll : ShownPoll × Connection → List ℕ
 poll x = pollOf (x .0)
 
 -- whether an event was found, its number and its bytes
-abbrev pub eventOf : ShownEvent → List ℕ
-eventOf noEvent = 0 ∷ 0 ∷ 0 ∷ []
-eventOf (anEvent n k) = 1 ∷ n ∷ k ∷ []
+abbrev pub eventOf : Shown → List ℕ
+eventOf none = 0 ∷ 0 ∷ 0 ∷ []
+eventOf (packet z) = 1 ∷ z .number .0 ∷ z .length ∷ []
 
-abbrev pub event : ShownEvent × Connection → List ℕ
+abbrev pub event : Shown × Connection → List ℕ
 event x = eventOf (x .0)
 
 -- what stopped a call that makes many steps: 0 for the end, a refusal by its number, 255 for a byte that is no kind
@@ -274,7 +275,7 @@ mode-kept n h = go (eqb n 1) refl h
     go true e k = sym (eqb-true n 1 e)
     go false e k = sym (eqb-true n 2 k)
 
--- ---- What is shown tells what was given: two that show the same are the same.
+-- ---- What is shown tells what was given: two that show the same are the same. Of a packet that was asked for by its number the number is not shown, nor is a count where no descriptors are handed out.
 
 placeOf : ℕ → Place
 placeOf n = choose (eqb n 0) Place.Replies (choose (eqb n 1) Place.Events Place.Dropped)
@@ -288,39 +289,42 @@ place-back Place.Dropped = refl
 pub place-told : (x y : Place) → placeNumber x ≡ placeNumber y → x ≡ y
 place-told x y e = sym (place-back x) ∙ ap placeOf e ∙ place-back y
 
-backPolled : List ℕ → Shown
-backPolled l = choose (eqb (getD l 0 0) 0) none (packet (record { bytes = getD l 1 0; places = getD l 2 0 }))
+handed : ℕ → ℕ → ℕ → Handed
+handed n bytes fds = record { number = record { 0 = n }; length = bytes; descriptors = fds }
 
-polled-back : (x : Shown) → backPolled (polledOf x) ≡ x
-unfolding backPolled choose
-polled-back none = refl
-polled-back (packet z) = refl
+backPolled : ℕ → List ℕ → Shown
+backPolled n l = choose (eqb (getD l 0 0) 0) none (packet (handed n (getD l 1 0) (getD l 2 0)))
 
-pub polled-told : (x y : Shown) → polledOf x ≡ polledOf y → x ≡ y
-polled-told x y e = sym (polled-back x) ∙ ap backPolled e ∙ polled-back y
+polled-back : (n : ℕ) (x : Shown) → IfShown (Under n) x → backPolled n (polledOf x) ≡ x
+unfolding backPolled handed choose
+polled-back n none h = refl
+polled-back n (packet z) h = λ k. packet (handed (sym h k) (z .length) (z .descriptors))
 
-backPoll : List ℕ → ShownPoll
-backPoll l = choose (eqb (getD l 0 0) 0) again (choose (eqb (getD l 0 0) 1) noReply (reply (getD l 1 0)))
+pub polled-told : (n : ℕ) (x y : Shown) → IfShown (Under n) x → IfShown (Under n) y → polledOf x ≡ polledOf y → x ≡ y
+polled-told n x y h k e = sym (polled-back n x h) ∙ ap (backPolled n) e ∙ polled-back n y k
 
-poll-back : (x : ShownPoll) → backPoll (pollOf x) ≡ x
-unfolding backPoll choose
-poll-back again = refl
-poll-back noReply = refl
-poll-back (reply n) = refl
+backPoll : ℕ → List ℕ → ShownPoll
+backPoll n l = choose (eqb (getD l 0 0) 0) again (choose (eqb (getD l 0 0) 1) noReply (reply (handed n (getD l 1 0) 0)))
 
-pub poll-told : (x y : ShownPoll) → pollOf x ≡ pollOf y → x ≡ y
-poll-told x y e = sym (poll-back x) ∙ ap backPoll e ∙ poll-back y
+poll-back : (n : ℕ) (x : ShownPoll) → IfPolled (λ z. Under n z × Bare z) x → backPoll n (pollOf x) ≡ x
+unfolding backPoll handed choose
+poll-back n again h = refl
+poll-back n noReply h = refl
+poll-back n (reply z) h = λ k. reply (handed (sym (h .0) k) (z .length) (sym (h .1) k))
 
-backEvent : List ℕ → ShownEvent
-backEvent l = choose (eqb (getD l 0 0) 0) noEvent (anEvent (getD l 1 0) (getD l 2 0))
+pub poll-told : (n : ℕ) (x y : ShownPoll) → IfPolled (λ z. Under n z × Bare z) x → IfPolled (λ z. Under n z × Bare z) y → pollOf x ≡ pollOf y → x ≡ y
+poll-told n x y h k e = sym (poll-back n x h) ∙ ap (backPoll n) e ∙ poll-back n y k
 
-event-back : (x : ShownEvent) → backEvent (eventOf x) ≡ x
-unfolding backEvent choose
-event-back noEvent = refl
-event-back (anEvent n k) = refl
+backEvent : List ℕ → Shown
+backEvent l = choose (eqb (getD l 0 0) 0) none (packet (handed (getD l 1 0) (getD l 2 0) 0))
 
-pub event-told : (x y : ShownEvent) → eventOf x ≡ eventOf y → x ≡ y
-event-told x y e = sym (event-back x) ∙ ap backEvent e ∙ event-back y
+event-back : (x : Shown) → IfShown Bare x → backEvent (eventOf x) ≡ x
+unfolding backEvent handed choose
+event-back none h = refl
+event-back (packet z) h = λ k. packet (handed (z .number .0) (z .length) (sym h k))
+
+pub event-told : (x y : Shown) → IfShown Bare x → IfShown Bare y → eventOf x ≡ eventOf y → x ≡ y
+event-told x y h k e = sym (event-back x h) ∙ ap backEvent e ∙ event-back y k
 
 -- What stopped a call too: a refusal's number is 1 to 16.
 abbrev pub Listed : ℕ → Type 0

@@ -66,11 +66,11 @@ pub fn give_polled(
     ensures { λ r. ⌜ Kept (λ a. a ≡ saysPolled answer) polled (stateRow (now (row .entry))) (now (found .entry) ∷ now (size .entry) ∷ now (count .entry) ∷ []) (now (found .exit) ∷ now (size .exit) ∷ now (count .exit) ∷ []) (now (row .entry)) (now (row .exit)) r ⌝ }
 {
     match answer {
-        Polled::Packet(n, k, next) => {
+        Polled::Packet(handed, next) => {
             rows::put_connection(row, next);
             *found = 1;
-            *size = n;
-            *count = k;
+            *size = handed.length;
+            *count = handed.descriptors;
             DONE
         }
         Polled::Nothing(next) => {
@@ -100,10 +100,10 @@ pub fn give_poll(answer: PollReply, row: &mut [u64], result: &mut u8, size: &mut
             *size = 0;
             DONE
         }
-        PollReply::Reply(n, next) => {
+        PollReply::Reply(handed, next) => {
             rows::put_connection(row, next);
             *result = 2;
-            *size = n;
+            *size = handed.length;
             DONE
         }
         PollReply::Refused(refusal) => code(refusal),
@@ -120,11 +120,12 @@ pub fn give_event(
     ensures { λ r. ⌜ Kept (λ a. a ≡ saysEvent answer) event (stateRow (now (row .entry))) (now (found .entry) ∷ now (number .entry) ∷ now (size .entry) ∷ []) (now (found .exit) ∷ now (number .exit) ∷ now (size .exit) ∷ []) (now (row .entry)) (now (row .exit)) r ⌝ }
 {
     match answer {
-        Event::Packet(given, n, next) => {
+        Event::Packet(handed, next) => {
             rows::put_connection(row, next);
+            let given = handed.number;
             *found = 1;
             *number = given.0;
-            *size = n;
+            *size = handed.length;
             DONE
         }
         Event::Nothing(next) => {

@@ -15,7 +15,7 @@ use Rattle.model.specs.Sound.{Sound}
 use Rattle.model.specs.Promise.{Done, Exact, outputOf}
 use Rattle.model.specs.Batch.{Turn, Many, many, Stop, ended, Site, site, exactTurn}
 use Rattle.model.specs.PollForEvents.{turns, Lent, lent, roomFor, handing, Handings, orRefused, shownHandings, packetsOfHandings, marksOfHandings}
-use Rattle.model.specs.Says.{shownEvent, bytesOfTaken, saysEvent}
+use Rattle.model.specs.Says.{shownTaken, bytesOfTaken, saysEvent}
 use Rattle.model.specs.SaysBatch.{saysEvents}
 use Rattle.model.specs.declared.Connection.{Connection}
 use Rattle.model.specs.declared.Event.{Event}
@@ -42,13 +42,13 @@ placed g at (gives d) out = put out at (g (d .value))
 placed g at (refuses n) out = out
 
 abbrev pub marked : Event → ℕ → List ℕ → List ℕ
-marked (Event.Packet n len next) at marks = put marks at (n .0 ∷ len ∷ [])
+marked (Event.Packet x next) at marks = put marks at (x .number .0 ∷ x .length ∷ [])
 marked (Event.Nothing c) at marks = marks
 marked (Event.Refused r) at marks = marks
 
 -- a packet has its two marks
 abbrev pub Markable : Event → ℕ → ℕ → Type 0
-Markable (Event.Packet n len next) at marks = at + 2 ≤ marks
+Markable (Event.Packet x next) at marks = at + 2 ≤ marks
 Markable (Event.Nothing c) at marks = Unit {0}
 Markable (Event.Refused r) at marks = Unit {0}
 
@@ -57,7 +57,7 @@ abbrev pub roomLeft : List ℕ → List ℕ → ℕ → ℕ → ℕ
 roomLeft out marks used at = roomFor (leb 2 (length marks - at)) (length out - used)
 
 pub record TurnStep (c : Connection) (s out marks : List ℕ) (used at : ℕ) (a : Event) (s' out' marks' : List ℕ) : Type 0 where
-  pub exact : (q f : List ℕ) → Exact shownEvent (eventExact c (rooms q s f) (roomLeft out marks used at)) (rooms q s f) (saysEvent a) (rooms q s' f)
+  pub exact : (q f : List ℕ) → Exact shownTaken (eventExact c (rooms q s f) (roomLeft out marks used at)) (rooms q s f) (saysEvent a) (rooms q s' f)
   pub output : (q f : List ℕ) → out' ≡ placed bytesOfTaken used (eventExact c (rooms q s f) (roomLeft out marks used at)) out
   pub marks-are : marks' ≡ marked a at marks
 

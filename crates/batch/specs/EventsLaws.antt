@@ -12,7 +12,6 @@ use borrow.Author.Tests.{le-leb, lt-leb, ltb-false}
 use Rattle.octets.specs.Logic.{choose}
 use Rattle.octets.specs.Put.{put, set-two}
 use Rattle.refusal.specs.Answer.{Answer, gives, refuses, refuse, gives-past, gives-rest, gives-same}
-use Rattle.sequence.specs.declared.SequenceNumber.{SequenceNumber}
 use Rattle.held.specs.Head as Record
 use Rattle.held.specs.Reading as Store
 use Rattle.held.specs.Rows.{all-here}
@@ -27,9 +26,11 @@ use Rattle.model.specs.Model.{Taken, none, packet}
 use Rattle.model.specs.Reading.{Rooms, rooms, slotsOf}
 use Rattle.model.specs.Promise.{Done, Exact, outputOf}
 use Rattle.model.specs.BatchLaws.{exact-gave}
-use Rattle.model.specs.Says.{event, noEvent, shownEvent, bytesOfTaken, saysEvent}
+use Rattle.model.specs.Says.{shownTaken, bytesOfTaken, saysEvent}
+use Rattle.model.specs.Says as Says
 use Rattle.model.specs.PollForEvents.{roomFor}
 use Rattle.model.specs.declared.Connection.{Connection}
+use Rattle.model.specs.declared.Handed.{Handed}
 use Rattle.model.specs.declared.Event.{Event}
 use Rattle.model.specs.declared.Event.the-variants as Event
 use Rattle.model.specs.Moved.{movedState}
@@ -70,63 +71,64 @@ module _ (c : Connection) (s : List ℕ) (R : Stored c s) (p : Place) (F : First
 
 -- ---- a turn that hands out
 
-pub record Out (c : Connection) (s : List ℕ) (bytes n len : ℕ) (next : Connection) (s' : List ℕ) : Type 0 where
+pub record Out (c : Connection) (s : List ℕ) (bytes : ℕ) (x : Handed) (next : Connection) (s' : List ℕ) : Type 0 where
   pub it : Held
-  pub number : n ≡ it .number
-  pub long : len ≡ length (it .packet)
-  pub least : leastPacket ≤ len
-  pub most : len ≤ bytes
+  pub number : x .number .0 ≡ it .number
+  pub long : x .length ≡ length (it .packet)
+  pub least : leastPacket ≤ x .length
+  pub most : x .length ≤ bytes
   pub given : (q f : List ℕ) → gives (record { value = packet it; state = next; left = rooms q s' f }) ≡ eventExact c (rooms q s f) bytes
 
-event-shown : (n len m k : ℕ) → event n len ≡ event m k → (n ≡ m) × (len ≡ k)
-event-shown n len m k e = (cc, cc)
+event-shown : (x y : Handed) → Says.packet x ≡ Says.packet y → x ≡ y
+event-shown x y e = cc
 
-no-shown : (n len : ℕ) → event n len ≡ noEvent → ⊥
-no-shown n len e = let z : _≡_ {A = ℕ} 0 1 = cc in omega arith
+no-shown : (x : Handed) → Says.packet x ≡ Says.none → ⊥
+no-shown x e = let z : _≡_ {A = ℕ} 0 1 = cc in omega arith
 
 module _ (c : Connection) (s : List ℕ) (R : Stored c s) (bytes : ℕ) where
-  pub out-is : (n : SequenceNumber) (len : ℕ) (next : Connection) (s' : List ℕ)
-      → ((q f : List ℕ) → Exact shownEvent (eventExact c (rooms q s f) bytes) (rooms q s f) (gives (event (n .0) len, next)) (rooms q s' f)) → Out c s bytes (n .0) len next s'
-  out-is n len next s' X = go (foundEvent (c .window) s) refl (Lists.find-event-law (c .window) s)
+  pub out-is : (x : Handed) (next : Connection) (s' : List ℕ)
+      → ((q f : List ℕ) → Exact shownTaken (eventExact c (rooms q s f) bytes) (rooms q s f) (gives (Says.packet x, next)) (rooms q s' f)) → Out c s bytes x next s'
+  out-is x next s' X = go (foundEvent (c .window) s) refl (Lists.find-event-law (c .window) s)
     where
-      go : (x : Found) → x ≡ foundEvent (c .window) s → FindsEvent (c .window) s x → Out c s bytes (n .0) len next s'
+      go : (y : Found) → y ≡ foundEvent (c .window) s → FindsEvent (c .window) s y → Out c s bytes x next s'
       go Found.Nothing e F =
-          let z = exact-gave shownEvent _ _ _ _ _ (X [] []) in
+          let z = exact-gave shownTaken _ _ _ _ _ (X [] []) in
           let d : z .0 ≡ stays none c (rooms [] s []) = gives-same (z .1 ∙ sym (from-found c s bytes Found.Nothing e [] [])) in
-          absurd (no-shown (n .0) len (z .2 ∙ ap (λ (y : Done Taken). shownEvent (y .value)) d))
+          absurd (no-shown x (z .2 ∙ ap (λ (y : Done Taken). shownTaken (y .value)) d))
       go (Found.At p) e F =
-          let z = exact-gave shownEvent _ _ _ _ _ (X [] []) in
+          let z = exact-gave shownTaken _ _ _ _ _ (X [] []) in
           let w : gives (z .0) ≡ eventFrom c (rooms [] s []) bytes (Found.At p) = z .1 ∙ sym (from-found c s bytes (Found.At p) e [] []) in
           let t : ltb bytes (p .len) ≡ false = gives-past _ _ _ w in
           let d = gives-same (gives-rest _ _ _ w) in
-          let v = event-shown _ _ _ _ (z .2 ∙ ap (λ (y : Done Taken). shownEvent (y .value)) d) in
+          let v = event-shown _ _ (z .2 ∙ ap (λ (y : Done Taken). shownTaken (y .value)) d) in
           let ns : next ≡ movedState c (without c (rooms [] s []) p .window) (c .counts) = z .3 ∙ ap (λ (y : Done Taken). y .state) d in
           let ss : s' ≡ without c (rooms [] s []) p .store = ap (λ (y : Rooms). y .store) (z .4 ∙ ap (λ (y : Done Taken). y .left) d) in
-          let l : len ≡ p .len = v .1 ∙ place-long c s R p F in
+          let w : x .length ≡ length (eventAt (rooms [] s []) p .packet) = ap (λ (y : Handed). y .length) v in
+          let l : x .length ≡ p .len = w ∙ place-long c s R p F in
           let m : p .len ≤ bytes = ltb-false bytes (p .len) t in
           record {
             it = eventAt (rooms [] s []) p;
-            number = v .0;
-            long = v .1;
+            number = ap (λ (y : Handed). y .number .0) v;
+            long = w;
             least = omega (arith, place-least c s R p F);
             most = omega arith;
             given = λ q f. (λ k. gives (record { value = packet (eventAt (rooms [] s []) p); state = ns k; left = rooms q (ss k) f })) ∙ from-place c s bytes p e t q f;
           }
 
   -- one that finds none
-  pub none-is : (c' : Connection) (s' : List ℕ) → ((q f : List ℕ) → Exact shownEvent (eventExact c (rooms q s f) bytes) (rooms q s f) (gives (noEvent, c')) (rooms q s' f))
+  pub none-is : (c' : Connection) (s' : List ℕ) → ((q f : List ℕ) → Exact shownTaken (eventExact c (rooms q s f) bytes) (rooms q s f) (gives (Says.none, c')) (rooms q s' f))
       → ((q f : List ℕ) → gives (stays none c (rooms q s f)) ≡ eventExact c (rooms q s f) bytes) × (s' ≡ s)
   none-is c' s' X = go (foundEvent (c .window) s) refl
     where
       go : (x : Found) → x ≡ foundEvent (c .window) s → ((q f : List ℕ) → gives (stays none c (rooms q s f)) ≡ eventExact c (rooms q s f) bytes) × (s' ≡ s)
       go Found.Nothing e =
-          let z = exact-gave shownEvent _ _ _ _ _ (X [] []) in
+          let z = exact-gave shownTaken _ _ _ _ _ (X [] []) in
           let d : z .0 ≡ stays none c (rooms [] s []) = gives-same (z .1 ∙ sym (from-found c s bytes Found.Nothing e [] [])) in
           (λ q f. from-found c s bytes Found.Nothing e q f, ap (λ (y : Rooms). y .store) (z .4 ∙ ap (λ (y : Done Taken). y .left) d))
       go (Found.At p) e =
-          let z = exact-gave shownEvent _ _ _ _ _ (X [] []) in
+          let z = exact-gave shownTaken _ _ _ _ _ (X [] []) in
           let d = gives-same (gives-rest _ _ _ (z .1 ∙ sym (from-found c s bytes (Found.At p) e [] []))) in
-          absurd (no-shown _ _ (sym (z .2 ∙ ap (λ (y : Done Taken). shownEvent (y .value)) d)))
+          absurd (no-shown _ (sym (z .2 ∙ ap (λ (y : Done Taken). shownTaken (y .value)) d)))
 
   -- a packet that is given has room
   pub given-room : (q f : List ℕ) (d : Done Taken) → gives d ≡ eventExact c (rooms q s f) bytes → length (bytesOfTaken (d .value)) ≤ bytes
@@ -189,9 +191,9 @@ marks-there marks room len h k =
 -- A turn needs two marks where it hands a packet out,
 pub turn-markable : (c : Connection) (s part out marks : List ℕ) (used at : ℕ) (a : Event) (s' part' : List ℕ) → Stored c s → length part ≡ roomLeft out marks used at → EventStep c s part a s' part'
     → Markable a at (length marks)
-turn-markable c s part out marks used at (Event.Packet n len next) s' part' R l x =
-    let o = out-is c s R (length part) n len next s' (x .exact) in
-    omega (arith, marks-there (length marks - at) (length out - used) len (o .least) (omega (arith, o .most)))
+turn-markable c s part out marks used at (Event.Packet z next) s' part' R l x =
+    let o = out-is c s R (length part) z next s' (x .exact) in
+    omega (arith, marks-there (length marks - at) (length out - used) (z .length) (o .least) (omega (arith, o .most)))
 turn-markable c s part out marks used at (Event.Nothing c') s' part' R l x = tt
 turn-markable c s part out marks used at (Event.Refused r) s' part' R l x = tt
 
@@ -203,7 +205,7 @@ turn-is c s out marks used at n a s' part' marks' R e h x m =
     let l : length (take n (drop used out)) ≡ n = length-take-le n (drop used out) (omega (arith, length-drop used out)) in
     let b : length (take n (drop used out)) ≡ roomLeft out marks used at = l ∙ e in
     record {
-      exact = λ q f. subst (λ (y : ℕ). Exact shownEvent (eventExact c (rooms q s f) y) (rooms q s f) (saysEvent a) (rooms q s' f)) b (x .exact q f);
+      exact = λ q f. subst (λ (y : ℕ). Exact shownTaken (eventExact c (rooms q s f) y) (rooms q s f) (saysEvent a) (rooms q s' f)) b (x .exact q f);
       output = λ q f.
           ap (λ (y : List ℕ). take used out ++ (y ++ drop n (drop used out))) (x .output q f)
           ∙ ap (λ (y : ℕ). take used out ++ (outputOf bytesOfTaken (eventExact c (rooms q s f) y) (take n (drop used out)) ++ drop n (drop used out))) l
@@ -214,9 +216,8 @@ turn-is c s out marks used at n a s' part' marks' R e h x m =
 
 -- ---- marks
 
-pub markable-packet : (a : Event) (n : SequenceNumber) (len : ℕ) (next : Connection) (at m : ℕ) → a ≡ Event.Packet n len next → Markable a at m → at + 2 ≤ m
-markable-packet a n len next at m e h = subst (λ z. Markable z at m) e h
+pub markable-packet : (a : Event) (x : Handed) (next : Connection) (at m : ℕ) → a ≡ Event.Packet x next → Markable a at m → at + 2 ≤ m
+markable-packet a x next at m e h = subst (λ z. Markable z at m) e h
 
-pub marked-packet : (a : Event) (n : SequenceNumber) (len : ℕ) (next : Connection) (at : ℕ) (marks : List ℕ) → a ≡ Event.Packet n len next → Markable a at (length marks) → set (set marks at (n .0)) (at + 1) len ≡ marked a at marks
-marked-packet a n len next at marks e h =
-    set-two marks at (n .0) len (markable-packet a n len next at (length marks) e h) ∙ ap (λ z. marked z at marks) (sym e)
+pub marked-packet : (a : Event) (x : Handed) (next : Connection) (at : ℕ) (marks : List ℕ) → a ≡ Event.Packet x next → Markable a at (length marks) → set (set marks at (x .number .0)) (at + 1) (x .length) ≡ marked a at marks
+marked-packet a x next at marks e h = set-two marks at (x .number .0) (x .length) (markable-packet a x next at (length marks) e h) ∙ ap (λ z. marked z at marks) (sym e)

@@ -12,7 +12,6 @@ use Rattle.octets.specs.Put.{put, length-put, put-none, put-more}
 use Rattle.refusal.specs.Answer.{Answer, gives, refuses}
 use Rattle.refusal.specs.Numbers.{numberOf}
 use Rattle.refusal.specs.declared.Refusal.{Refusal}
-use Rattle.sequence.specs.declared.SequenceNumber.{SequenceNumber}
 use Rattle.model.specs.Client.{Held}
 use Rattle.model.specs.Model.{none}
 use Rattle.model.specs.Reading.{Rooms, rooms}
@@ -20,10 +19,11 @@ use Rattle.model.specs.Sound.{Sound}
 use Rattle.model.specs.Promise.{answerOf, roomsOf, outputOf}
 use Rattle.model.specs.Batch.{goes, stops, onward, many, Stop, ended, refused, site, exactTurn}
 use Rattle.model.specs.BatchLaws.{exact-stayed, row-goes, row-stops}
-use Rattle.model.specs.Says.{shownEvent, bytesOfTaken}
+use Rattle.model.specs.Says.{shownTaken, bytesOfTaken}
 use Rattle.model.specs.SaysBatch.{saysStop}
 use Rattle.model.specs.PollForEvents.{turns, lent, roomFor, handing, orRefused, packetsOf, marksOf, shownHandings, packetsOfHandings, marksOfHandings}
 use Rattle.model.specs.declared.Connection.{Connection}
+use Rattle.model.specs.declared.Handed.{Handed}
 use Rattle.model.specs.declared.Event.{Event}
 use Rattle.model.specs.declared.Event.the-variants as Event
 use Rattle.model.specs.declared.Events.{Events}
@@ -219,7 +219,7 @@ module _ (c₀ : Connection) (s₀ out₀ marks₀ : List ℕ) (c : Connection) 
   unfolding placed
   inv-stop a r z s' out' marks' e x i =
       let y = subst (λ k. TurnStep c s out marks used (2 * count) k s' out' marks') e x in
-      let n : (q f : List ℕ) → (refuses (numberOf r) ≡ eventExact c (rooms q s f) (roomLeft out marks used (2 * count))) × (rooms q s' f ≡ rooms q s f) = λ q f. exact-stayed shownEvent _ _ _ _ (y .exact q f) in
+      let n : (q f : List ℕ) → (refuses (numberOf r) ≡ eventExact c (rooms q s f) (roomLeft out marks used (2 * count))) × (rooms q s' f ≡ rooms q s f) = λ q f. exact-stayed shownTaken _ _ _ _ (y .exact q f) in
       let o : out' ≡ out = y .output [] [] ∙ ap (λ k. placed bytesOfTaken used k out) (sym (n [] [] .0)) in
       subst (λ k. EventsStep c₀ s₀ out₀ marks₀ k s' out' marks') (sym i)
       (subst (λ k. EventsStep c₀ s₀ out₀ marks₀ (stoppedBy count used r c) k out' marks') (sym (ap (λ (k : Rooms). k .store) (n [] [] .1)))
@@ -228,9 +228,12 @@ module _ (c₀ : Connection) (s₀ out₀ marks₀ : List ℕ) (c : Connection) 
 
   -- ---- an event
 
-  module _ (n : SequenceNumber) (len : ℕ) (next : Connection) (s' out' marks' : List ℕ) (y : TurnStep c s out marks used (2 * count) (Event.Packet n len next) s' out' marks') (sl : length s' ≡ length s) where
-    given : Out c s (roomLeft out marks used (2 * count)) (n .0) len next s'
-    given = out-is c s (I .stored) (roomLeft out marks used (2 * count)) n len next s' (y .exact)
+  module _ (x : Handed) (next : Connection) (s' out' marks' : List ℕ) (y : TurnStep c s out marks used (2 * count) (Event.Packet x next) s' out' marks') (sl : length s' ≡ length s) where
+    abbrev len : ℕ
+    len = x .length
+
+    given : Out c s (roomLeft out marks used (2 * count)) x next s'
+    given = out-is c s (I .stored) (roomLeft out marks used (2 * count)) x next s' (y .exact)
 
     two : 2 ≤ left-now
     unfolding left-now
@@ -287,11 +290,11 @@ module _ (c₀ : Connection) (s₀ out₀ marks₀ : List ℕ) (c : Connection) 
               ∙ ap (λ (l : List Bool). onward (I .events ++ (h ∷ [])) (many eventStep ended (lent (site next (rooms q s' f)) (length out₀ - (used + len))) l)) (after-many (length marks₀ - 2 * count) tw ∙ (let z : length marks₀ - 2 * count - 2 ≡ length marks₀ - 2 * (count + 1) = omega arith in ap turns z));
         }
 
-  module _ (a : Event) (n : SequenceNumber) (len : ℕ) (next : Connection) (s' out' marks' : List ℕ) (e : a ≡ Event.Packet n len next) (sl : length s' ≡ length s)
-      (x : TurnStep c s out marks used (2 * count) a s' out' marks') where
-    packet-turn : TurnStep c s out marks used (2 * count) (Event.Packet n len next) s' out' marks'
-    packet-turn = subst (λ z. TurnStep c s out marks used (2 * count) z s' out' marks') e x
+  module _ (a : Event) (x : Handed) (next : Connection) (s' out' marks' : List ℕ) (e : a ≡ Event.Packet x next) (sl : length s' ≡ length s)
+      (y : TurnStep c s out marks used (2 * count) a s' out' marks') where
+    packet-turn : TurnStep c s out marks used (2 * count) (Event.Packet x next) s' out' marks'
+    packet-turn = subst (λ z. TurnStep c s out marks used (2 * count) z s' out' marks') e y
 
     -- the invariant goes on
-    pub inv-next : Inv c₀ s₀ out₀ marks₀ next s' out' marks' (used + len) (count + 1)
-    inv-next = next-inv n len next s' out' marks' packet-turn sl
+    pub inv-next : Inv c₀ s₀ out₀ marks₀ next s' out' marks' (used + x .length) (count + 1)
+    inv-next = next-inv x next s' out' marks' packet-turn sl

@@ -18,9 +18,10 @@ use Rattle.held.specs.declared.Place.{Place}
 use Rattle.model.specs.Model.{packet}
 use Rattle.model.specs.Reading.{rooms, slotsOf}
 use Rattle.model.specs.Promise.{Exact, exact-given}
-use Rattle.model.specs.Says.{ShownEvent, shownEvent, bytesOfTaken}
+use Rattle.model.specs.Says.{Shown, shownTaken, bytesOfTaken}
 use Rattle.model.specs.Says as Says
 use Rattle.model.specs.declared.Connection.{Connection}
+use Rattle.model.specs.declared.Handed.{Handed}
 use Rattle.model.specs.declared.Event.the-variants as Event
 use Rattle.model.specs.Moved.{movedState}
 use Rattle.polling.specs.Exact.{eventAt, moved, eventExact}
@@ -48,10 +49,14 @@ pub record FirstWithin (c : Connection) (s : List ℕ) : Type 0 where
 abbrev pub passedState : Connection → ℕ → Connection
 passedState c len = movedState c (window (c .window .start + (headerSize + len)) (c .window .end)) (c .counts)
 
+-- what is handed out
+abbrev pub handedFirst : SequenceNumber → ℕ → Handed
+handedFirst number len = record { number = number; length = len; descriptors = 0 }
+
 -- To hand it out is the turn.
 pub record FirstTurn (c : Connection) (s out marks : List ℕ) (used at len : ℕ) (out' marks' : List ℕ) : Type 0 where
   pub number : SequenceNumber
-  pub turn : TurnStep c s out marks used at (Event.Packet number len (passedState c len)) s out' marks'
+  pub turn : TurnStep c s out marks used at (Event.Packet (handedFirst number len) (passedState c len)) s out' marks'
   pub room : c .window .start + (headerSize + len) ≤ c .window .end
 
 -- ---- laws
@@ -60,8 +65,8 @@ pub first-told : (c : Connection) (s : List ℕ) (room marks : ℕ) (b : Bool) �
 first-told c s room marks b F e = subst (IsFirst c s room marks) e F
 
 pub first-turns : (c : Connection) (s out marks : List ℕ) (used at len : ℕ) (out' marks' : List ℕ) (F : FirstTurn c s out marks used at len out' marks') (next : Connection) → next ≡ passedState c len
-    → TurnStep c s out marks used at (Event.Packet (F .number) len next) s out' marks'
-first-turns c s out marks used at len out' marks' F next e = subst (λ (y : Connection). TurnStep c s out marks used at (Event.Packet (F .number) len y) s out' marks') (sym e) (F .turn)
+    → TurnStep c s out marks used at (Event.Packet (handedFirst (F .number) len) next) s out' marks'
+first-turns c s out marks used at len out' marks' F next e = subst (λ (y : Connection). TurnStep c s out marks used at (Event.Packet (handedFirst (F .number) len) y) s out' marks') (sym e) (F .turn)
 
 module _ (c : Connection) (s : List ℕ) (R : Stored c s) where
   readable : Readable (c .window) s
@@ -100,9 +105,9 @@ module _ (c : Connection) (s : List ℕ) (R : Stored c s) where
         number = record { 0 = n };
         turn = record {
           exact = λ q f.
-              subst (λ (y : Answer (ShownEvent × Connection)). Exact shownEvent (eventExact c (rooms q s f) (roomLeft out marks used at)) (rooms q s f) y (rooms q s f))
-              (λ i. gives (Says.event (sym N i) ((l ∙ sym L) i), passedState c (sym L i)))
-              (exact-given shownEvent (eventExact c (rooms q s f) (roomLeft out marks used at)) (rooms q s f) (record { value = packet (eventAt (rooms q s f) q₀); state = passedState c (q₀ .len); left = rooms q s f }) (x q f));
+              subst (λ (y : Answer (Shown × Connection)). Exact shownTaken (eventExact c (rooms q s f) (roomLeft out marks used at)) (rooms q s f) y (rooms q s f))
+              (λ i. gives (Says.packet (handedFirst (record { 0 = sym N i }) ((l ∙ sym L) i)), passedState c (sym L i)))
+              (exact-given shownTaken (eventExact c (rooms q s f) (roomLeft out marks used at)) (rooms q s f) (record { value = packet (eventAt (rooms q s f) q₀); state = passedState c (q₀ .len); left = rooms q s f }) (x q f));
           output = λ q f.
               O ∙ ap (λ (y : ℕ). put out used (take y (drop (c .window .start + headerSize) s))) k
               ∙ ap (λ y. placed bytesOfTaken used y out) (x q f);

@@ -38,9 +38,9 @@ pub fn poll_for_events(c: Connection, store: &mut [u8], out: &mut [u8], marks: &
         }
         let a = turn(state, store, out, marks, used, at);
         match a {
-            Event::Packet(_, len, next) => {
+            Event::Packet(handed, next) => {
                 state = next;
-                used += len;
+                used += handed.length;
                 count += 1;
             }
             Event::Nothing(_) => {
@@ -86,9 +86,10 @@ fn mark(marks: &mut [u64], at: usize, a: Event)
     ensures { λ _. ⌜ now (marks .exit) ≡ marked a at (now (marks .entry)) ⌝ }
 {
     match a {
-        Event::Packet(number, len, _) => {
+        Event::Packet(handed, _) => {
+            let number = handed.number;
             marks[at] = number.0;
-            marks[at + 1] = len as u64;
+            marks[at + 1] = handed.length as u64;
         }
         Event::Nothing(_) => {}
         Event::Refused(_) => {}

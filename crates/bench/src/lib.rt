@@ -4,6 +4,7 @@
 // Each export tests whatever the move below it asks for, answers that it refused where a test
 // fails, and otherwise makes the one call. A window is two numbers in a lent array.
 use held::Found;
+use held::Label;
 use held::Walked;
 use held::Window;
 ghost use mathlib.Core.Path.{_≡_};
@@ -109,7 +110,12 @@ pub extern "C" fn bench_append(
     if store.len() - (w.end - w.start) < held::HEADER + packet.len() {
         return false;
     }
-    let next = held::append(store, w, last, 0, held::EVENT, packet);
+    let label = Label {
+        number: last,
+        fds: 0,
+        kind: held::EVENT,
+    };
+    let next = held::append(store, w, label, packet);
     window[0] = next.start;
     window[1] = next.end;
     true

@@ -5,6 +5,7 @@ use crate::sends;
 use model::Connection;
 use model::Enqueued;
 use model::Event;
+use model::Handed;
 use model::PollReply;
 use model::Polled;
 use script::Op;
@@ -59,7 +60,9 @@ fn replied(c: Connection, answer: PollReply) -> Called {
     match answer {
         PollReply::TryAgain(next) => sends::with(next, text::say(text::AGAIN)),
         PollReply::NoReply(next) => sends::with(next, text::say(text::NOREPLY)),
-        PollReply::Reply(len, next) => sends::with(next, text::shown(text::REPLY, 0, len)),
+        PollReply::Reply(handed, next) => {
+            sends::with(next, text::shown(text::REPLY, 0, handed.length))
+        }
         PollReply::Refused(refusal) => sends::refused(c, refusal),
     }
 }
@@ -79,15 +82,16 @@ pub(crate) fn event(
 
 fn happened(c: Connection, answer: Event) -> Called {
     match answer {
-        Event::Packet(number, len, next) => sends::with(next, shown(number.0, len)),
+        Event::Packet(handed, next) => sends::with(next, shown(handed)),
         Event::Nothing(next) => sends::with(next, text::say(text::NONE)),
         Event::Refused(refusal) => sends::refused(c, refusal),
     }
 }
 
-fn shown(number: u64, len: usize) -> text::Answer {
-    let mut answer = text::count(text::EVENT, number);
-    answer.len = len;
+fn shown(handed: Handed) -> text::Answer {
+    let number = handed.number;
+    let mut answer = text::count(text::EVENT, number.0);
+    answer.len = handed.length;
     answer
 }
 
@@ -127,7 +131,9 @@ fn handed(start: Done, answer: Polled, list: &[u32], bytes: &mut [u8]) -> Done {
 
 fn polled(c: Connection, answer: Polled) -> Called {
     match answer {
-        Polled::Packet(len, _, next) => sends::with(next, text::shown(text::PACKET, 0, len)),
+        Polled::Packet(handed, next) => {
+            sends::with(next, text::shown(text::PACKET, 0, handed.length))
+        }
         Polled::Nothing(next) => sends::with(next, text::say(text::NONE)),
         Polled::Refused(refusal) => sends::refused(c, refusal),
     }
@@ -135,7 +141,7 @@ fn polled(c: Connection, answer: Polled) -> Called {
 
 fn count_of(answer: Polled) -> usize {
     match answer {
-        Polled::Packet(_, count, _) => count,
+        Polled::Packet(handed, _) => handed.descriptors,
         _ => 0,
     }
 }

@@ -13,7 +13,7 @@ use Rattle.model.specs.Client.{Client}
 use Rattle.model.specs.Model.{roomy, new, sendRequest, enqueueFds, takeClosed, Filing, enqueuePacket, discardReply, pollForReplyOrError, pollCheck, pollForReply, prepareCheck, pollForEvent}
 use Rattle.model.specs.Reading.{Rooms, reads}
 use Rattle.model.specs.Promise.{Done, Exact, Promise, outputOf, modelOf, guarded, same}
-use Rattle.model.specs.Says.{Shown, shownTaken, ShownEvent, shownEvent, ShownPoll, shownPoll, bytesOfTaken, descriptorsOfTaken, bytesOfPoll}
+use Rattle.model.specs.Says.{Shown, shownTaken, ShownPoll, shownPoll, bytesOfTaken, descriptorsOfTaken, bytesOfPoll}
 use Rattle.model.specs.SendRequests.{ShownSendings, shownSendings, sendRequests}
 use Rattle.model.specs.Feed.{ShownFed, shownFed}
 use Rattle.model.specs.PollForEvents.{ShownHandings, shownHandings, packetsOfHandings, marksOfHandings, pollForEvents}
@@ -84,8 +84,8 @@ pub record Hands {A B : Type 0} (f : A → B) (g : A → List ℕ) (e : Answer (
 abbrev pub Closes : Connection → Rooms → List ℕ → Answer (ℕ × Connection) → Rooms → List ℕ → Type 0
 Closes c r out = Hands length same (closeExact c r (length out)) (λ m. takeClosed m (length out)) c r out
 
-abbrev pub PollsEvent : Connection → Rooms → List ℕ → Answer (ShownEvent × Connection) → Rooms → List ℕ → Type 0
-PollsEvent c r out = Hands shownEvent bytesOfTaken (eventExact c r (length out)) (λ m. pollForEvent m (length out)) c r out
+abbrev pub PollsEvent : Connection → Rooms → List ℕ → Answer (Shown × Connection) → Rooms → List ℕ → Type 0
+PollsEvent c r out = Hands shownTaken bytesOfTaken (eventExact c r (length out)) (λ m. pollForEvent m (length out)) c r out
 
 abbrev pub Checks : Connection → Rooms → ℕ → List ℕ → Answer (ShownPoll × Connection) → Rooms → List ℕ → Type 0
 Checks c r n out = Hands shownPoll bytesOfPoll (checkedExact c r n (length out)) (λ m. pollCheck m n (length out)) c r out

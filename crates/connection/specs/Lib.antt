@@ -2,3 +2,4 @@ pub mod Calls
 pub mod Laws
 pub mod Opening
 pub mod Theorems
+pub mod Handing

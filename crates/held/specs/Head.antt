@@ -21,6 +21,7 @@ use Rattle.octets.specs.Bytes.{littleOrder, word, Octets, word-number, length-b
 use Rattle.octets.specs.Put.{put, cut, cut-add, length-cut, put-parts, put-none, put-next, set-two}
 use Rattle.octets.specs.Field.{field, putField, octets-cut}
 use Rattle.packet.specs.Packet.{leastPacket, mostPacket}
+use Rattle.held.specs.declared.Label.{Label}
 use Rattle.held.specs.General.{cut-first, cut-skip, field-first, field-skip}
 
 abbrev pub numberAt : ℕ
@@ -62,6 +63,10 @@ pub record Held : Type 0 where
 
 abbrev pub held : ℕ → ℕ → ℕ → List ℕ → Held
 held number fds kind packet = record { number = number; fds = fds; kind = kind; packet = packet }
+
+-- a packet under its label
+abbrev pub labelled : Label → List ℕ → Held
+labelled l packet = held (l .number) (l .fds) (l .kind) packet
 
 -- the bytes that it takes
 abbrev pub cost : Held → ℕ

@@ -5,8 +5,9 @@ ghost use Prim.Native.Nat.{_+_, _-_, _≤_};
 ghost use lib.ListN.{length, drop};
 ghost use Rattle.octets.specs.Put.{put, cut};
 ghost use Rattle.packet.specs.Packet.{mostPacket};
-ghost use Rattle.held.specs.Head.{headerSize, countAt, held, encoded, mostFds, numOf, lenOf, fdsOf, kindOf, zeroOf};
+ghost use Rattle.held.specs.Head.{headerSize, countAt, labelled, encoded, mostFds, numOf, lenOf, fdsOf, kindOf, zeroOf};
 ghost use Rattle.held.specs.Front.{Sized};
+use crate::Label;
 
 // Where the fields stand: eight bytes, four, one, one and two. The packet stands behind them.
 const NUMBER: usize = 0;
@@ -111,13 +112,13 @@ pub fn put_kind(s: &mut [u8], at: usize, fds: u8, kind: u8)
 }
 
 // A whole record.
-pub fn put_record(s: &mut [u8], at: usize, number: u64, fds: u8, kind: u8, packet: &[u8])
+pub fn put_record(s: &mut [u8], at: usize, label: Label, packet: &[u8])
     requires { ⌜ (at + headerSize + length (now packet) ≤ length (now s)) × (length (now packet) ≤ mostPacket) ⌝ }
-    ensures { λ _. ⌜ now (s .exit) ≡ put (now (s .entry)) at (encoded (held number fds kind (now (packet .entry)))) ⌝ }
+    ensures { λ _. ⌜ now (s .exit) ≡ put (now (s .entry)) at (encoded (labelled label (now (packet .entry)))) ⌝ }
 {
-    octets::put_u64(octets::LITTLE, s, at + NUMBER, number);
+    octets::put_u64(octets::LITTLE, s, at + NUMBER, label.number);
     octets::put_u32(octets::LITTLE, s, at + LENGTH, packet.len() as u32);
-    put_kind(s, at, fds, kind);
+    put_kind(s, at, label.fds, label.kind);
     octets::put_u16(octets::LITTLE, s, at + ZERO, 0);
     octets::copy_in(s, at + HEADER, packet);
 }

@@ -39,6 +39,14 @@ pub struct Window {
     pub end: usize,
 }
 
+// What a record says of its packet: the number of its request, its count of descriptors and its
+// kind.
+pub struct Label {
+    pub number: u64,
+    pub fds: u8,
+    pub kind: u8,
+}
+
 // What a walk over the whole window finds: the descriptors of the replies in all, or that the
 // state is unsound.
 pub enum Walked {

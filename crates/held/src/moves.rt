@@ -3,8 +3,9 @@ ghost use mathlib.Core.Path.{_≡_};
 ghost use Prim.Native.Nat.{_+_, _≤_, _<_};
 ghost use lib.ListN.{length, getD};
 ghost use Rattle.packet.specs.Packet.{mostPacket};
-ghost use Rattle.held.specs.Head.{headerSize, held};
+ghost use Rattle.held.specs.Head.{headerSize, labelled};
 ghost use Rattle.held.specs.Moves.{Room, Within, Leaves, Takes, left, stays, behind, appended, removed, demoted};
+use crate::Label;
 use crate::Place;
 use crate::Window;
 use crate::head;
@@ -24,19 +25,11 @@ pub fn stays(store: &[u8], window: Window, n: usize) -> bool
     true
 }
 
-// A packet is held behind all others, with the number of its request, its kind and its count of
-// descriptors. Nothing is written outside the window and the new record, unless the window had to
-// slide to the start of the store.
-pub fn append(
-    store: &mut [u8],
-    window: Window,
-    number: u64,
-    fds: u8,
-    kind: u8,
-    packet: &[u8],
-) -> Window
+// A packet is held behind all others under its label. Nothing is written outside the window and the
+// new record, unless the window had to slide to the start of the store.
+pub fn append(store: &mut [u8], window: Window, label: Label, packet: &[u8]) -> Window
     requires { ⌜ Room window (now store) (length (now packet)) ⌝ }
-    ensures { λ r. ⌜ Leaves (appended window (now (store .entry)) (held number fds kind (now (packet .entry)))) r (now (store .exit)) ⌝ }
+    ensures { λ r. ⌜ Leaves (appended window (now (store .entry)) (labelled label (now (packet .entry)))) r (now (store .exit)) ⌝ }
 {
     let start = window.start;
     let end = window.end;
@@ -47,30 +40,24 @@ pub fn append(
             start: 0,
             end: used,
         };
-        return behind(store, front, number, fds, kind, packet);
+        return behind(store, front, label, packet);
     }
-    behind(store, window, number, fds, kind, packet)
+    behind(store, window, label, packet)
 }
 
 // A record is written behind the window, which stays where it is.
-pub fn behind(
-    store: &mut [u8],
-    window: Window,
-    number: u64,
-    fds: u8,
-    kind: u8,
-    packet: &[u8],
-) -> Window
+pub fn behind(store: &mut [u8], window: Window, label: Label, packet: &[u8]) -> Window
     requires { ⌜ (window .end + (headerSize + length (now packet)) ≤ length (now store)) × (length (now packet) ≤ mostPacket) ⌝ }
-    ensures { λ r. ⌜ Leaves (behind (left window (now (store .entry))) (held number fds kind (now (packet .entry)))) r (now (store .exit)) ⌝ }
+    ensures { λ r. ⌜ Leaves (behind (left window (now (store .entry))) (labelled label (now (packet .entry)))) r (now (store .exit)) ⌝ }
 {
     let start = window.start;
     let end = window.end;
     let cost = head::HEADER + packet.len();
-    head::put_record(store, end, number, fds, kind, packet);
+    head::put_record(store, end, label, packet);
+    let next = end + cost;
     Window {
         start: start,
-        end: end + cost,
+        end: next,
     }
 }
 

@@ -2,6 +2,7 @@
 //
 // It asks nothing of the requests and claims no descriptors, so all that happens to the rooms is one
 // record written. A row of such packets keeps what changes in a few numbers.
+use held::Label;
 use model::Connection;
 use model::moved;
 use sequence::Full;
@@ -46,6 +47,11 @@ pub fn take_plain(
 {
     let window = c.window;
     let next = filing::numbered(c, packet[0], number.0);
-    let after = held::behind(store, window, number.0, 0, held::EVENT, packet);
+    let label = Label {
+        number: number.0,
+        fds: 0,
+        kind: held::EVENT,
+    };
+    let after = held::behind(store, window, label, packet);
     moved(next, after, c.counts)
 }

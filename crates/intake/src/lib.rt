@@ -11,6 +11,7 @@ pub use event::Plain;
 pub use event::plain_of;
 pub use event::take_plain;
 use filing::Plan;
+use held::Label;
 use model::Connection;
 use model::Enqueued;
 use model::Place;
@@ -32,14 +33,25 @@ fn file(
 {
     let window = c.window;
     let counts = c.counts;
+    let number = c.read;
     match place {
         Place::Replies => {
-            let next = held::append(store, window, c.read, claim, held::REPLY, packet);
+            let label = Label {
+                number: number,
+                fds: claim,
+                kind: held::REPLY,
+            };
+            let next = held::append(store, window, label, packet);
             let fds = descriptors::hold(counts, claim as usize);
             moved(c, next, fds)
         }
         Place::Events => {
-            let next = held::append(store, window, c.read, 0, held::EVENT, packet);
+            let label = Label {
+                number: number,
+                fds: 0,
+                kind: held::EVENT,
+            };
+            let next = held::append(store, window, label, packet);
             moved(c, next, counts)
         }
         Place::Dropped => {

@@ -124,7 +124,7 @@ brings (poll-for-events out marks) = []
 -- how many descriptors an answer says are at the start of the output
 abbrev pub placesOf : Shown → ℕ
 placesOf none = 0
-placesOf (packet z) = z .places
+placesOf (packet z) = z .descriptors
 
 -- the descriptors that it finds in its outputs
 abbrev pub finds : (x : Ask) → Value x → Outputs x → List ℕ

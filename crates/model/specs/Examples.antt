@@ -193,6 +193,10 @@ pub examples : All table
 unfolding run step Model.sendRequest Model.enqueueFds Model.enqueuePacket Model.discardReply Model.takeClosed Model.pollForReplyOrError Model.pollCheck Model.pollForReply Model.prepareCheck Model.pollForEvent Model.find pass refuse sending mustSync both either choose numberAfter unnumbered inRange full field numberIn cut turned bytesOf lowBytes lowNumber Model.numbered Model.askedOf Model.headOf Model.placeOf Model.claimed Model.takeIn Model.decide Model.decideBy costs descriptorsOf Model.withMode underMode Model.ofNumber Model.notOf Model.above Model.errorsOf Model.closingOrder
 examples = (refl, (refl, (refl, (refl, (refl, (refl, (refl, (refl, (refl, (refl, (refl, (refl, (refl, (refl, (refl, (refl, (refl, (refl, (refl, tt)))))))))))))))))))
 
+-- the least store, as the rules have it
+pub least-store : _≡_ {A = ℕ} Model.leastStore 48
+least-store = refl
+
 -- `new`: the ranges of the two rooms to their ends, 9 before 13
 pub starts : (Model.new 108 1 48 ≡ gives (Model.fresh 108 1 48)) × (Model.new 66 65536 16777216 ≡ gives (Model.fresh 66 65536 16777216)) × (Model.new 108 0 48 ≡ refuses 9) × (Model.new 108 65537 48 ≡ refuses 9)
     × (Model.new 108 1 47 ≡ refuses 9) × (Model.new 108 1 16777217 ≡ refuses 9) × (Model.new 0 1 48 ≡ refuses 13) × (Model.new 0 0 48 ≡ refuses 9)

@@ -26,9 +26,9 @@ use Rattle.model.specs.declared.Place.the-variants as Place
 
 -- ---- Rooms: the start
 
--- "Request room K: 1 to 65,536 bytes", "Packet store S: 48 to 16,777,216 bytes": the other ends of the ranges have their names where the rooms are
+-- "Request room K: 1 to 65,536 bytes", "Packet store S: 48 to 16,777,216 bytes", where 48 is what the least packet costs: the other ends of the ranges have their names where the rooms are
 abbrev pub leastStore : ℕ
-leastStore = 48
+leastStore = headerSize + leastPacket
 
 unfoldable pub roomy : ℕ → ℕ → Bool
 roomy k s = both (both (leb 1 k) (leb k mostRequests)) (both (leb leastStore s) (leb s mostStore))

@@ -6,6 +6,7 @@ use Prim.Native.Nat.{ℕ}
 use lib.ListN.{length}
 use Rattle.refusal.specs.Answer.{Answer, gives, refuses, decides}
 use Rattle.refusal.specs.Numbers.{numberOf, refusalOf, listed}
+use Rattle.model.specs.Client.{Held}
 use Rattle.model.specs.Model as Model
 use Rattle.model.specs.Model.{Filing}
 use Rattle.model.specs.declared.Connection.{Connection}
@@ -15,6 +16,7 @@ use Rattle.model.specs.declared.Sent.{Sent}
 use Rattle.model.specs.declared.Sent.the-variants as Sent
 use Rattle.model.specs.declared.Enqueued.{Enqueued}
 use Rattle.model.specs.declared.Enqueued.the-variants as Enqueued
+use Rattle.model.specs.declared.Handed.{Handed}
 use Rattle.model.specs.declared.Polled.{Polled}
 use Rattle.model.specs.declared.Polled.the-variants as Polled
 use Rattle.model.specs.declared.PollReply.{PollReply}
@@ -26,40 +28,47 @@ use Rattle.model.specs.declared.Closed.the-variants as Closed
 use Rattle.model.specs.declared.Prepared.{Prepared}
 use Rattle.model.specs.declared.Prepared.the-variants as Prepared
 
--- ---- what is shown of a packet that is handed out: its number, and how many bytes and descriptors are in the outputs
+-- ---- what is shown of a packet that is handed out
 
-pub record Size : Type 0 where
-  pub bytes : ℕ
-  pub places : ℕ
+-- its number, its length, and so many descriptors
+abbrev pub handedWith : Held → ℕ → Handed
+handedWith h fds = record { number = record { 0 = h .number }; length = length (h .packet); descriptors = fds }
 
--- nothing, or a packet of a size
+-- nothing, or a packet with its descriptors
 pub data Shown : Type 0 where
   none : Shown
-  packet : Size → Shown
+  packet : Handed → Shown
 
 abbrev pub shownTaken : Model.Taken → Shown
 shownTaken Model.none = none
-shownTaken (Model.packet h) = packet (record { bytes = length (h .packet); places = length (h .descriptors) })
+shownTaken (Model.packet h) = packet (handedWith h (length (h .descriptors)))
 
--- nothing, or an event's number and its bytes
-pub data ShownEvent : Type 0 where
-  noEvent : ShownEvent
-  event : ℕ → ℕ → ShownEvent
-
-abbrev pub shownEvent : Model.Taken → ShownEvent
-shownEvent Model.none = noEvent
-shownEvent (Model.packet h) = event (h .number) (length (h .packet))
-
--- the three cases of a poll
+-- the three cases of a poll; descriptors of its packet are closed, so none are handed out
 pub data ShownPoll : Type 0 where
   again : ShownPoll
   noReply : ShownPoll
-  reply : ℕ → ShownPoll
+  reply : Handed → ShownPoll
 
 abbrev pub shownPoll : Model.PollReply → ShownPoll
 shownPoll Model.tryAgain = again
 shownPoll Model.noReply = noReply
-shownPoll (Model.reply h) = reply (length (h .packet))
+shownPoll (Model.reply h) = reply (handedWith h 0)
+
+-- what is handed out, if anything is, is such: under a number, or without descriptors
+abbrev pub IfShown : (Handed → Type 0) → Shown → Type 0
+IfShown P none = Unit {0}
+IfShown P (packet z) = P z
+
+abbrev pub IfPolled : (Handed → Type 0) → ShownPoll → Type 0
+IfPolled P again = Unit {0}
+IfPolled P noReply = Unit {0}
+IfPolled P (reply z) = P z
+
+abbrev pub Under : ℕ → Handed → Type 0
+Under n z = z .number .0 ≡ n
+
+abbrev pub Bare : Handed → Type 0
+Bare z = z .descriptors ≡ 0
 
 -- the bytes and the descriptors that go to the outputs
 abbrev pub bytesOfTaken : Model.Taken → List ℕ
@@ -90,19 +99,19 @@ saysEnqueued (Enqueued.Filed p n c) = gives (record { place = p; number = n .0 }
 saysEnqueued (Enqueued.Refused r) = refuses (numberOf r)
 
 abbrev pub saysPolled : Polled → Answer (Shown × Connection)
-saysPolled (Polled.Packet n k c) = gives (packet (record { bytes = n; places = k }), c)
+saysPolled (Polled.Packet z c) = gives (packet z, c)
 saysPolled (Polled.Nothing c) = gives (none, c)
 saysPolled (Polled.Refused r) = refuses (numberOf r)
 
 abbrev pub saysPollReply : PollReply → Answer (ShownPoll × Connection)
 saysPollReply (PollReply.TryAgain c) = gives (again, c)
 saysPollReply (PollReply.NoReply c) = gives (noReply, c)
-saysPollReply (PollReply.Reply n c) = gives (reply n, c)
+saysPollReply (PollReply.Reply z c) = gives (reply z, c)
 saysPollReply (PollReply.Refused r) = refuses (numberOf r)
 
-abbrev pub saysEvent : Event → Answer (ShownEvent × Connection)
-saysEvent (Event.Packet n k c) = gives (event (n .0) k, c)
-saysEvent (Event.Nothing c) = gives (noEvent, c)
+abbrev pub saysEvent : Event → Answer (Shown × Connection)
+saysEvent (Event.Packet z c) = gives (packet z, c)
+saysEvent (Event.Nothing c) = gives (none, c)
 saysEvent (Event.Refused r) = refuses (numberOf r)
 
 abbrev pub saysClosed : Closed → Answer (ℕ × Connection)
@@ -149,7 +158,7 @@ closed-one = decides saysClosed backClosed (elim [ Closed.Taken n c ↦ refl | C
 
 polledOf : Shown → Connection → Polled
 polledOf none c = Polled.Nothing c
-polledOf (packet z) c = Polled.Packet (z .bytes) (z .places) c
+polledOf (packet z) c = Polled.Packet z c
 
 backPolled : Answer (Shown × Connection) → Polled
 backPolled (gives x) = polledOf (x .0) (x .1)
@@ -157,12 +166,12 @@ backPolled (refuses n) = Polled.Refused (refusalOf n)
 
 pub polled-one : (a b : Polled) → saysPolled a ≡ saysPolled b → a ≡ b
 unfolding backPolled polledOf
-polled-one = decides saysPolled backPolled (elim [ Polled.Packet n k c ↦ refl | Polled.Nothing c ↦ refl | Polled.Refused r ↦ ap Polled.Refused (listed r) ])
+polled-one = decides saysPolled backPolled (elim [ Polled.Packet z c ↦ refl | Polled.Nothing c ↦ refl | Polled.Refused r ↦ ap Polled.Refused (listed r) ])
 
 pollOf : ShownPoll → Connection → PollReply
 pollOf again c = PollReply.TryAgain c
 pollOf noReply c = PollReply.NoReply c
-pollOf (reply n) c = PollReply.Reply n c
+pollOf (reply z) c = PollReply.Reply z c
 
 backPollReply : Answer (ShownPoll × Connection) → PollReply
 backPollReply (gives x) = pollOf (x .0) (x .1)
@@ -170,19 +179,19 @@ backPollReply (refuses n) = PollReply.Refused (refusalOf n)
 
 pub pollReply-one : (a b : PollReply) → saysPollReply a ≡ saysPollReply b → a ≡ b
 unfolding backPollReply pollOf
-pollReply-one = decides saysPollReply backPollReply (elim [ PollReply.TryAgain c ↦ refl | PollReply.NoReply c ↦ refl | PollReply.Reply n c ↦ refl | PollReply.Refused r ↦ ap PollReply.Refused (listed r) ])
+pollReply-one = decides saysPollReply backPollReply (elim [ PollReply.TryAgain c ↦ refl | PollReply.NoReply c ↦ refl | PollReply.Reply z c ↦ refl | PollReply.Refused r ↦ ap PollReply.Refused (listed r) ])
 
-eventOf : ShownEvent → Connection → Event
-eventOf noEvent c = Event.Nothing c
-eventOf (event n k) c = Event.Packet (record { 0 = n }) k c
+eventOf : Shown → Connection → Event
+eventOf none c = Event.Nothing c
+eventOf (packet z) c = Event.Packet z c
 
-backEvent : Answer (ShownEvent × Connection) → Event
+backEvent : Answer (Shown × Connection) → Event
 backEvent (gives x) = eventOf (x .0) (x .1)
 backEvent (refuses n) = Event.Refused (refusalOf n)
 
 pub event-one : (a b : Event) → saysEvent a ≡ saysEvent b → a ≡ b
 unfolding backEvent eventOf
-event-one = decides saysEvent backEvent (elim [ Event.Packet n k c ↦ refl | Event.Nothing c ↦ refl | Event.Refused r ↦ ap Event.Refused (listed r) ])
+event-one = decides saysEvent backEvent (elim [ Event.Packet z c ↦ refl | Event.Nothing c ↦ refl | Event.Refused r ↦ ap Event.Refused (listed r) ])
 
 backPrepared : Answer Bool → Prepared
 backPrepared (gives b) = Prepared.Answer b

@@ -83,24 +83,33 @@ pub enum Enqueued {
     Refused(Refusal),
 }
 
-// `poll_for_reply_or_error`: a packet of so many bytes with so many descriptors is in the outputs.
+// What is handed out of a held packet: its number, and how many bytes and descriptors of it are in
+// the outputs.
+pub struct Handed {
+    pub number: SequenceNumber,
+    pub length: usize,
+    pub descriptors: usize,
+}
+
+// `poll_for_reply_or_error`: a packet of the number is in the outputs, with its descriptors.
 pub enum Polled {
-    Packet(usize, usize, Connection),
+    Packet(Handed, Connection),
     Nothing(Connection),
     Refused(Refusal),
 }
 
-// `poll_check_for_reply_or_error` and `poll_for_reply`: a packet of so many bytes is in the output.
+// `poll_check_for_reply_or_error` and `poll_for_reply`: a packet of the number is in the output,
+// without its descriptors, which are closed.
 pub enum PollReply {
     TryAgain(Connection),
     NoReply(Connection),
-    Reply(usize, Connection),
+    Reply(Handed, Connection),
     Refused(Refusal),
 }
 
-// `poll_for_event_with_sequence`: an event's number, and so many bytes of it are in the output.
+// `poll_for_event_with_sequence`: an event is in the output; it has no descriptors.
 pub enum Event {
-    Packet(SequenceNumber, usize, Connection),
+    Packet(Handed, Connection),
     Nothing(Connection),
     Refused(Refusal),
 }

@@ -14,8 +14,9 @@ ghost use Rattle.requests.specs.Room.{capacity, legals};
 ghost use Rattle.model.specs.Reading.{rooms};
 ghost use Rattle.model.specs.Sound.{soundb, holdsb, limitsb, runb, windowOf};
 
-// The fewest bytes of a packet store; the most are the walk's own.
-pub const LEAST_STORE: usize = 48;
+// The fewest bytes of a packet store: those of one record with the least packet. The most are the
+// walk's own.
+pub const LEAST_STORE: usize = held::HEADER + packet::LEAST_PACKET;
 
 pub fn is_sound(c: Connection, requests: &[u8], store: &[u8], slots: &[u32]) -> bool
     ensures { λ r. ⌜ r ≡ soundb c (rooms (now (requests .entry)) (now (store .entry)) (now (slots .entry))) ⌝ }

@@ -22,8 +22,9 @@ use Rattle.model.specs.Model.{Taken}
 use Rattle.model.specs.Reading.{Rooms, rooms, slotsOf}
 use Rattle.model.specs.Moved.{movedState}
 use Rattle.model.specs.Promise.{Done, Exact, outputOf}
-use Rattle.model.specs.Says.{shownTaken, shownPoll, shownEvent, bytesOfTaken, descriptorsOfTaken, bytesOfPoll, saysPolled, saysPollReply, saysEvent}
+use Rattle.model.specs.Says.{shownTaken, shownPoll, bytesOfTaken, descriptorsOfTaken, bytesOfPoll, saysPolled, saysPollReply, saysEvent}
 use Rattle.model.specs.declared.Connection.{Connection}
+use Rattle.model.specs.declared.Handed.{Handed}
 use Rattle.model.specs.declared.Polled.{Polled}
 use Rattle.model.specs.declared.PollReply.{PollReply}
 use Rattle.model.specs.declared.Event.{Event}
@@ -38,6 +39,10 @@ moved x c r l d = record { value = x; state = movedState c (l .window) (d .count
 -- the packet at a place of the store
 abbrev pub packetAt : List ℕ → Place → List ℕ
 packetAt s p = cut (p .at + headerSize) (p .len) s
+
+-- what is handed out of it, with so many descriptors
+abbrev pub handedAt : Place → ℕ → Handed
+handedAt p fds = record { number = record { 0 = p .number }; length = p .len; descriptors = fds }
 
 -- it is held with these descriptors
 abbrev pub heldAt : Rooms → Place → List ℕ → Held
@@ -110,7 +115,7 @@ repliedExact c r n bytes = repliedFrom c r bytes (foundReply n (c .window) (r .s
 -- ---- The steps are exact, whatever the rooms that they are not lent.
 
 pub record EventStep (c : Connection) (s out : List ℕ) (a : Event) (s' out' : List ℕ) : Type 0 where
-  pub exact : (q f : List ℕ) → Exact shownEvent (eventExact c (rooms q s f) (length out)) (rooms q s f) (saysEvent a) (rooms q s' f)
+  pub exact : (q f : List ℕ) → Exact shownTaken (eventExact c (rooms q s f) (length out)) (rooms q s f) (saysEvent a) (rooms q s' f)
   pub output : (q f : List ℕ) → out' ≡ outputOf bytesOfTaken (eventExact c (rooms q s f) (length out)) out
 
 pub record TakenStep (c : Connection) (n : ℕ) (s f out fds : List ℕ) (a : Polled) (s' f' out' fds' : List ℕ) : Type 0 where

@@ -25,19 +25,21 @@ use Rattle.held.specs.declared.Found.the-variants as Found
 use Rattle.descriptors.specs.Room as Slots
 use Rattle.descriptors.specs.Theorems.{length-holding}
 use Rattle.descriptors.specs.declared.Counts.{Counts}
+use Rattle.model.specs.Client.{heldPacket}
 use Rattle.model.specs.Model as Model
 use Rattle.packet.specs.Packet.{errorCode}
 use Rattle.model.specs.Reading.{Rooms, rooms, slotsOf}
 use Rattle.model.specs.Sound.{Ready}
 use Rattle.model.specs.Promise.{Done, Exact, answerOf, roomsOf, outputOf, exact-refused}
-use Rattle.model.specs.Says.{shownTaken, shownPoll, shownEvent, bytesOfTaken, descriptorsOfTaken, bytesOfPoll}
+use Rattle.model.specs.Says.{handedWith, shownTaken, shownPoll, bytesOfTaken, descriptorsOfTaken, bytesOfPoll}
 use Rattle.model.specs.Says as Says
 use Rattle.model.specs.declared.Connection.{Connection}
+use Rattle.model.specs.declared.Handed.{Handed}
 use Rattle.model.specs.declared.Polled.the-variants as Polled
 use Rattle.model.specs.declared.PollReply.the-variants as PollReply
 use Rattle.model.specs.declared.Event.the-variants as Event
 use Rattle.model.specs.Moved.{movedState}
-use Rattle.polling.specs.Exact.{stays, moved, packetAt, eventAt, replyAt, without, turnedEvent, handingOut, closing, eventFrom, eventExact, takenFrom, takenExact, checkedFrom, checkedExact, errorAt, repliedFrom, repliedExact, EventStep, TakenStep, CheckedStep, RepliedStep}
+use Rattle.polling.specs.Exact.{stays, moved, packetAt, handedAt, eventAt, replyAt, without, turnedEvent, handingOut, closing, eventFrom, eventExact, takenFrom, takenExact, checkedFrom, checkedExact, errorAt, repliedFrom, repliedExact, EventStep, TakenStep, CheckedStep, RepliedStep}
 
 -- ---- outcomes
 
@@ -58,6 +60,10 @@ output-none f e out d h x = output-as f e out out d h (sym (put-none out 0) ∙ 
 output-refused : {A : Type 0} (f : A → List ℕ) (e : Answer (Done A)) (out : List ℕ) (n : ℕ) → refuses n ≡ e → out ≡ outputOf f e out
 unfolding outputOf
 output-refused f e out n h = ap (λ k. outputOf f k out) h
+
+-- what is handed out of a place is as much as its packet and its descriptors
+handed-is : (p : Place) (packet fds : List ℕ) (k : ℕ) → p .len ≡ length packet → k ≡ length fds → handedAt p k ≡ handedWith (heldPacket (p .number) packet fds) (length fds)
+handed-is p packet fds k l n = λ j. record { number = record { 0 = p .number }; length = l j; descriptors = n j }
 
 -- ---- the oldest event
 
@@ -84,19 +90,19 @@ module _ (met : MetEvent) where
     event-short h =
         let z : (q f : List ℕ) → refuses 8 ≡ eventExact c (rooms q s f) (length out) = λ q f. given-refusal _ _ _ (lt-ltb (length out) (p .len) h) ∙ ap (eventFrom c (rooms q s f) (length out)) e in
         record {
-          exact = λ q f. exact-refused shownEvent _ (rooms q s f) 8 (z q f);
+          exact = λ q f. exact-refused shownTaken _ (rooms q s f) 8 (z q f);
           output = λ q f. output-refused bytesOfTaken _ out 8 (z q f);
         }
 
-    pub event-taken : p .len ≤ length out → (w : Window) (s' out' : List ℕ) (c' : Connection) → Takes (c .window) s p out w s' out' → c' ≡ movedState c w (c .counts)
-        → EventStep c s out (Event.Packet (record { 0 = p .number }) (p .len) c') s' out'
+    pub event-taken : p .len ≤ length out → (w : Window) (s' out' : List ℕ) (h : Handed) (c' : Connection) → Takes (c .window) s p out w s' out' → h ≡ handedAt p 0 → c' ≡ movedState c w (c .counts)
+        → EventStep c s out (Event.Packet h c') s' out'
     unfolding eventExact handed
-    event-taken h w s' out' c' T g =
+    event-taken h w s' out' x c' T i g =
         let d : List ℕ → List ℕ → Done Model.Taken = λ q f. moved (Model.packet (eventAt (rooms q s f) p)) c (rooms q s f) (without c (rooms q s f) p) (slotsOf c (rooms q s f)) in
         let z : (q f : List ℕ) → gives (d q f) ≡ eventExact c (rooms q s f) (length out) = λ q f. past-refusal _ _ _ (le-ltb (length out) (p .len) h) ∙ ap (eventFrom c (rooms q s f) (length out)) e in
         let l : p .len ≡ length (packetAt s p) = sym (length-cut (p .at + headerSize) (p .len) s (omega (arith, event-within .fits, event-within .within))) in
         record {
-          exact = λ q f. exact-as shownEvent _ (rooms q s f) (d q f) (Says.event (p .number) (p .len)) c' (rooms q s' f) (z q f) (ap (Says.event (p .number)) l)
+          exact = λ q f. exact-as shownTaken _ (rooms q s f) (d q f) (Says.packet x) c' (rooms q s' f) (z q f) (ap Says.packet (i ∙ handed-is p (packetAt s p) [] 0 l refl))
               (g ∙ ap (λ (v : Window). movedState c v (c .counts)) (T .left .window))
               (ap (λ (x : List ℕ). rooms q x f) (T .left .store));
           output = λ q f. output-as bytesOfTaken _ out out' (d q f) (z q f) (T .output);
@@ -107,7 +113,7 @@ unfolding eventExact
 event-none c s out e =
     let z : (q f : List ℕ) → gives (stays Model.none c (rooms q s f)) ≡ eventExact c (rooms q s f) (length out) = λ q f. ap (eventFrom c (rooms q s f) (length out)) e in
     record {
-      exact = λ q f. exact-as shownEvent _ (rooms q s f) _ Says.noEvent c (rooms q s f) (z q f) refl refl refl;
+      exact = λ q f. exact-as shownTaken _ (rooms q s f) _ Says.none c (rooms q s f) (z q f) refl refl refl;
       output = λ q f. output-none bytesOfTaken _ out _ (z q f) refl;
     }
 
@@ -183,15 +189,15 @@ module _ (met : MetReply) where
     pub taken-given : p .len ≤ length out → p .fds ≤ length fds → (w : Window) (n' : Counts) (s' f' out' fds' : List ℕ) (c' : Connection)
         → Takes (c .window) s p out w s' out'
         → Slots.Gives (Slots.handOut (p .before) (p .fds) (Slots.room f (c .counts))) (Slots.heldRun (p .before) (p .fds) (Slots.room f (c .counts))) fds (Slots.room f' n') fds'
-        → c' ≡ movedState c w n' → TakenStep c n s f out fds (Polled.Packet (p .len) (p .fds) c') s' f' out' fds'
+        → (x : Handed) → x ≡ handedAt p (p .fds) → c' ≡ movedState c w n' → TakenStep c n s f out fds (Polled.Packet x c') s' f' out' fds'
     unfolding takenExact handed either
-    taken-given h k w n' s' f' out' fds' c' T G g =
+    taken-given h k w n' s' f' out' fds' c' T G x i g =
         let d : List ℕ → Done Model.Taken = λ q. moved (Model.packet (replyAt c (rooms q s f) p)) c (rooms q s f) (without c (rooms q s f) p) (handingOut c (rooms q s f) p) in
         let b : either (ltb (length out) (p .len)) (ltb (length fds) (p .fds)) ≡ false = λ j. either (le-ltb (length out) (p .len) h j) (le-ltb (length fds) (p .fds) k j) in
         let z : (q : List ℕ) → gives (d q) ≡ takenExact c (rooms q s f) n (length out) (length fds) = λ q. past-refusal _ _ _ b ∙ ap (takenFrom c (rooms q s f) (length out) (length fds)) e in
         record {
-          exact = λ q. exact-as shownTaken _ (rooms q s f) (d q) (Says.packet (record { bytes = p .len; places = p .fds })) c' (rooms q s' f') (z q)
-              (λ j. Says.packet (record { bytes = packet-length j; places = run-length j }))
+          exact = λ q. exact-as shownTaken _ (rooms q s f) (d q) (Says.packet x) c' (rooms q s' f') (z q)
+              (ap Says.packet (i ∙ handed-is p (packetAt s p) (Slots.heldRun (p .before) (p .fds) (Slots.room f (c .counts))) (p .fds) packet-length run-length))
               (state-left w _ _ n' f' s' c' (T .left) (G .left) g)
               (rooms-left q w _ _ n' f' s' (T .left) (G .left));
           output = λ q. output-as bytesOfTaken _ out out' (d q) (z q) (T .output);
@@ -211,14 +217,14 @@ module _ (met : MetReply) where
     pub checked-given : p .len ≤ length out → (w : Window) (n' : Counts) (s' f' out' : List ℕ) (c' : Connection)
         → Takes (c .window) s p out w s' out'
         → Slots.room f' n' ≡ Slots.closeHeld (p .before) (p .fds) (Slots.room f (c .counts))
-        → c' ≡ movedState c w n' → CheckedStep c n s f out (PollReply.Reply (p .len) c') s' f' out'
+        → (x : Handed) → x ≡ handedAt p 0 → c' ≡ movedState c w n' → CheckedStep c n s f out (PollReply.Reply x c') s' f' out'
     unfolding checkedExact handed
-    checked-given h w n' s' f' out' c' T G g =
+    checked-given h w n' s' f' out' c' T G x i g =
         let d : List ℕ → Done Model.PollReply = λ q. moved (Model.reply (replyAt c (rooms q s f) p)) c (rooms q s f) (without c (rooms q s f) p) (closing c (rooms q s f) p) in
         let z : (q : List ℕ) → gives (d q) ≡ checkedExact c (rooms q s f) n (length out) =
         λ q. past-refusal _ _ _ (le-ltb (length out) (p .len) h) ∙ ap (checkedFrom c (rooms q s f) n (length out)) e in
         record {
-          exact = λ q. exact-as shownPoll _ (rooms q s f) (d q) (Says.reply (p .len)) c' (rooms q s' f') (z q) (ap Says.reply packet-length)
+          exact = λ q. exact-as shownPoll _ (rooms q s f) (d q) (Says.reply x) c' (rooms q s' f') (z q) (ap Says.reply (i ∙ handed-is p (packetAt s p) [] 0 packet-length refl))
               (state-left w _ _ n' f' s' c' (T .left) G g)
               (rooms-left q w _ _ n' f' s' (T .left) G);
           output = λ q. output-as bytesOfPoll _ out out' (d q) (z q) (T .output);
@@ -258,14 +264,14 @@ module _ (met : MetReply) where
     pub replied-given : (b : ℕ) → b ≡ getD s (p .at + headerSize) 0 → (b ≡ errorCode → ⊥) → p .len ≤ length out → (w : Window) (n' : Counts) (s' f' out' : List ℕ) (c' : Connection)
         → Takes (c .window) s p out w s' out'
         → Slots.room f' n' ≡ Slots.closeHeld (p .before) (p .fds) (Slots.room f (c .counts))
-        → c' ≡ movedState c w n' → RepliedStep c n s f out (PollReply.Reply (p .len) c') s' f' out'
+        → (x : Handed) → x ≡ handedAt p 0 → c' ≡ movedState c w n' → RepliedStep c n s f out (PollReply.Reply x c') s' f' out'
     unfolding repliedExact handed choose
-    replied-given b x y h w n' s' f' out' c' T G g =
+    replied-given b x y h w n' s' f' out' c' T G v i g =
         let d : List ℕ → Done Model.PollReply = λ q. moved (Model.reply (replyAt c (rooms q s f) p)) c (rooms q s f) (without c (rooms q s f) p) (closing c (rooms q s f) p) in
         let z : (q : List ℕ) → gives (d q) ≡ repliedExact c (rooms q s f) n (length out) =
         λ q. past-refusal _ _ _ (le-ltb (length out) (p .len) h) ∙ sym (choose-no (errorAt (rooms q s f) p) _ _ (no-error b x y (rooms q s f) refl)) ∙ ap (repliedFrom c (rooms q s f) (length out)) e in
         record {
-          exact = λ q. exact-as shownPoll _ (rooms q s f) (d q) (Says.reply (p .len)) c' (rooms q s' f') (z q) (ap Says.reply packet-length)
+          exact = λ q. exact-as shownPoll _ (rooms q s f) (d q) (Says.reply v) c' (rooms q s' f') (z q) (ap Says.reply (i ∙ handed-is p (packetAt s p) [] 0 packet-length refl))
               (state-left w _ _ n' f' s' c' (T .left) G g)
               (rooms-left q w _ _ n' f' s' (T .left) G);
           output = λ q. output-as bytesOfPoll _ out out' (d q) (z q) (T .output);

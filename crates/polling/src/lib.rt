@@ -6,18 +6,19 @@
 // it is in the model's terms, and that the state it leaves is sound. (01, Numbering and filing; the
 // order of refusals is 01's for taking: nothing found, then 8.)
 use held::Found;
+use held::Place;
 use model::Connection;
 use model::Event;
+use model::Handed;
 use model::PollReply;
 use model::Polled;
 use model::moved;
 use refusal::Refusal;
 use sequence::SequenceNumber;
 ghost use mathlib.Core.Path.{_≡_};
-ghost use Prim.Native.Nat.{_<_};
 ghost use Rattle.held.specs.Reading as Store;
 ghost use Rattle.model.specs.Sound.{Ready};
-ghost use Rattle.polling.specs.Exact.{EventStep, TakenStep, CheckedStep, RepliedStep};
+ghost use Rattle.polling.specs.Exact.{handedAt, EventStep, TakenStep, CheckedStep, RepliedStep};
 
 // The oldest event, with its number. Refused by 8 for an output that is too small.
 pub fn poll_for_event(c: Connection, store: &mut [u8], out: &mut [u8]) -> Event
@@ -32,8 +33,8 @@ pub fn poll_for_event(c: Connection, store: &mut [u8], out: &mut [u8]) -> Event
                 return Event::Refused(Refusal::OutShort);
             }
             let next = held::take(store, window, place, out);
-            let number = SequenceNumber(place.number);
-            Event::Packet(number, len, moved(c, next, c.counts))
+            let handed = handed_out(place, 0);
+            Event::Packet(handed, moved(c, next, c.counts))
         }
         Found::Nothing => Event::Nothing(c),
     }
@@ -66,7 +67,8 @@ pub fn poll_for_reply_or_error(
             }
             let rest = descriptors::hand_out(slots, counts, place.before, n, fds);
             let next = held::take(store, window, place, out);
-            Polled::Packet(len, n, moved(c, next, rest))
+            let handed = handed_out(place, n);
+            Polled::Packet(handed, moved(c, next, rest))
         }
         Found::Nothing => Polled::Nothing(c),
     }
@@ -95,7 +97,8 @@ pub fn poll_check(
             let n = place.fds as usize;
             let rest = descriptors::close_held(slots, counts, place.before, n);
             let next = held::take(store, window, place, out);
-            PollReply::Reply(len, moved(c, next, rest))
+            let handed = handed_out(place, 0);
+            PollReply::Reply(handed, moved(c, next, rest))
         }
         Found::Nothing => {
             if number < c.read {
@@ -134,8 +137,20 @@ pub fn poll_for_reply(
             }
             let rest = descriptors::close_held(slots, counts, place.before, n);
             let next = held::take(store, window, place, out);
-            PollReply::Reply(len, moved(c, next, rest))
+            let handed = handed_out(place, 0);
+            PollReply::Reply(handed, moved(c, next, rest))
         }
         Found::Nothing => PollReply::TryAgain(c),
+    }
+}
+
+// What is handed out of the record at a place, with so many descriptors.
+fn handed_out(place: Place, fds: usize) -> Handed
+    ensures { λ r. ⌜ r ≡ handedAt place fds ⌝ }
+{
+    Handed {
+        number: SequenceNumber(place.number),
+        length: place.len,
+        descriptors: fds,
     }
 }

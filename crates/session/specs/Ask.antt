@@ -9,7 +9,7 @@ use Rattle.model.specs.Client.{Client}
 use Rattle.model.specs.Model.{sendRequest, enqueueFds, takeClosed, enqueuePacket, discardReply, pollForReplyOrError, pollCheck, pollForReply, prepareCheck, pollForEvent}
 use Rattle.model.specs.Promise.{Done, same}
 use Rattle.model.specs.Reading.{Rooms, reads}
-use Rattle.model.specs.Says.{shownTaken, shownEvent, shownPoll, bytesOfTaken, descriptorsOfTaken, bytesOfPoll}
+use Rattle.model.specs.Says.{shownTaken, shownPoll, bytesOfTaken, descriptorsOfTaken, bytesOfPoll}
 use Rattle.model.specs.SendRequests.{shownSendings, sendRequests}
 use Rattle.model.specs.PollForEvents.{shownHandings, packetsOfHandings, marksOfHandings, pollForEvents}
 use Rattle.model.specs.Feed.{shownFed}
@@ -76,7 +76,7 @@ form (discard-reply n mode) = tells same (λ c r. gives (discardExact c r n mode
 form (poll-for-reply-or-error n out fds) = hands-two shownTaken (λ c r. takenExact c r n (length out) (length fds)) (λ m. pollForReplyOrError m n (length out) (length fds)) bytesOfTaken out descriptorsOfTaken fds
 form (poll-check-for-reply-or-error n out) = hands shownPoll (λ c r. checkedExact c r n (length out)) (λ m. pollCheck m n (length out)) bytesOfPoll out
 form (poll-for-reply n out) = hands shownPoll (λ c r. repliedExact c r n (length out)) (λ m. pollForReply m n (length out)) bytesOfPoll out
-form (poll-for-event-with-sequence out) = hands shownEvent (λ c r. eventExact c r (length out)) (λ m. pollForEvent m (length out)) bytesOfTaken out
+form (poll-for-event-with-sequence out) = hands shownTaken (λ c r. eventExact c r (length out)) (λ m. pollForEvent m (length out)) bytesOfTaken out
 form (take-closed-fds out) = hands length (λ c r. closeExact c r (length out)) (λ m. takeClosed m (length out)) same out
 form (prepare-check-for-reply-or-error n) = tells same (λ c r. gives (record { value = prepareCheck (reads c r) n; state = c; left = r })) (λ m. gives (prepareCheck m n, m))
 form (send-requests bytes) = tells shownSendings (λ c r. sendsExact c r bytes) (λ m. sendRequests m bytes)

@@ -9,7 +9,7 @@ use Rattle.model.specs.Client.{Held, Client}
 use Rattle.model.specs.Model.{hasReply, packet, pollForEvent}
 use Rattle.model.specs.Promise.{Done, answerOf, roomsOf, modelOf, guarded, Promise, exact-given, guarded-on, promise-sound, same}
 use Rattle.model.specs.Reading.{Rooms, reads}
-use Rattle.model.specs.Says.{shownEvent}
+use Rattle.model.specs.Says.{shownTaken}
 use Rattle.model.specs.Sound.{Sound, is-sound}
 use Rattle.model.specs.Batch.{goes, Many, many, Stop, ended, Site, site, notes}
 use Rattle.model.specs.BatchLaws.{many-row}
@@ -76,7 +76,7 @@ module _ (P : Connection → Rooms → List Entry → Type 1)
 -- P goes with the state through each poll that hands an event out,
 module _ (P : Connection → Rooms → Type 1)
     (carries : (c : Connection) (r : Rooms) → Sound c r → P c r → (bytes : ℕ) (h : Held) (c' : Connection) (r' : Rooms)
-    → Promise shownEvent (eventExact c r bytes) (λ m. pollForEvent m bytes) c r (gives (shownEvent (packet h), c')) r' → P c' r') where
+    → Promise shownTaken (eventExact c r bytes) (λ m. pollForEvent m bytes) c r (gives (shownTaken (packet h), c')) r' → P c' r') where
   abbrev Beside : Lent Site → Unit {0} → Type 1
   Beside t u = Carried P (t .at)
 
@@ -86,7 +86,7 @@ module _ (P : Connection → Rooms → Type 1)
       record {
         sound = event-leaves (t .at .state) (t .at .left) (k .sound) (roomFor marks (t .room)) _ g;
         held = carries (t .at .state) (t .at .left) (k .sound) (k .held) (roomFor marks (t .room)) h (t' .at .state) (t' .at .left)
-            (made shownEvent _ _ (t .at .state) (t .at .left) (λ S. event-model (t .at .state) (t .at .left) S (roomFor marks (t .room))) (k .sound) _ g);
+            (made shownTaken _ _ (t .at .state) (t .at .left) (λ S. event-model (t .at .state) (t .at .left) S (roomFor marks (t .room))) (k .sound) _ g);
       }
 
   notes-none : {X A L : Type 0} (xs : List X) (vs : List A) (l : L) → notes (λ (x : X) (a : A) (k : L). k) xs vs l ≡ l

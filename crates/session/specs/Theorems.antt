@@ -12,7 +12,7 @@ use Rattle.model.specs.Model.{hasReply, Filing, packet, pollForEvent}
 use Rattle.model.specs.Calls as Calls
 use Rattle.model.specs.Promise.{Promise, same}
 use Rattle.model.specs.Reading.{Rooms, reads}
-use Rattle.model.specs.Says.{shownTaken, shownEvent, shownPoll}
+use Rattle.model.specs.Says.{shownTaken, shownPoll}
 use Rattle.model.specs.Sound.{Sound, is-sound}
 use Rattle.model.specs.SendRequests.{kindOf}
 use Rattle.model.specs.declared.Connection.{Connection}
@@ -49,9 +49,9 @@ unfolding stateOf
 packets-on c r l t p f c' r' q k = takes t p _ (gives (f, c')) r' q k
 
 events-on : (c : Connection) (r : Rooms) (l : List Entry) (bytes : ℕ) (h : Held) (c' : Connection) (r' : Rooms)
-    → Promise shownEvent (eventExact c r bytes) (λ m. pollForEvent m bytes) c r (gives (shownEvent (packet h), c')) r' → Public c r l → Public c' r' l
+    → Promise shownTaken (eventExact c r bytes) (λ m. pollForEvent m bytes) c r (gives (shownTaken (packet h), c')) r' → Public c r l → Public c' r' l
 unfolding stateOf
-events-on c r l bytes h c' r' q p = others (Calls.poll-event bytes) tt shownEvent _ (gives (shownEvent (packet h), c')) r' q p
+events-on c r l bytes h c' r' q p = others (Calls.poll-event bytes) tt shownTaken _ (gives (shownTaken (packet h), c')) r' q p
 
 -- a call of a session, as the runs of public calls have it
 call-public : {c : Connection} {r : Rooms} {l : List Entry} (x : Ask) → OfBytes x → (ts : List ℕ) (a : Answer (Value x × Connection)) (r' : Rooms) (o : Outputs x) → Answers x c r a r' o → Sound c r → Public c r l
@@ -63,7 +63,7 @@ call-public (discard-reply n mode) b ts a r' o h S k = others (Calls.discard n m
 call-public (poll-for-reply-or-error n out fds) b ts a r' o h S k = others (Calls.poll n (length out) (length fds)) tt shownTaken _ a r' (h .packet .promise) k
 call-public (poll-check-for-reply-or-error n out) b ts a r' o h S k = others (Calls.check n (length out)) tt shownPoll _ a r' (h .promise) k
 call-public (poll-for-reply n out) b ts a r' o h S k = others (Calls.poll-reply n (length out)) tt shownPoll _ a r' (h .promise) k
-call-public (poll-for-event-with-sequence out) b ts a r' o h S k = others (Calls.poll-event (length out)) tt shownEvent _ a r' (h .promise) k
+call-public (poll-for-event-with-sequence out) b ts a r' o h S k = others (Calls.poll-event (length out)) tt shownTaken _ a r' (h .promise) k
 call-public (take-closed-fds out) b ts a r' o h S k = others (Calls.take-closed (length out)) tt length _ a r' (h .promise) k
 call-public {c = c} {r = r} (prepare-check-for-reply-or-error n) b ts a r' o h S k = others (Calls.prepare n) tt same _ a r' (has-form (prepare-check-for-reply-or-error n) c r a r' o h .promise) k
 call-public {c = c} {r = r} {l = l} (send-requests bytes) b ts a r' o h S k = sends-row Public (λ c r l S p byte n c' r' q. sends-on c r l byte n c' r' q p) c r l S k bytes a r' h

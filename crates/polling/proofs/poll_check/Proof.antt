@@ -30,6 +30,9 @@ close-held-requires c κs = reply-slots (met (c .before .before .before .before)
 take-requires : tie.Need-take-requires
 take-requires c κs = (reply-within (met (c .before .before .before .before .before .before .before .before .before)), search needs)
 
+handed-out-requires : tie.Need-handed-out-requires
+handed-out-requires c κs = search needs
+
 moved-requires : tie.Need-moved-requires
 moved-requires c κs = search needs
 
@@ -52,7 +55,7 @@ same-length-5 : tie.Need-same-length-5
 same-length-5 c = search needs
 
 returns-3 : tie.Need-returns-3
-returns-3 c = checked-given (met (c .before .before .before .before .before .before .before .before .before .before .before .before .before .before .before)) _ (c .before .before .before .before .before .before .before .before .before .before .before .before .before .if1 .left) _ _ _ _ _ _ (c .before .before .before .before .before .take .ensures) (c .before .before .before .before .before .before .before .before .before .before .close-held .ensures) (c .moved .ensures)
+returns-3 c = checked-given (met (c .before .before .before .before .before .before .before .before .before .before .before .before .before .before .before .before)) _ (c .before .before .before .before .before .before .before .before .before .before .before .before .before .before .if1 .left) _ _ _ _ _ _ (c .before .before .before .before .before .before .take .ensures) (c .before .before .before .before .before .before .before .before .before .before .before .close-held .ensures) _ (c .before .handed-out .ensures) (c .moved .ensures)
 
 same-length-6 : tie.Need-same-length-6
 same-length-6 c = search needs
@@ -71,6 +74,7 @@ poll-check-spec =
     cast-n
     close-held-requires
     take-requires
+    handed-out-requires
     moved-requires
     enum-told
     same-length-2

@@ -24,6 +24,9 @@ returns c = event-short (met (c .before .before)) _ (c .if1 .taken)
 take-requires : tie.Need-take-requires
 take-requires c κs = (event-within (met (c .before .before .before .before)), search needs)
 
+handed-out-requires : tie.Need-handed-out-requires
+handed-out-requires c κs = search needs
+
 moved-requires : tie.Need-moved-requires
 moved-requires c κs = search needs
 
@@ -37,7 +40,7 @@ same-length-3 : tie.Need-same-length-3
 same-length-3 c = search needs
 
 returns-2 : tie.Need-returns-2
-returns-2 c = event-taken (met (c .before .before .before .before .before .before .before .before .before .before)) _ (c .before .before .before .before .before .before .before .before .if1 .left) _ _ _ _ (c .before .before .before .before .before .take .ensures) (c .moved .ensures)
+returns-2 c = event-taken (met (c .before .before .before .before .before .before .before .before .before .before .before)) _ (c .before .before .before .before .before .before .before .before .before .if1 .left) _ _ _ _ _ (c .before .before .before .before .before .before .take .ensures) (c .before .handed-out .ensures) (c .moved .ensures)
 
 same-length-4 : tie.Need-same-length-4
 same-length-4 c = search needs
@@ -54,6 +57,7 @@ poll-for-event-spec =
     same-length
     returns
     take-requires
+    handed-out-requires
     moved-requires
     enum-told
     same-length-2

@@ -51,6 +51,9 @@ close-held-requires-2 c κs = reply-slots (met (c .before .before .before .befor
 take-requires : tie.Need-take-requires
 take-requires c κs = (reply-within (met (c .before .before .before .before .before .before .before .before .before .before .before .before)), search needs)
 
+handed-out-requires : tie.Need-handed-out-requires
+handed-out-requires c κs = search needs
+
 moved-requires-2 : tie.Need-moved-requires-2
 moved-requires-2 c κs = search needs
 
@@ -67,7 +70,7 @@ same-length-6 : tie.Need-same-length-6
 same-length-6 c = search needs
 
 returns-3 : tie.Need-returns-3
-returns-3 c = replied-given (met (c .before .before .before .before .before .before .before .before .before .before .before .before .before .before .before .before .before .before)) _ _ (c .before .before .before .before .before .before .before .before .before .before .before .before .before .before .first-byte .ensures) (c .before .before .before .before .before .before .before .before .before .before .before .before .before .if1 .left) (c .before .before .before .before .before .before .before .before .before .before .before .before .if2 .left) _ _ _ _ _ _ (c .before .before .before .before .before .take .ensures) (c .before .before .before .before .before .before .before .before .before .before .close-held2 .ensures) (c .moved2 .ensures)
+returns-3 c = replied-given (met (c .before .before .before .before .before .before .before .before .before .before .before .before .before .before .before .before .before .before .before)) _ _ (c .before .before .before .before .before .before .before .before .before .before .before .before .before .before .before .first-byte .ensures) (c .before .before .before .before .before .before .before .before .before .before .before .before .before .before .if1 .left) (c .before .before .before .before .before .before .before .before .before .before .before .before .before .if2 .left) _ _ _ _ _ _ (c .before .before .before .before .before .before .take .ensures) (c .before .before .before .before .before .before .before .before .before .before .before .close-held2 .ensures) _ (c .before .handed-out .ensures) (c .moved2 .ensures)
 
 same-length-7 : tie.Need-same-length-7
 same-length-7 c = search needs
@@ -93,6 +96,7 @@ poll-for-reply-spec =
     returns-2
     close-held-requires-2
     take-requires
+    handed-out-requires
     moved-requires-2
     enum-told
     same-length-4

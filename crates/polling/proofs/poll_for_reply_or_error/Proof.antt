@@ -36,6 +36,9 @@ hand-out-requires c κs = let h = reply-slots (met (c .before .before .before .b
 take-requires : tie.Need-take-requires
 take-requires c κs = (reply-within (met (c .before .before .before .before .before .before .before .before .before .before .before .before .before)), search needs)
 
+handed-out-requires : tie.Need-handed-out-requires
+handed-out-requires c κs = search needs
+
 moved-requires : tie.Need-moved-requires
 moved-requires c κs = search needs
 
@@ -55,7 +58,7 @@ same-length-6 : tie.Need-same-length-6
 same-length-6 c = search needs
 
 returns-3 : tie.Need-returns-3
-returns-3 c = taken-given (met (c .before .before .before .before .before .before .before .before .before .before .before .before .before .before .before .before .before .before .before)) _ _ (c .before .before .before .before .before .before .before .before .before .before .before .before .before .before .before .before .if1 .left) (c .before .before .before .before .before .before .before .before .before .before .before .before .before .before .before .if2 .left) _ _ _ _ _ _ _ (c .before .before .before .before .before .take .ensures) (c .before .before .before .before .before .before .before .before .before .before .before .before .hand-out .ensures) (c .moved .ensures)
+returns-3 c = taken-given (met (c .before .before .before .before .before .before .before .before .before .before .before .before .before .before .before .before .before .before .before .before)) _ _ (c .before .before .before .before .before .before .before .before .before .before .before .before .before .before .before .before .before .if1 .left) (c .before .before .before .before .before .before .before .before .before .before .before .before .before .before .before .before .if2 .left) _ _ _ _ _ _ _ (c .before .before .before .before .before .before .take .ensures) (c .before .before .before .before .before .before .before .before .before .before .before .before .before .hand-out .ensures) _ (c .before .handed-out .ensures) (c .moved .ensures)
 
 same-length-7 : tie.Need-same-length-7
 same-length-7 c = search needs
@@ -76,6 +79,7 @@ poll-for-reply-or-error-spec =
     returns-2
     hand-out-requires
     take-requires
+    handed-out-requires
     moved-requires
     enum-told
     same-length-3

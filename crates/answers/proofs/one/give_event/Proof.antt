@@ -28,7 +28,7 @@ same-length : tie.Need-same-length
 same-length c = search needs
 
 returns : tie.Need-returns
-returns c = kept-at saysEvent (c .before .before .before .before .before .answer .given .1) refl refl refl (c .before .before .put-connection .ensures)
+returns c = kept-at saysEvent (c .before .before .before .before .before .before .answer .given .1) refl refl refl (c .before .before .before .put-connection .ensures)
 
 same-length-2 : tie.Need-same-length-2
 same-length-2 c = search needs

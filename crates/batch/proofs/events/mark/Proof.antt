@@ -10,19 +10,19 @@ enum-known-a : tie.Need-enum-known-a
 enum-known-a c = search needs
 
 mul-marks : tie.Need-mul-marks
-mul-marks c = omega (arith, markable-packet _ _ _ _ _ _ (c .before .a .given .1) (c .before .before .before .pre))
+mul-marks c = omega (arith, markable-packet _ _ _ _ _ (c .before .before .a .given .1) (c .before .before .before .before .pre))
 
 slice-write-marks : tie.Need-slice-write-marks
-slice-write-marks c = omega (arith, markable-packet _ _ _ _ _ _ (c .before .a .given .1) (c .before .before .before .pre))
+slice-write-marks c = omega (arith, markable-packet _ _ _ _ _ (c .before .before .a .given .1) (c .before .before .before .before .pre))
 
 add-marks : tie.Need-add-marks
-add-marks c = omega (arith, markable-packet _ _ _ _ _ _ (c .before .a .given .1) (c .before .before .before .pre))
+add-marks c = omega (arith, markable-packet _ _ _ _ _ (c .before .before .a .given .1) (c .before .before .before .before .pre))
 
 mul-marks-2 : tie.Need-mul-marks-2
-mul-marks-2 c = omega (arith, markable-packet _ _ _ _ _ _ (c .before .a .given .1) (c .before .before .before .pre))
+mul-marks-2 c = omega (arith, markable-packet _ _ _ _ _ (c .before .before .a .given .1) (c .before .before .before .before .pre))
 
 slice-write-marks-2 : tie.Need-slice-write-marks-2
-slice-write-marks-2 c = let h = markable-packet _ _ _ _ _ _ (c .before .a .given .1) (c .before .before .before .pre) in omega (arith, length-set (c .before .before .before .args .marks .now) (c .before .before .before .args .at) (c .before .a .given .0 .0 .0))
+slice-write-marks-2 c = let h = markable-packet _ _ _ _ _ (c .before .before .a .given .1) (c .before .before .before .before .pre) in omega (arith, length-set (c .before .before .before .before .args .marks .now) (c .before .before .before .before .args .at) (c .before .before .a .given .0 .0 .number .0))
 
 enum-told : tie.Need-enum-told
 enum-told c = search needs
@@ -34,7 +34,7 @@ same-length : tie.Need-same-length
 same-length c = search needs
 
 returns : tie.Need-returns
-returns c = marked-packet _ _ _ _ _ _ (c .before .a .given .1) (c .before .before .before .pre)
+returns c = marked-packet _ _ _ _ _ (c .before .before .a .given .1) (c .before .before .before .before .pre)
 
 returns-2 : tie.Need-returns-2
 returns-2 c = search needs

@@ -37,7 +37,7 @@ passed-requires : tie.Need-passed-requires Inv-loop μ-loop
 passed-requires c κs = c .before .before .before .before .hand-first .ensures .room
 
 loop-again : tie.Need-loop-again Inv-loop μ-loop
-loop-again c = inv-next _ _ _ _ _ _ _ _ _ _ (c .before .before .before .before .before .before .before .before .before .before .before .before .loop .inv) _ _ _ _ _ _ _ refl refl (first-turns _ _ _ _ _ _ _ _ _ (c .before .before .before .before .before .hand-first .ensures) _ (c .passed .ensures))
+loop-again c = inv-next _ _ _ _ _ _ _ _ _ _ (c .before .before .before .before .before .before .before .before .before .before .before .before .loop .inv) _ _ _ _ _ _ refl refl (first-turns _ _ _ _ _ _ _ _ _ (c .before .before .before .before .before .hand-first .ensures) _ (c .passed .ensures))
 
 add-used : tie.Need-add-used Inv-loop μ-loop
 add-used c = omega (arith, loop-again c .used-most, c .before .before .before .before .before .before .before .before .before .before .before .before .before .before)
@@ -55,13 +55,13 @@ enum-known-a : tie.Need-enum-known-a Inv-loop μ-loop
 enum-known-a c = search needs
 
 loop-again-2 : tie.Need-loop-again-2 Inv-loop μ-loop
-loop-again-2 c = inv-next _ _ _ _ _ _ _ _ _ _ (c .before .before .before .before .before .before .before .before .before .before .before .before .before .before .before .before .loop .inv) _ _ _ _ _ _ _ (c .before .a .given .1) (c .before .before .before .before .before .before .before .before .before .turn .kept .1 .0) (c .before .before .before .before .before .before .before .before .before .turn .ensures)
+loop-again-2 c = inv-next _ _ _ _ _ _ _ _ _ _ (c .before .before .before .before .before .before .before .before .before .before .before .before .before .before .before .before .before .loop .inv) _ _ _ _ _ _ (c .before .before .a .given .1) (c .before .before .before .before .before .before .before .before .before .before .turn .kept .1 .0) (c .before .before .before .before .before .before .before .before .before .before .turn .ensures)
 
 add-used-2 : tie.Need-add-used-2 Inv-loop μ-loop
-add-used-2 c = omega (arith, loop-again-2 c .used-most, c .before .before .before .before .before .before .before .before .before .before .before .before .before .before .before .before .before .before)
+add-used-2 c = omega (arith, loop-again-2 c .used-most, c .before .before .before .before .before .before .before .before .before .before .before .before .before .before .before .before .before .before .before)
 
 add-count-2 : tie.Need-add-count-2 Inv-loop μ-loop
-add-count-2 c = omega (arith, loop-again-2 c .marks-most, c .before .before .before .before .before .before .before .before .before .before .before .before .before .before .before .before .before)
+add-count-2 c = omega (arith, loop-again-2 c .marks-most, c .before .before .before .before .before .before .before .before .before .before .before .before .before .before .before .before .before .before)
 
 loop-less-2 : tie.Need-loop-less-2 Inv-loop μ-loop
 loop-less-2 c = omega (arith, loop-again-2 c .marks-most)

@@ -10,8 +10,8 @@ add-cost c = search needs
 put-record-requires : tie.Need-put-record-requires
 put-record-requires c κs = search needs
 
-add-t10 : tie.Need-add-t10
-add-t10 c = search needs
+add-next : tie.Need-add-next
+add-next c = search needs
 
 same-length : tie.Need-same-length
 same-length c = search needs
@@ -20,4 +20,4 @@ returns : tie.Need-returns
 returns c = behind-is _ _ _ _ (c .before .before .put-record .ensures)
 
 pub behind-spec : {M : Type 1} → statement M
-behind-spec = tie.close (tie.spec add-cost put-record-requires add-t10 same-length returns)
+behind-spec = tie.close (tie.spec add-cost put-record-requires add-next same-length returns)
