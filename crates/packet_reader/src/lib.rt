@@ -51,8 +51,8 @@ pub enum Begins {
     Whole(usize),
 }
 
-// Inside, a step of `batch`: the order is that of a state that was found sound, and no refusal is
-// given here. One other than `l` counts as `B`.
+// Inside, for `batch` and `listing`: the order was tested, and no refusal is given here. One other
+// than `l` counts as `B`.
 pub fn front(order: u8, bytes: &[u8]) -> Begins
     ensures { λ r. ⌜ Fronts order (now (bytes .entry)) r ⌝ }
 {
