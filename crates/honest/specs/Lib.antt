@@ -3,6 +3,8 @@ pub mod Rules
 pub mod Calls
 pub mod Lists
 pub mod Server
+pub mod Origins
+pub mod OriginsLaws
 pub mod Public
 pub mod Theorems
 pub mod Computing

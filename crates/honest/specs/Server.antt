@@ -175,5 +175,9 @@ module _ (o : ℕ) (packets : List Packet) (wire : Each (λ (p : Packet). Wire o
         honest-log l (x ∷ ys) g (k .1) a,
       )
 
+-- whatever brought its packets in order
+pub log-honest : (o : ℕ) (all rest : List Packet) (l : List Entry) → packetsIn l ++ carrying rest ≡ carrying all → HonestServer o all l → Honest o l
+log-honest o all rest l e h = honest-log o (carrying all) (h .wire) (h .rising) l (carrying rest) e (h .known) (h .answered)
+
 pub server-honest : {all rest : List Packet} {c : Client} {l : List Entry} (o : ℕ) → Serves all rest c l → HonestServer o all l → Honest o l
-server-honest {all} {rest} {c} {l} o s h = honest-log o (carrying all) (h .wire) (h .rising) l (carrying rest) (in-order s) (h .known) (h .answered)
+server-honest {all} {rest} {c} {l} o s h = log-honest o all rest l (in-order s) h

@@ -20,7 +20,9 @@ use Rattle.model.specs.declared.Connection.{Connection}
 use Rattle.honest.specs.Run.{Entry, Runs, Fair, Honest, Right, Filed, Bears, Holds, Hands}
 use Rattle.honest.specs.Rules.{ruled-inv, true-range}
 use Rattle.honest.specs.Calls.{Taking, taking, lands, counted, runs-ruled, one-of}
-use Rattle.honest.specs.Server.{Packet, Serves, serves-runs, HonestServer, server-honest}
+use Rattle.honest.specs.Server.{Packet, packetsIn, Serves, serves-runs, HonestServer, server-honest}
+use Rattle.honest.specs.Origins.{Lists, Traced, AllTied, OneOf}
+use Rattle.honest.specs.OriginsLaws.{traced-client, traced-tied, holds-one}
 use Rattle.honest.specs.Public.{Public, public-runs, came, given-so, refused-so}
 use Rattle.honest.specs.Lists.{runs-filed, filed-took, all-map, hands}
 
@@ -69,6 +71,14 @@ held-true {c} {log} r h =
 -- HANDED OUT: and so does each that a call hands out.
 pub handed-true : {c : Client} {log : List Entry} → Runs c log → Honest (c .order) log → (x : Call) → Hands (Bears log) (step c x .said)
 handed-true {c} {log} r h x = hands (Bears log) c x (held-true r h)
+
+-- TIED: whichever way the records of a run are followed (`runs-traced`: there is one), each that is held bears the true number of the very packet that it came from,
+pub run-tied : {c : Client} {log : List Entry} {r : Runs c log} {x : Lists} → Traced c log r x → Honest (c .order) log → AllTied (packetsIn log) x
+run-tied {r = r} t h = traced-tied t (true-numbers r h)
+
+-- and what a call hands out is one of them.
+pub handed-tied : {c : Client} {log : List Entry} {r : Runs c log} {x : Lists} → Traced c log r x → Honest (c .order) log → (z : Call) → Hands (OneOf (packetsIn log) x) (step c z .said)
+handed-tied {c} {log} {r} {x} t h z = hands (OneOf (packetsIn log) x) c z (holds-one c (packetsIn log) x (traced-client t) (run-tied t h))
 
 -- ---- Word for word
 

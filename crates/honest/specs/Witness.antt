@@ -110,6 +110,31 @@ served-honest =
       answered = λ q a. inr (omega arith, ⊎-elim (λ (e : q ≡ 1). inl (sym e)) (λ z. absurd z) a);
     }
 
+-- ---- A server may be silent: two requests without a reply get no packet before the reply to a later one, and the last request, which has a reply, is still pending
+
+abbrev third : Packet
+third = record { true-number = 3; bytes = packetOf 1 0 3 }
+
+abbrev quietLog : List Entry
+quietLog = sent true ∷ took 3 (packetOf 1 0 3) (record { place = Replies; number = 3 }) ∷ sent true ∷ sent false ∷ sent false ∷ []
+
+abbrev quiet : List Call
+quiet = send NoReply ∷ send NoReply ∷ send ReplyWithoutFds ∷ enqueue (third .bytes) ∷ send ReplyWithoutFds ∷ []
+
+pub quiet-run : Serves (third ∷ []) [] (run (fresh 108 4 48) quiet .end) quietLog
+unfolding computing left
+quiet-run = calls (send ReplyWithoutFds) tt (offers {p = third} (calls (send ReplyWithoutFds) tt (calls (send NoReply) tt (calls (send NoReply) tt (begins 108 4 48)))))
+
+pub quiet-honest : HonestServer 108 (third ∷ []) quietLog
+unfolding computing carrying
+quiet-honest =
+    record {
+      wire = (refl, tt);
+      rising = (tt, tt);
+      known = (omega arith, tt);
+      answered = λ q a. ⊎-elim (λ (e : q ≡ 4). inr (omega arith, tt)) (λ b. ⊎-elim (λ (e : q ≡ 3). inl (sym e)) (λ z. absurd z) b) a;
+    }
+
 -- ---- Runs of any length: n times a request, its reply, and a poll that takes it
 
 abbrev last : Request
