@@ -302,7 +302,7 @@ at-last [] p = refl
 at-last (q ∷ l) p = at-last l p
 
 -- what is tied stays so as the log grows
-tied-grown : (ps qs : List Packet) (x : Lists) → AllTied ps x → AllTied (ps ++ qs) x
+pub tied-grown : (ps qs : List Packet) (x : Lists) → AllTied ps x → AllTied (ps ++ qs) x
 tied-grown ps qs x h = (each-map grown (x .replies) (h .0), each-map grown (x .events) (h .1))
   where
     grown : (f : Followed) → Tied ps f → Tied (ps ++ qs) f

@@ -81,7 +81,7 @@ pub record HonestServer (o : ℕ) (all : List Packet) (l : List Entry) : Type 0 
 
 -- ---- IN ORDER: the log's packets and those left are the server's.
 
-offered : (p : Packet) (rest : List Packet) (l : List Entry) (a : Answer (Filing × Client)) → packetsIn (noteTook (p .true-number) (p .bytes) a l) ++ carrying (left a p rest) ≡ packetsIn l ++ carrying (p ∷ rest)
+pub offered : {A : Type 0} (p : Packet) (rest : List Packet) (l : List Entry) (a : Answer (Filing × A)) → packetsIn (noteTook (p .true-number) (p .bytes) a l) ++ carrying (left a p rest) ≡ packetsIn l ++ carrying (p ∷ rest)
 unfolding noteTook left carrying packetsIn choose
 offered p rest l (refuses n) = refl
 offered p rest l (gives x) = go (unnumbered (codeOf (p .bytes)))

@@ -1,46 +1,30 @@
--- DEMAND 3 for a run of bytes, packet by packet: with an honest server each packet of it that is taken is filed under its true number. Assumes nothing.
+-- A run of bytes, packet by packet, in the model: with an honest server each packet of it that is taken is filed under its true number. Assumes nothing.
 use mathlib.Core.Bool.{Bool, true, false}
 use mathlib.Core.List.{List, [], _∷_}
-use mathlib.Core.Path.{_≡_, refl, sym, subst}
+use mathlib.Core.Path.{_≡_, refl, sym, ap, subst}
 use Prim.Native.Nat.{ℕ}
-use lib.ListN.{length}
+use lib.ListN.{length, take}
 use Rattle.octets.specs.Logic.{choose, apart}
-use Rattle.refusal.specs.Answer.{Answer, gives, refuses}
+use Rattle.refusal.specs.Answer.{Answer, gives, refuses, gives-same}
 use Rattle.packet.specs.Packet.{codeOf, unnumbered}
 use Rattle.packet_reader.specs.Frame.{cutPackets}
 use Rattle.model.specs.Client.{Client}
 use Rattle.model.specs.Model.{Filing, enqueuePacket}
 use Rattle.model.specs.Calls.{enqueue, step}
-use Rattle.model.specs.Reading.{Rooms, reads}
-use Rattle.model.specs.Batch.{onward, onTurn, many, notes}
-use Rattle.model.specs.Feed.{Stopped, Took, modelTook}
-use Rattle.model.specs.declared.Connection.{Connection}
+use Rattle.model.specs.Batch.{onward, onTurn, Many, many, notes}
+use Rattle.model.specs.Feed.{Stopped, Took, Feeding, modelTook}
 use Rattle.batch.specs.Feed.{stopAt, enqueuePackets}
-use Rattle.honest.specs.Run.{Entry, took, noteTook, noted, Runs, call, Fair, Honest, Filed}
+use Rattle.honest.specs.Run.{Entry, took, noteTook, noted, Runs, call, Fair, Honest}
 use Rattle.honest.specs.Calls.{taking, counted, uncounted}
-use Rattle.honest.specs.Public.{public-runs}
+use Rattle.honest.specs.Server.{Packet}
 use Rattle.honest.specs.Theorems.{next-filed}
-use Rattle.session.specs.Noting.{Noting, noting, next, rest, notePacket, tookOf}
-use Rattle.session.specs.Session.{Session}
-use Rattle.session.specs.Theorems.{session-public}
-
--- what comes of a packet p with the true number t: where it is taken it is filed under t, if it carries a number, and what comes next is as `on` says
-abbrev pub Files : Client → ℕ → List ℕ → (Client → Type 0) → Answer (Filing × Client) → Type 0
-Files m t p on (gives x) = (unnumbered (codeOf p) ≡ false → Filed m p t x) × on (x .1)
-Files m t p on (refuses n) = Unit {0}
-
--- so of packets one after the other, up to the first that is refused
-abbrev pub AllFiled : Client → List ℕ → List (List ℕ) → Type 0
-AllFiled m ts [] = Unit {0}
-AllFiled m ts (p ∷ ps) = Files m (next ts) p (λ m'. AllFiled m' (rest ts) ps) (enqueuePacket m p)
+use Rattle.session.specs.Noting.{Noting, noting, next, notePacket}
+use Rattle.session.specs.Serving.{bytesIn, numbersIn, FiledAll}
 
 -- ---- the log of a row
 
-abbrev vals : Stopped → Client → List (List ℕ) → List Took
-vals over m ps = many (λ c p. modelTook (length p) (enqueuePacket c p)) over m ps .values
-
 -- a log that is honest was honest before it grew
-noted-honest : (o t : ℕ) (p : List ℕ) (f : Filing) (l : List Entry) → Honest o (noteTook t p (gives (f, tt {0})) l) → (unnumbered (codeOf p) ≡ false → Fair o l t p) × Honest o l
+pub noted-honest : (o t : ℕ) (p : List ℕ) (f : Filing) (l : List Entry) → Honest o (noteTook t p (gives (f, tt {0})) l) → (unnumbered (codeOf p) ≡ false → Fair o l t p) × Honest o l
 unfolding noteTook choose
 noted-honest o t p f l h = go (unnumbered (codeOf p)) h
   where
@@ -69,25 +53,40 @@ taken-runs k t p x e = rw (sym e) at (call (enqueue p) t k)
 
 -- ---- THE PACKETS OF A RUN are filed under their true numbers.
 
-row-filed : {m : Client} {l : List Entry} → Runs m l → (over : Stopped) (ts : List ℕ) (ps : List (List ℕ)) → Honest (m .order) (notes notePacket ps (vals over m ps) (noting ts l) .log) → AllFiled m ts ps
-unfolding many onTurn modelTook notes notePacket
-row-filed k over ts [] h = tt
-row-filed {m} {l} k over ts (p ∷ ps) h = go (enqueuePacket m p) refl (λ x r q. row-filed r over (rest ts) ps q) h
-  where
-    go : (a : Answer (Filing × Client)) → a ≡ enqueuePacket m p
-        → ((x : Filing × Client) → Runs (x .1) (noteTook (next ts) p (gives (x .0, tt {0})) l) → Honest (x .1 .order) (notes notePacket ps (vals over (x .1) ps) (noting (rest ts) (noteTook (next ts) p (gives (x .0, tt {0})) l)) .log) → AllFiled (x .1) (rest ts) ps)
-        → Honest (m .order) (notes notePacket (p ∷ ps) (onTurn (λ v s'. onward (v ∷ []) (many (λ c y. modelTook (length y) (enqueuePacket c y)) over s' ps)) (λ w. record { values = []; stopped = w; end = m }) (modelTook (length p) a) .values) (noting ts l) .log)
-        → Files m (next ts) p (λ m'. AllFiled m' (rest ts) ps) a
-    go (gives x) e on q =
-        let l' : List Entry = noteTook (next ts) p (gives (x .0, tt {0})) l in
-        let f = noted-honest (m .order) (next ts) p (x .0) l (row-honest (m .order) ps (vals over (x .1) ps) (noting (rest ts) l') q) in (
-          λ carries. next-filed k (f .1) (next ts) p carries (f .0 carries) x e,
-          on x (taken-runs k (next ts) p x e) (subst (λ (o : ℕ). Honest o (notes notePacket ps (vals over (x .1) ps) (noting (rest ts) l') .log)) (sym (order-kept m p x e)) q),
-        )
-    go (refuses n) e on q = tt
+abbrev rowOf : Stopped → Client → List (List ℕ) → Many Took Stopped Client
+rowOf over m ps = many (λ c p. modelTook (length p) (enqueuePacket c p)) over m ps
 
--- A session with an honest server, and the call that brings bytes with packets of the true numbers ts: each packet that is taken is filed under its own.
-pub session-fed-filed : {c : Connection} {r : Rooms} {l : List Entry} → Session c r l → (ts bytes : List ℕ)
-    → Honest (c .order) (notes notePacket (cutPackets (c .order) bytes .packets) (tookOf (enqueuePackets (reads c r) bytes)) (noting ts l) .log) → AllFiled (reads c r) ts (cutPackets (c .order) bytes .packets)
-unfolding enqueuePackets tookOf reads
-session-fed-filed {c} k ts bytes h = row-filed (public-runs (session-public k)) (stopAt (c .order) (cutPackets (c .order) bytes .left)) ts (cutPackets (c .order) bytes .packets) h
+row-filed : {m : Client} {l : List Entry} → Runs m l → (over : Stopped) (ps : List Packet) → Honest (m .order) (notes notePacket (bytesIn ps) (rowOf over m (bytesIn ps) .values) (noting (numbersIn ps) l) .log)
+    → FiledAll m (take (length (rowOf over m (bytesIn ps) .values)) ps) (rowOf over m (bytesIn ps) .end)
+unfolding many onTurn modelTook notes notePacket
+row-filed k over [] h = refl
+row-filed {m} {l} k over (q ∷ ps) h = go (enqueuePacket m (q .bytes)) refl (λ x r g. row-filed r over ps g) h
+  where
+    go : (a : Answer (Filing × Client)) → a ≡ enqueuePacket m (q .bytes)
+        → ((x : Filing × Client) → Runs (x .1) (noteTook (q .true-number) (q .bytes) (gives (x .0, tt {0})) l) → Honest (x .1 .order) (notes notePacket (bytesIn ps) (rowOf over (x .1) (bytesIn ps) .values) (noting (numbersIn ps) (noteTook (q .true-number) (q .bytes) (gives (x .0, tt {0})) l)) .log)
+        → FiledAll (x .1) (take (length (rowOf over (x .1) (bytesIn ps) .values)) ps) (rowOf over (x .1) (bytesIn ps) .end))
+        → Honest (m .order) (notes notePacket (q .bytes ∷ bytesIn ps) (onTurn (λ v s'. onward (v ∷ []) (rowOf over s' (bytesIn ps))) (λ w. record { values = []; stopped = w; end = m }) (modelTook (length (q .bytes)) a) .values) (noting (q .true-number ∷ numbersIn ps) l) .log)
+        → FiledAll m (take (length (onTurn (λ v s'. onward (v ∷ []) (rowOf over s' (bytesIn ps))) (λ w. record { values = []; stopped = w; end = m }) (modelTook (length (q .bytes)) a) .values)) (q ∷ ps))
+        (onTurn (λ v s'. onward (v ∷ []) (rowOf over s' (bytesIn ps))) (λ w. record { values = []; stopped = w; end = m }) (modelTook (length (q .bytes)) a) .end)
+    go (gives x) e on g =
+        let l' : List Entry = noteTook (q .true-number) (q .bytes) (gives (x .0, tt {0})) l in
+        let f = noted-honest (m .order) (q .true-number) (q .bytes) (x .0) l (row-honest (m .order) (bytesIn ps) (rowOf over (x .1) (bytesIn ps) .values) (noting (numbersIn ps) l') g) in (
+          x,
+          e,
+          λ carries. next-filed k (f .1) (q .true-number) (q .bytes) carries (f .0 carries) x e,
+          on x (taken-runs k (q .true-number) (q .bytes) x e) (subst (λ (o : ℕ). Honest o (notes notePacket (bytesIn ps) (rowOf over (x .1) (bytesIn ps) .values) (noting (numbersIn ps) l') .log)) (sym (order-kept m (q .bytes) x e)) g),
+        )
+    go (refuses n) e on g = refl
+
+-- what the call gives is the row
+fed-row : (m : Client) (bytes : List ℕ) (v : Feeding) (m' : Client) → enqueuePackets m bytes ≡ gives (v, m')
+    → (v .packets ≡ rowOf (stopAt (m .order) (cutPackets (m .order) bytes .left)) m (cutPackets (m .order) bytes .packets) .values) × (m' ≡ rowOf (stopAt (m .order) (cutPackets (m .order) bytes .left)) m (cutPackets (m .order) bytes .packets) .end)
+unfolding enqueuePackets
+fed-row m bytes v m' e = let g = gives-same (sym e) in (ap (λ y. y .0 .packets) g, ap (λ y. y .1) g)
+
+module _ {m : Client} {l : List Entry} (k : Runs m l) (bytes : List ℕ) (ps : List Packet) (cuts : bytesIn ps ≡ cutPackets (m .order) bytes .packets) where
+  pub run-fed : (v : Feeding) (m' : Client) → enqueuePackets m bytes ≡ gives (v, m') → Honest (m .order) (notes notePacket (cutPackets (m .order) bytes .packets) (v .packets) (noting (numbersIn ps) l) .log)
+      → FiledAll m (take (length (v .packets)) ps) m'
+  run-fed v m' e h =
+      let g = fed-row m bytes v m' e in
+      rw (g .0, g .1, sym cuts) (row-filed k (stopAt (m .order) (cutPackets (m .order) bytes .left)) ps (rw (g .0, sym cuts) at h))

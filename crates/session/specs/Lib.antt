@@ -2,9 +2,12 @@ pub mod Ask
 pub mod AskLaws
 pub mod Noting
 pub mod Session
+pub mod Serving
 pub mod Rows
 pub mod FeedRow
 pub mod Theorems
 pub mod Engines
 pub mod FeedFiled
+pub mod ServingLaws
+pub mod Served
 pub mod Examples

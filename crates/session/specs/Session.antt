@@ -24,7 +24,7 @@ noteSends bytes (gives x) l = sentAll (take (x .0 .count) bytes) l
 noteSends bytes (refuses n) l = l
 
 -- What a call on the state m adds to the log, which has what was accepted. The true numbers ts of the packets that a call brings are the server's: no call sees them.
-abbrev pub logged : (x : Ask) → List ℕ → Client → Answer (Value x × Connection) → List Entry → List Entry
+abbrev pub logged : {S : Type 0} (x : Ask) → List ℕ → Client → Answer (Value x × S) → List Entry → List Entry
 logged (send-request kind) ts m a l = noteSent (hasReply kind) a l
 logged (enqueue-fds list) ts m a l = l
 logged (enqueue-packet p) ts m a l = noteTook (next ts) p a l
