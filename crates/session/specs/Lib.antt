@@ -10,4 +10,5 @@ pub mod Engines
 pub mod FeedFiled
 pub mod ServingLaws
 pub mod Served
+pub mod Witness
 pub mod Examples

@@ -49,7 +49,7 @@ unfoldable pub tookMany : {A : Type 0} → Answer (ShownFed × A) → ℕ
 tookMany (gives y) = y .0 .packets
 tookMany (refuses n) = 0
 
-abbrev pub taken : (x : Ask) → Answer (Value x × Connection) → ℕ
+abbrev pub taken : {S : Type 0} (x : Ask) → Answer (Value x × S) → ℕ
 taken (send-request kind) a = 0
 taken (enqueue-fds list) a = 0
 taken (enqueue-packet p) a = tookOne a
