@@ -1,0 +1,4 @@
+pub mod Run
+pub mod Refusals
+pub mod Asking
+-- pub mod Theorems
