@@ -51,7 +51,7 @@ pub record Row (s : List ℕ) (c : Connection) : Type 0 where
   pub long : length s ≡ connectionSlots
   pub is : connectionOf s ≡ c
 
-row-left : {B : Type 0} (s s' : List ℕ) (a : Answer (B × Connection)) → s' ≡ shownOf (stateRow s) a s → length s ≡ connectionSlots → stateOf a (connectionOf s) .order < 256 → Row s' (stateOf a (connectionOf s))
+pub row-left : {B : Type 0} (s s' : List ℕ) (a : Answer (B × Connection)) → s' ≡ shownOf (stateRow s) a s → length s ≡ connectionSlots → stateOf a (connectionOf s) .order < 256 → Row s' (stateOf a (connectionOf s))
 unfolding stateOf
 row-left s s' (gives x) e n o = record { long = ap length e ∙ row-long s (x .1) n; is = ap connectionOf e ∙ connection-back s (x .1) n o }
 row-left s s' (refuses k) e n o = record { long = ap length e ∙ n; is = ap connectionOf e }
@@ -63,7 +63,7 @@ noted-given : (r : ℕ) (adds : List Entry → List Entry) (l : List Entry) → 
 unfolding noted choose
 noted-given r adds l e = simp e
 
-noted-refused : (r n : ℕ) (adds : List Entry → List Entry) (l : List Entry) → r ≡ n → 1 ≤ n → noted r adds l ≡ l
+pub noted-refused : (r n : ℕ) (adds : List Entry → List Entry) (l : List Entry) → r ≡ n → 1 ≤ n → noted r adds l ≡ l
 unfolding noted choose
 noted-refused r n adds l e h = simp (ne-eqb r 0 (λ z. omega arith))
 
@@ -75,10 +75,14 @@ noted-same r l = go (eqb r 0)
     go true = refl
     go false = refl
 
+-- what is shown of a filing tells it
 place-meant : (x : Place) → placeAt (placeNumber x) ≡ x
 place-meant Place.Replies = refl
 place-meant Place.Events = refl
 place-meant Place.Dropped = refl
+
+pub filing-meant : (x : Filing × Connection) (place number : ℕ) → (place ∷ number ∷ []) ≡ filing x → record { place = placeAt place; number = number } ≡ x .0
+filing-meant x place number e = λ i. record { place = (ap placeAt (shown-at 0 e) ∙ place-meant (x .0 .place)) i; number = shown-at 1 e i }
 
 sent-noted : {A : Type 0} (b : Bool) (r : ℕ) (a : Answer A) → r ≡ returned a → Within 8 a → (l : List Entry) → noted r (λ k. sent b ∷ k) l ≡ noteSent b a l
 unfolding noteSent
@@ -89,8 +93,7 @@ took-noted : (t : ℕ) (p : List ℕ) (r : ℕ) (a : Answer (Filing × Connectio
     → noted r (λ k. noteTook t p (gives (record { place = placeAt place; number = number }, tt {0})) k) l ≡ noteTook t p a l
 unfolding noteTook
 took-noted t p r (gives x) v place number e s w l =
-    noted-given r _ l e
-    ∙ ap (λ (f : Filing). noteTook t p (gives (f, tt {0})) l) (λ i. record { place = (ap placeAt (shown-at 0 s) ∙ place-meant (x .0 .place)) i; number = shown-at 1 s i })
+    noted-given r _ l e ∙ ap (λ (f : Filing). noteTook t p (gives (f, tt {0})) l) (filing-meant x place number s)
 took-noted t p r (refuses n) v place number e s (named p' q') l = noted-refused r n _ l e p'
 
 sends-noted : (kinds : List ℕ) (r : ℕ) (a : Answer (ShownSendings × Connection)) (v : List ℕ) (count number stop : ℕ) → r ≡ returned a → (count ∷ number ∷ stop ∷ []) ≡ shownOf sendings a v → Within 8 a → (l : List Entry)
@@ -167,7 +170,6 @@ mode-less mode h = (λ e. differ mode 1 (either-left _ _ h) e, λ e. differ mode
 -- EVERY EXPORT is its public call, or was given what means nothing.
 pub export-came : {state requests store slots state' requests' store' slots' : List ℕ} {adds : List Entry → List Entry} {r : ℕ} (x : Export state requests store slots state' requests' store' slots' adds r)
     → Came state (rooms requests store slots) state' (rooms requests' store' slots') adds r (Meaningless x)
-unfolding noted
 export-came {store = store} {slots = slots} (xm-send-request kind k) =
     tested (k .exported .promise) (kept-asks (send-request (kindOf kind)) tt [] tt k (sent-noted _ _ (k .exported .answer) (k .exported .number)))
     (λ h e z. kept-off k z (ap (λ (y : List ℕ). rooms y store slots) e) (leb-false _ _ h))

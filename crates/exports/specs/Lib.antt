@@ -1,4 +1,4 @@
 pub mod Run
 pub mod Refusals
 pub mod Asking
--- pub mod Theorems
+pub mod Theorems
