@@ -1,24 +1,22 @@
 -- Each export is its public call, asked of the state that the row is: what it comes to for a session. Assumes nothing.
 use mathlib.Core.Bool.{Bool, true, false}
 use mathlib.Core.List.{List, [], _∷_}
-use mathlib.Core.Path.{_≡_, refl, sym, ap, _∙_, subst}
+use mathlib.Core.Path.{_≡_, refl, sym, ap, _∙_}
 use Prim.Native.Nat.{ℕ, _≤_, _<_}
 use native.Mathlib.Omega.{arith}
-use lib.Dec.{eqb, leb}
-use lib.ListN.{length, take, getD}
+use lib.Dec.{eqb}
+use lib.ListN.{length, take}
 use borrow.Author.Tests.{eqb-true, eq-eqb, ne-eqb, leb-false}
-use Rattle.octets.specs.Logic.{choose, either, either-left, either-right}
+use Rattle.octets.specs.Logic.{choose, either, apart, either-left, either-right}
 use Rattle.octets.specs.Bytes.{littleOrder, bigOrder, legal}
 use Rattle.refusal.specs.Answer.{Answer, gives, refuses, pass}
 use Rattle.model.specs.Client.{Client}
-use Rattle.model.specs.Model.{hasReply, Filing}
+use Rattle.model.specs.Model.{Filing}
 use Rattle.model.specs.Reading.{Rooms, rooms, reads}
 use Rattle.model.specs.SendRequests.{kindOf, ShownSendings}
-use Rattle.model.specs.Feed.{ShownFed}
 use Rattle.model.specs.declared.Connection.{Connection}
 use Rattle.model.specs.declared.Place.{Place}
 use Rattle.model.specs.declared.Place.the-variants as Place
-use Rattle.connection.specs.Calls.{Prepares}
 use Rattle.honest.specs.Run.{Entry, sent, noteSent, noteTook}
 use Rattle.honest.specs.Public.{stateOf}
 use Rattle.session.specs.Ask.{Ask, send-request, enqueue-fds, enqueue-packet, discard-reply, poll-for-reply-or-error, poll-check-for-reply-or-error, poll-for-reply, poll-for-event-with-sequence, take-closed-fds, prepare-check-for-reply-or-error, send-requests, enqueue-packets, poll-for-events, Value, Outputs, told, Answers, OfBytes}
@@ -27,9 +25,9 @@ use Rattle.session.specs.Session.{sentAll, noteSends, logged}
 use Rattle.rows.specs.State.{connectionSlots, connectionOf, connectionRow}
 use Rattle.rows.specs.Theorems.{connection-back}
 use Rattle.answers.specs.Exported.{returned, shownOf, Kept, When, on, off, shown-at}
-use Rattle.answers.specs.Shown.{stateRow, placeNumber, filing, sendings, modeOf, isMode, mostKind}
+use Rattle.answers.specs.Shown.{stateRow, placeNumber, filing, sendings, modeOf, isMode}
 use Rattle.exports.specs.Refusals.{Within, named}
-use Rattle.exports.specs.Run.{Bytes, placeAt, Export, xm-send-request, xm-discard-reply, xm-enqueue-fds, xm-enqueue-packet, xm-poll-for-reply-or-error, xm-poll-check-for-reply-or-error, xm-poll-for-reply, xm-poll-for-event-with-sequence, xm-take-closed-fds, xm-prepare-check-for-reply-or-error, xm-send-requests, xm-enqueue-packets, xm-poll-for-events, noted, Meaningless}
+use Rattle.exports.specs.Run.{placeAt, Export, xm-send-request, xm-discard-reply, xm-enqueue-fds, xm-enqueue-packet, xm-poll-for-reply-or-error, xm-poll-check-for-reply-or-error, xm-poll-for-reply, xm-poll-for-event-with-sequence, xm-take-closed-fds, xm-prepare-check-for-reply-or-error, xm-send-requests, xm-enqueue-packets, xm-poll-for-events, noted, Meaningless}
 
 -- ---- The row
 
@@ -160,12 +158,9 @@ unfolding checked told stateOf pass
 check-told c (gives b) = (refl, refl, refl)
 check-told c (refuses n) = (refl, refl, refl)
 
-mode-less : (mode : ℕ) → isMode mode ≡ false → (mode ≡ 1 → ⊥) × (mode ≡ 2 → ⊥)
+mode-none : (mode : ℕ) → isMode mode ≡ false → (mode ≡ 1 → ⊥) × (mode ≡ 2 → ⊥)
 unfolding isMode
-mode-less mode h = (λ e. differ mode 1 (either-left _ _ h) e, λ e. differ mode 2 (either-right _ _ h) e)
-  where
-    differ : (a b : ℕ) → eqb a b ≡ false → a ≡ b → ⊥
-    differ a b f e = let t = eq-eqb a b e in let z : _≡_ {A = Bool} true false = sym t ∙ f in let y : _≡_ {A = ℕ} 0 1 = cc in omega arith
+mode-none mode h = (λ e. apart (eq-eqb mode 1 e) (either-left _ _ h), λ e. apart (eq-eqb mode 2 e) (either-right _ _ h))
 
 -- EVERY EXPORT is its public call, or was given what means nothing.
 pub export-came : {state requests store slots state' requests' store' slots' : List ℕ} {adds : List Entry → List Entry} {r : ℕ} (x : Export state requests store slots state' requests' store' slots' adds r)
@@ -174,7 +169,7 @@ export-came {store = store} {slots = slots} (xm-send-request kind k) =
     tested (k .exported .promise) (kept-asks (send-request (kindOf kind)) tt [] tt k (sent-noted _ _ (k .exported .answer) (k .exported .number)))
     (λ h e z. kept-off k z (ap (λ (y : List ℕ). rooms y store slots) e) (leb-false _ _ h))
 export-came (xm-discard-reply number mode k) =
-    tested (k .exported .promise) (kept-asks (discard-reply number (modeOf mode)) tt [] tt k (λ w l. noted-same _ l)) (λ h e z. kept-off k z e (mode-less mode h))
+    tested (k .exported .promise) (kept-asks (discard-reply number (modeOf mode)) tt [] tt k (λ w l. noted-same _ l)) (λ h e z. kept-off k z e (mode-none mode h))
 export-came (xm-enqueue-fds list k) = kept-asks (enqueue-fds list) tt [] tt k (λ w l. noted-same _ l) (k .exported .promise)
 export-came (xm-enqueue-packet t packet b k) =
     kept-asks (enqueue-packet packet) (b 1) (t ∷ []) tt k (took-noted t packet _ (k .exported .answer) _ _ _ (k .exported .number) (k .exported .values)) (k .exported .promise)
@@ -187,17 +182,17 @@ export-came {state = state} {requests = requests} {store = store} {slots = slots
     let c = connectionOf state in
     let z = check-told c (k .answer) in
     asked
-      (record {
-        ask = prepare-check-for-reply-or-error number;
-        bytes = tt;
-        numbers = [];
-        answer = checked c (k .answer);
-        outputs = tt;
-        answers = (z .0 ∙ k .promise, z .1, refl);
-        row = λ n o. record { long = n; is = sym (z .1) };
-        number = k .number ∙ sym (z .2);
-        notes = λ w l. noted-same _ l;
-      })
+    (record {
+      ask = prepare-check-for-reply-or-error number;
+      bytes = tt;
+      numbers = [];
+      answer = checked c (k .answer);
+      outputs = tt;
+      answers = (z .0 ∙ k .promise, z .1, refl);
+      row = λ n o. record { long = n; is = sym (z .1) };
+      number = k .number ∙ sym (z .2);
+      notes = λ w l. noted-same _ l;
+    })
 export-came (xm-send-requests kinds k) = kept-asks (send-requests kinds) tt [] tt k (sends-noted kinds _ (k .exported .answer) _ _ _ _ (k .exported .number) (k .exported .values)) (k .exported .promise)
 export-came (xm-enqueue-packets ts bytes b k) = kept-asks (enqueue-packets bytes) b ts tt k (fed-noted ts _ bytes _ (k .exported .answer) (k .exported .number)) (k .exported .promise)
 export-came (xm-poll-for-events out marks {out' = out'} {marks' = marks'} k) = kept-asks (poll-for-events out marks) tt [] (out', marks') k (λ w l. noted-same _ l) (k .exported .promise)
