@@ -108,7 +108,7 @@ fed-noted ts m bytes r (refuses n) e (named p' q') l = noted-refused r n _ l e p
 
 -- ---- What an export comes to
 
--- A public call that was asked: its answer, which its promise allows; the row is the state to go on with, the number returned the answer's, and the log what a session notes.
+-- A public call that was asked: its answer, which its promise allows; the row is the state to go on with, and after a refusal as found, the number returned is the answer's, and the log what a session notes.
 pub record Asked (s : List ℕ) (q : Rooms) (s' : List ℕ) (q' : Rooms) (adds : List Entry → List Entry) (r : ℕ) : Type 0 where
   pub ask : Ask
   pub bytes : OfBytes ask
@@ -117,6 +117,7 @@ pub record Asked (s : List ℕ) (q : Rooms) (s' : List ℕ) (q' : Rooms) (adds :
   pub outputs : Outputs ask
   pub answers : Answers ask (connectionOf s) q answer q' outputs
   pub row : length s ≡ connectionSlots → stateOf answer (connectionOf s) .order < 256 → Row s' (stateOf answer (connectionOf s))
+  pub found : (n : ℕ) → answer ≡ refuses n → s' ≡ s
   pub number : r ≡ returned answer
   pub notes : Within 8 answer → (l : List Entry) → noted r adds l ≡ logged ask numbers (reads (connectionOf s) q) answer l
 
@@ -142,7 +143,19 @@ module _ {s s' : List ℕ} {q q' : Rooms} {adds : List Entry → List Entry} {r 
   kept-asks : (Within 8 (k .exported .answer) → (l : List Entry) → noted r adds l ≡ logged x ts (reads (connectionOf s) q) (k .exported .answer) l) → Answers x (connectionOf s) q (k .exported .answer) q' o
       → Came s q s' q' adds r why
   kept-asks notes h =
-      asked (record { ask = x; bytes = b; numbers = ts; answer = k .exported .answer; outputs = o; answers = h; row = row-left s s' (k .exported .answer) (k .state); number = k .exported .number; notes = notes })
+      asked
+      (record {
+        ask = x;
+        bytes = b;
+        numbers = ts;
+        answer = k .exported .answer;
+        outputs = o;
+        answers = h;
+        row = row-left s s' (k .exported .answer) (k .state);
+        found = λ n e. k .state ∙ ap (λ (a : Answer (Value x × Connection)). shownOf (stateRow s) a s) e;
+        number = k .exported .number;
+        notes = notes;
+      })
 
 kept-off : {A : Type 0} {P : Answer A → Type 0} {show put : A → List ℕ} {v v' s s' : List ℕ} {q q' : Rooms} {adds : List Entry → List Entry} {r : ℕ} {why : Type 0} (k : Kept P show put v v' s s' r) → k .exported .answer ≡ refuses 9 → q' ≡ q → why
     → Came s q s' q' adds r why
@@ -190,6 +203,7 @@ export-came {state = state} {requests = requests} {store = store} {slots = slots
       outputs = tt;
       answers = (z .0 ∙ k .promise, z .1, refl);
       row = λ n o. record { long = n; is = sym (z .1) };
+      found = λ n e. refl;
       number = k .number ∙ sym (z .2);
       notes = λ w l. noted-same _ l;
     })

@@ -6,6 +6,7 @@ use lib.Dec.{eqb}
 use lib.ListN.{take, getD}
 use Rattle.octets.specs.Logic.{choose}
 use Rattle.refusal.specs.Answer.{gives}
+use Rattle.model.specs.Client.{Client}
 use Rattle.model.specs.Model.{hasReply}
 use Rattle.model.specs.Reading.{rooms, reads}
 use Rattle.model.specs.SendRequests.{kindOf}
@@ -21,6 +22,10 @@ use Rattle.xiengmado.specs.Exports.{XmConnectionNew, XmSendRequest, XmDiscardRe
 -- a lent slice is of bytes
 abbrev pub Bytes : List ℕ → Type 0
 Bytes s = (i : ℕ) → getD s i 0 < 256
+
+-- what row and rooms are read as, in the model's terms
+abbrev pub clientOf : (state requests store slots : List ℕ) → Client
+clientOf state requests store slots = reads (connectionOf state) (rooms requests store slots)
 
 -- the place that a number behind the pointer means
 abbrev pub placeAt : ℕ → Place
@@ -56,7 +61,7 @@ pub data Export (state requests store slots : List ℕ) : (state' requests' stor
   xm-send-requests : (kinds : List ℕ) {count number stop : ℕ} {state' requests' : List ℕ} {count' number' stop' r : ℕ} → XmSendRequests state requests store slots kinds count number stop state' requests' count' number' stop' r
       → Export state requests store slots state' requests' store slots (λ l. sentAll (take count' kinds) l) r
   xm-enqueue-packets : (ts bytes : List ℕ) → Bytes bytes → {size count stop : ℕ} {state' store' slots' : List ℕ} {size' count' stop' r : ℕ} → XmEnqueuePackets state requests store slots bytes size count stop state' store' slots' size' count' stop' r
-      → Export state requests store slots state' requests store' slots' (λ l. noteFed ts (reads (connectionOf state) (rooms requests store slots)) bytes (gives (tt {0})) l) r
+      → Export state requests store slots state' requests store' slots' (λ l. noteFed ts (clientOf state requests store slots) bytes (gives (tt {0})) l) r
   xm-poll-for-events : (out marks : List ℕ) {count size stop : ℕ} {state' store' out' marks' : List ℕ} {count' size' stop' r : ℕ} → XmPollForEvents state requests store slots out marks count size stop state' store' out' marks' count' size' stop' r
       → Export state requests store slots state' requests store' slots (λ l. l) r
 

@@ -5,61 +5,35 @@ use mathlib.Core.Logic.{_⊎_, inl, inr}
 use mathlib.Core.Path.{_≡_, refl, sym, ap, _∙_, subst}
 use Prim.Native.Nat.{ℕ}
 use native.Mathlib.Omega.{arith}
-use lib.Dec.{eqb}
 use lib.ListN.{length}
-use borrow.Author.Tests.{eqb-true}
 use Rattle.refusal.specs.Answer.{Answer, gives, refuses}
 use Rattle.packet.specs.Packet.{codeOf, unnumbered}
+use Rattle.packet_reader.specs.Frame.{cutPackets}
+use Rattle.model.specs.Client.{Client}
 use Rattle.model.specs.Model.{Filing}
+use Rattle.model.specs.Feed.{Feeding, ShownFed, shownFed}
 use Rattle.model.specs.Reading.{Rooms, rooms, reads}
 use Rattle.model.specs.declared.Connection.{Connection}
-use Rattle.connection.specs.Calls.{Opens, Enqueues}
-use Rattle.connection.specs.Opening.{opens-sound}
+use Rattle.batch.specs.Feed.{enqueuePackets, feedExact}
+use Rattle.connection.specs.Calls.{Enqueues}
 use Rattle.honest.specs.Run.{Entry, Fair, Honest, Right, Filed, Bears, Holds}
+use Rattle.honest.specs.Public as Public
 use Rattle.honest.specs.Public.{stateOf}
-use Rattle.session.specs.Ask.{enqueue-packet}
-use Rattle.session.specs.Session.{Session, new, call}
+use Rattle.session.specs.Ask.{enqueue-packet, enqueue-packets}
+use Rattle.session.specs.Noting.{tookOf, noteFed}
+use Rattle.session.specs.Session.{Session, call}
 use Rattle.session.specs.Theorems.{session-sound, session-true, session-held, session-filed, session-never-ended}
+use Rattle.session.specs.FeedFiled.{AllFiled, session-fed-filed}
 use Rattle.rows.specs.State.{connectionSlots, connectionOf}
-use Rattle.rows.specs.Theorems.{connection-back}
-use Rattle.answers.specs.Exported.{returned, shownOf, When, on, off}
-use Rattle.answers.specs.Shown.{stateRow, filing}
-use Rattle.xiengmado.specs.Exports.{XmEnqueuePacket}
-use Rattle.exports.specs.Refusals.{Within, given, named, call-within, open-within}
-use Rattle.exports.specs.Run as Exports
-use Rattle.exports.specs.Run.{Bytes, placeAt, Export, noted, Run, xm-connection-new, Meaningless}
-use Rattle.exports.specs.Asking.{legal-small, row-long, row-left, noted-refused, filing-meant, Came, asked, unasked, export-came}
+use Rattle.answers.specs.Exported.{returned, shownOf, shown-at}
+use Rattle.answers.specs.Shown.{stateRow, filing, fed}
+use Rattle.xiengmado.specs.Exports.{XmEnqueuePacket, XmEnqueuePackets}
+use Rattle.exports.specs.Refusals.{Within, named, call-within}
+use Rattle.exports.specs.Run.{Bytes, clientOf, placeAt, Export, Run, Meaningless}
+use Rattle.exports.specs.Running.{run-row, came-nine, came-found}
+use Rattle.exports.specs.Asking.{legal-small, row-left, filing-meant, export-came}
 
 -- ---- THE THEOREM
-
--- `xm_connection_new` that returned 0
-opened : (s s' : List ℕ) (o : ℕ) (q : Rooms) (a : Answer (Unit × Connection)) → When (eqb (length s) connectionSlots) Unit (Opens o q) a → 0 ≡ returned a → s' ≡ shownOf (stateRow s) a s
-    → (length s' ≡ connectionSlots) × Session (connectionOf s') q []
-opened s s' o q (gives y) (on h p) z e =
-    let n : length s ≡ connectionSlots = eqb-true _ _ h in
-    let b : connectionOf s' ≡ y .1 = ap connectionOf e ∙ connection-back s (y .1) n (legal-small _ (opens-sound o q (y .1) p .order)) in
-    (ap length e ∙ row-long s (y .1) n, subst (λ (c : Connection). Session c q []) (sym b) (new o q (y .1) p))
-opened s s' o q (refuses n) (on h p) z e = absurd (none (open-within o q (refuses n) p))
-  where
-    none : Within 13 {A = Unit × Connection} (refuses n) → ⊥
-    none (named i j) = omega arith
-opened s s' o q (refuses n) (off h p) z e = absurd (omega (arith, z))
-
--- an export, whatever it came to
-goes : {s s' : List ℕ} {q q' : Rooms} {l : List Entry} {adds : List Entry → List Entry} {r : ℕ} {why : Type 0} → length s ≡ connectionSlots → Session (connectionOf s) q l → Came s q s' q' adds r why
-    → (length s' ≡ connectionSlots) × Session (connectionOf s') q' (noted r adds l)
-goes {s} {q = q} {q' = q'} {l = l} {adds = adds} {r = r} n k (asked x) =
-    let b = call (x .ask) (x .bytes) (x .numbers) (x .answer) q' (x .outputs) (x .answers) k in
-    let w = x .row n (legal-small _ (session-sound b .order)) in
-    let e = x .notes (call-within (x .ask) (connectionOf s) q (session-sound k) (x .answer) q' (x .outputs) (x .answers)) l in
-    (w .long, subst (λ (c : Connection). Session c q' (noted r adds l)) (sym (w .is)) (subst (λ (m : List Entry). Session (stateOf (x .answer) (connectionOf s)) q' m) (sym e) b))
-goes {s} {q = q} {q' = q'} {l = l} {adds = adds} {r = r} n k (unasked x) =
-    let e = noted-refused r 9 adds l (x .number) (omega arith) in
-    (ap length (x .row) ∙ n, rw (x .row, x .left, e) k)
-
-run-row : {state requests store slots : List ℕ} {l : List Entry} → Run state requests store slots l → (length state ≡ connectionSlots) × Session (connectionOf state) (rooms requests store slots) l
-run-row (xm-connection-new {state = s} o {state' = s'} k) = opened s s' o _ (k .exported .answer) (k .exported .promise) (k .exported .number) (k .state)
-run-row (Exports.call k x) = let z = run-row k in goes (z .0) (z .1) (export-came x)
 
 -- LONG: the row has sixteen numbers at any time.
 pub run-long : {state requests store slots : List ℕ} {l : List Entry} → Run state requests store slots l → length state ≡ connectionSlots
@@ -71,34 +45,32 @@ run-session k = run-row k .1
 
 -- ---- What is then certain
 
--- TRUE NUMBERS: with an honest server each number that was shown for a packet is its true one, however long the run is.
+-- TRUE NUMBERS: with an honest server the number of each packet taken in, as `xm_enqueue_packet` showed it, is its true one, however long the run is.
 pub exports-true : {state requests store slots : List ℕ} {l : List Entry} → Run state requests store slots l → Honest (connectionOf state .order) l → Right l
 exports-true k h = session-true (run-session k) h
 
 -- HELD: at any time each record that is held bears the true number of its packet.
-pub exports-held : {state requests store slots : List ℕ} {l : List Entry} → Run state requests store slots l → Honest (connectionOf state .order) l → Holds (Bears l) (reads (connectionOf state) (rooms requests store slots))
+pub exports-held : {state requests store slots : List ℕ} {l : List Entry} → Run state requests store slots l → Honest (connectionOf state .order) l → Holds (Bears l) (clientOf state requests store slots)
 exports-held k h = session-held (run-session k) h
 
 -- SOUND: no export of a run returns 9, but for a kind or a mode that means nothing.
-nine : {A : Type 0} {a : Answer A} → Within 8 a → returned a ≡ 9 → ⊥
-nine given e = omega (arith, e)
-nine (named p q) e = omega arith
-
-came-nine : {s s' : List ℕ} {q q' : Rooms} {l : List Entry} {adds : List Entry → List Entry} {r : ℕ} {why : Type 0} → Session (connectionOf s) q l → Came s q s' q' adds r why → r ≡ 9 → why
-came-nine {s} {q = q} {q' = q'} k (asked x) e =
-    absurd (nine (call-within (x .ask) (connectionOf s) q (session-sound k) (x .answer) q' (x .outputs) (x .answers)) (sym (x .number) ∙ e))
-came-nine k (unasked x) e = x .reason
-
 pub exports-sound : {state requests store slots state' requests' store' slots' : List ℕ} {l : List Entry} {adds : List Entry → List Entry} {r : ℕ} → Run state requests store slots l
     → (x : Export state requests store slots state' requests' store' slots' adds r) → r ≡ 9 → Meaningless x
 exports-sound k x e = came-nine (run-session k) (export-came x) e
+
+-- AS FOUND: an export that returned another number than 0 leaves the row and the rooms as they were, whatever they are; and so it adds nothing to the log of a run.
+pub exports-refused : {state requests store slots state' requests' store' slots' : List ℕ} {adds : List Entry → List Entry} {r : ℕ} → Export state requests store slots state' requests' store' slots' adds r → (r ≡ 0 → ⊥)
+    → (state' ≡ state) × (requests' ≡ requests) × (store' ≡ store) × (slots' ≡ slots)
+exports-refused x z =
+    let w = came-found (export-came x) z in
+    (w .0, ap (λ (q : Rooms). q .requests) (w .1), ap (λ (q : Rooms). q .store) (w .1), ap (λ (q : Rooms). q .slots) (w .1))
 
 -- A run with an honest server, and the `xm_enqueue_packet` that brings its next packet.
 module _ {state requests store slots : List ℕ} {l : List Entry} (k : Run state requests store slots l) (h : Honest (connectionOf state .order) l) (t : ℕ) (packet : List ℕ) (bytes : Bytes packet)
     (carries : unnumbered (codeOf packet) ≡ false) (fair : Fair (connectionOf state .order) l t packet) {place number : ℕ} {state' store' slots' : List ℕ} {place' number' r : ℕ}
     (enqueues : XmEnqueuePacket state requests store slots packet place number state' store' slots' place' number' r) where
   filed : (a : Answer (Filing × Connection)) → Enqueues (connectionOf state) (rooms requests store slots) packet a (rooms requests store' slots') → r ≡ returned a → (place' ∷ number' ∷ []) ≡ shownOf filing a (place ∷ number ∷ []) → state' ≡ shownOf (stateRow state) a state
-      → r ≡ 0 → Filed (reads (connectionOf state) (rooms requests store slots)) packet t (record { place = placeAt place'; number = number' }, reads (connectionOf state') (rooms requests store' slots'))
+      → r ≡ 0 → Filed (clientOf state requests store slots) packet t (record { place = placeAt place'; number = number' }, clientOf state' requests store' slots')
   unfolding stateOf
   filed (gives y) p e v s z =
       let b = call (enqueue-packet packet) (bytes 1) [] (gives y) (rooms requests store' slots') tt p (run-session k) in
@@ -110,7 +82,7 @@ module _ {state requests store slots : List ℕ} {l : List Entry} (k : Run state
       none (named i j) = omega arith
 
   -- FILED: where it returned 0 the packet is the last of the list that `place` says, whole and under its true number, which `number` is; or if dropped was reckoned by it.
-  pub exports-filed : r ≡ 0 → Filed (reads (connectionOf state) (rooms requests store slots)) packet t (record { place = placeAt place'; number = number' }, reads (connectionOf state') (rooms requests store' slots'))
+  pub exports-filed : r ≡ 0 → Filed (clientOf state requests store slots) packet t (record { place = placeAt place'; number = number' }, clientOf state' requests store' slots')
   exports-filed z = filed (enqueues .exported .answer) (enqueues .exported .promise) (enqueues .exported .number) (enqueues .exported .values) (enqueues .state) z
 
   -- NEVER ENDED: otherwise it returned 1, 2, 4 or 5.
@@ -121,3 +93,26 @@ module _ {state requests store slots : List ℕ} {l : List Entry} (k : Run state
       go (gives y) p e = inl e
       go (refuses n) p e =
           inr (subst (λ (z : ℕ). z ≡ 1 ⊎ z ≡ 2 ⊎ z ≡ 4 ⊎ z ≡ 5) (sym e) (session-never-ended (run-session k) h t packet carries fair (refuses n) (rooms requests store' slots') p n refl))
+
+-- A run, and the `xm_enqueue_packets` that brings bytes with packets of the true numbers ts.
+module _ {state requests store slots : List ℕ} {l : List Entry} (k : Run state requests store slots l) (ts bytes : List ℕ) {size count stop : ℕ} {state' store' slots' : List ℕ} {size' count' stop' r : ℕ}
+    (enqueues : XmEnqueuePackets state requests store slots bytes size count stop state' store' slots' size' count' stop' r) where
+  counted : {o : Answer (Feeding × Client)} {q q' : Rooms} {a : Answer (ShownFed × Connection)} (v : List ℕ) → Public.Came shownFed o q a q' → Within 8 a → returned a ≡ 0 → (size' ∷ count' ∷ stop' ∷ []) ≡ shownOf fed a v → count' ≡ length (tookOf o)
+  unfolding tookOf
+  counted v (Public.gave y s q' p) w z e = rw p (shown-at 1 e)
+  counted v (Public.kept n) (named i j) z e = absurd (omega arith)
+
+  -- FED: where it returned 0, `count` packets were taken; with an honest server each of them is filed in this way under its own true number.
+  pub exports-fed-filed : r ≡ 0 → Honest (connectionOf state .order) (noteFed ts (clientOf state requests store slots) bytes (gives (tt {0})) l)
+      → (count' ≡ length (tookOf (enqueuePackets (clientOf state requests store slots) bytes)))
+      × AllFiled (clientOf state requests store slots) ts (cutPackets (connectionOf state .order) bytes .packets)
+  unfolding noteFed reads
+  exports-fed-filed z h =
+      let c = connectionOf state in
+      let q = rooms requests store slots in
+      let q' = rooms requests store' slots' in
+      let a = enqueues .exported .answer in
+      let p = enqueues .exported .promise in (
+        counted (size ∷ count ∷ stop ∷ []) (Public.came shownFed (feedExact c q bytes) (λ m. enqueuePackets m bytes) c q a q' p) (call-within (enqueue-packets bytes) c q (session-sound (run-session k)) a q' tt p) (sym (enqueues .exported .number) ∙ z) (enqueues .exported .values),
+        session-fed-filed (run-session k) ts bytes h,
+      )
