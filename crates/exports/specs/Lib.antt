@@ -1,0 +1,5 @@
+pub mod Run
+pub mod Refusals
+pub mod Asking
+pub mod Running
+pub mod Theorems

@@ -1,0 +1,118 @@
+-- A RUN OF THE EXPORTS IS A SESSION, and what is then certain, in the exports' own terms. Assumes nothing.
+use mathlib.Core.Bool.{false}
+use mathlib.Core.List.{List, [], _∷_}
+use mathlib.Core.Logic.{_⊎_, inl, inr}
+use mathlib.Core.Path.{_≡_, refl, sym, ap, _∙_, subst}
+use Prim.Native.Nat.{ℕ}
+use native.Mathlib.Omega.{arith}
+use lib.ListN.{length}
+use Rattle.refusal.specs.Answer.{Answer, gives, refuses}
+use Rattle.packet.specs.Packet.{codeOf, unnumbered}
+use Rattle.packet_reader.specs.Frame.{cutPackets}
+use Rattle.model.specs.Client.{Client}
+use Rattle.model.specs.Model.{Filing}
+use Rattle.model.specs.Feed.{Feeding, ShownFed, shownFed}
+use Rattle.model.specs.Reading.{Rooms, rooms, reads}
+use Rattle.model.specs.declared.Connection.{Connection}
+use Rattle.batch.specs.Feed.{enqueuePackets, feedExact}
+use Rattle.connection.specs.Calls.{Enqueues}
+use Rattle.honest.specs.Run.{Entry, Fair, Honest, Right, Filed, Bears, Holds}
+use Rattle.honest.specs.Public as Public
+use Rattle.honest.specs.Public.{stateOf}
+use Rattle.session.specs.Ask.{enqueue-packet, enqueue-packets}
+use Rattle.session.specs.Noting.{tookOf, noteFed}
+use Rattle.session.specs.Session.{Session, call}
+use Rattle.session.specs.Theorems.{session-sound, session-true, session-held, session-filed, session-never-ended}
+use Rattle.session.specs.FeedFiled.{AllFiled, session-fed-filed}
+use Rattle.rows.specs.State.{connectionSlots, connectionOf}
+use Rattle.answers.specs.Exported.{returned, shownOf, shown-at}
+use Rattle.answers.specs.Shown.{stateRow, filing, fed}
+use Rattle.xiengmado.specs.Exports.{XmEnqueuePacket, XmEnqueuePackets}
+use Rattle.exports.specs.Refusals.{Within, named, call-within}
+use Rattle.exports.specs.Run.{Bytes, clientOf, placeAt, Export, Run, Meaningless}
+use Rattle.exports.specs.Running.{run-row, came-nine, came-found}
+use Rattle.exports.specs.Asking.{legal-small, row-left, filing-meant, export-came}
+
+-- ---- THE THEOREM
+
+-- LONG: the row has sixteen numbers at any time.
+pub run-long : {state requests store slots : List ℕ} {l : List Entry} → Run state requests store slots l → length state ≡ connectionSlots
+run-long k = run-row k .0
+
+-- A SESSION: a run of the exports is one, of the state that the row is and of the rooms, with the same log. So every theorem over sessions is one over runs.
+pub run-session : {state requests store slots : List ℕ} {l : List Entry} → Run state requests store slots l → Session (connectionOf state) (rooms requests store slots) l
+run-session k = run-row k .1
+
+-- ---- What is then certain
+
+-- TRUE NUMBERS: with an honest server the number of each packet taken in, as `xm_enqueue_packet` showed it, is its true one, however long the run is.
+pub exports-true : {state requests store slots : List ℕ} {l : List Entry} → Run state requests store slots l → Honest (connectionOf state .order) l → Right l
+exports-true k h = session-true (run-session k) h
+
+-- HELD: at any time each record that is held bears the true number of its packet.
+pub exports-held : {state requests store slots : List ℕ} {l : List Entry} → Run state requests store slots l → Honest (connectionOf state .order) l → Holds (Bears l) (clientOf state requests store slots)
+exports-held k h = session-held (run-session k) h
+
+-- SOUND: no export of a run returns 9, but for a kind or a mode that means nothing.
+pub exports-sound : {state requests store slots state' requests' store' slots' : List ℕ} {l : List Entry} {adds : List Entry → List Entry} {r : ℕ} → Run state requests store slots l
+    → (x : Export state requests store slots state' requests' store' slots' adds r) → r ≡ 9 → Meaningless x
+exports-sound k x e = came-nine (run-session k) (export-came x) e
+
+-- AS FOUND: an export that returned another number than 0 leaves the row and the rooms as they were, whatever they are; and so it adds nothing to the log of a run.
+pub exports-refused : {state requests store slots state' requests' store' slots' : List ℕ} {adds : List Entry → List Entry} {r : ℕ} → Export state requests store slots state' requests' store' slots' adds r → (r ≡ 0 → ⊥)
+    → (state' ≡ state) × (requests' ≡ requests) × (store' ≡ store) × (slots' ≡ slots)
+exports-refused x z =
+    let w = came-found (export-came x) z in
+    (w .0, ap (λ (q : Rooms). q .requests) (w .1), ap (λ (q : Rooms). q .store) (w .1), ap (λ (q : Rooms). q .slots) (w .1))
+
+-- A run with an honest server, and the `xm_enqueue_packet` that brings its next packet.
+module _ {state requests store slots : List ℕ} {l : List Entry} (k : Run state requests store slots l) (h : Honest (connectionOf state .order) l) (t : ℕ) (packet : List ℕ) (bytes : Bytes packet)
+    (carries : unnumbered (codeOf packet) ≡ false) (fair : Fair (connectionOf state .order) l t packet) {place number : ℕ} {state' store' slots' : List ℕ} {place' number' r : ℕ}
+    (enqueues : XmEnqueuePacket state requests store slots packet place number state' store' slots' place' number' r) where
+  filed : (a : Answer (Filing × Connection)) → Enqueues (connectionOf state) (rooms requests store slots) packet a (rooms requests store' slots') → r ≡ returned a → (place' ∷ number' ∷ []) ≡ shownOf filing a (place ∷ number ∷ []) → state' ≡ shownOf (stateRow state) a state
+      → r ≡ 0 → Filed (clientOf state requests store slots) packet t (record { place = placeAt place'; number = number' }, clientOf state' requests store' slots')
+  unfolding stateOf
+  filed (gives y) p e v s z =
+      let b = call (enqueue-packet packet) (bytes 1) [] (gives y) (rooms requests store' slots') tt p (run-session k) in
+      let w = row-left state state' (gives y) s (run-long k) (legal-small _ (session-sound b .order)) in
+      rw (filing-meant y place' number' v, w .is) (session-filed (run-session k) h t packet carries fair (gives y) (rooms requests store' slots') p (y .0) (y .1) refl)
+  filed (refuses n) p e v s z = absurd (none (call-within (enqueue-packet packet) (connectionOf state) (rooms requests store slots) (session-sound (run-session k)) (refuses n) (rooms requests store' slots') tt p))
+    where
+      none : Within 8 {A = Filing × Connection} (refuses n) → ⊥
+      none (named i j) = omega arith
+
+  -- FILED: where it returned 0 the packet is the last of the list that `place` says, whole and under its true number, which `number` is; or if dropped was reckoned by it.
+  pub exports-filed : r ≡ 0 → Filed (clientOf state requests store slots) packet t (record { place = placeAt place'; number = number' }, clientOf state' requests store' slots')
+  exports-filed z = filed (enqueues .exported .answer) (enqueues .exported .promise) (enqueues .exported .number) (enqueues .exported .values) (enqueues .state) z
+
+  -- NEVER ENDED: otherwise it returned 1, 2, 4 or 5.
+  pub exports-never-ended : r ≡ 0 ⊎ r ≡ 1 ⊎ r ≡ 2 ⊎ r ≡ 4 ⊎ r ≡ 5
+  exports-never-ended = go (enqueues .exported .answer) (enqueues .exported .promise) (enqueues .exported .number)
+    where
+      go : (a : Answer (Filing × Connection)) → Enqueues (connectionOf state) (rooms requests store slots) packet a (rooms requests store' slots') → r ≡ returned a → r ≡ 0 ⊎ r ≡ 1 ⊎ r ≡ 2 ⊎ r ≡ 4 ⊎ r ≡ 5
+      go (gives y) p e = inl e
+      go (refuses n) p e =
+          inr (subst (λ (z : ℕ). z ≡ 1 ⊎ z ≡ 2 ⊎ z ≡ 4 ⊎ z ≡ 5) (sym e) (session-never-ended (run-session k) h t packet carries fair (refuses n) (rooms requests store' slots') p n refl))
+
+-- A run, and the `xm_enqueue_packets` that brings bytes with packets of the true numbers ts.
+module _ {state requests store slots : List ℕ} {l : List Entry} (k : Run state requests store slots l) (ts bytes : List ℕ) {size count stop : ℕ} {state' store' slots' : List ℕ} {size' count' stop' r : ℕ}
+    (enqueues : XmEnqueuePackets state requests store slots bytes size count stop state' store' slots' size' count' stop' r) where
+  counted : {o : Answer (Feeding × Client)} {q q' : Rooms} {a : Answer (ShownFed × Connection)} (v : List ℕ) → Public.Came shownFed o q a q' → Within 8 a → returned a ≡ 0 → (size' ∷ count' ∷ stop' ∷ []) ≡ shownOf fed a v → count' ≡ length (tookOf o)
+  unfolding tookOf
+  counted v (Public.gave y s q' p) w z e = rw p (shown-at 1 e)
+  counted v (Public.kept n) (named i j) z e = absurd (omega arith)
+
+  -- FED: where it returned 0, `count` packets were taken; with an honest server each of them is filed in this way under its own true number.
+  pub exports-fed-filed : r ≡ 0 → Honest (connectionOf state .order) (noteFed ts (clientOf state requests store slots) bytes (gives (tt {0})) l)
+      → (count' ≡ length (tookOf (enqueuePackets (clientOf state requests store slots) bytes)))
+      × AllFiled (clientOf state requests store slots) ts (cutPackets (connectionOf state .order) bytes .packets)
+  unfolding noteFed reads
+  exports-fed-filed z h =
+      let c = connectionOf state in
+      let q = rooms requests store slots in
+      let q' = rooms requests store' slots' in
+      let a = enqueues .exported .answer in
+      let p = enqueues .exported .promise in (
+        counted (size ∷ count ∷ stop ∷ []) (Public.came shownFed (feedExact c q bytes) (λ m. enqueuePackets m bytes) c q a q' p) (call-within (enqueue-packets bytes) c q (session-sound (run-session k)) a q' tt p) (sym (enqueues .exported .number) ∙ z) (enqueues .exported .values),
+        session-fed-filed (run-session k) ts bytes h,
+      )
