@@ -2,28 +2,27 @@
 use mathlib.Core.Bool.{false}
 use mathlib.Core.List.{List, [], _∷_}
 use mathlib.Core.Logic.{_⊎_, inl, inr}
-use mathlib.Core.Path.{_≡_, refl, sym, ap, _∙_, subst}
+use mathlib.Core.Path.{_≡_, refl, sym, ap, subst}
 use Prim.Native.Nat.{ℕ}
 use native.Mathlib.Omega.{arith}
-use lib.ListN.{length}
+use lib.ListN.{length, take}
 use Rattle.refusal.specs.Answer.{Answer, gives, refuses}
 use Rattle.packet.specs.Packet.{codeOf, unnumbered}
 use Rattle.packet_reader.specs.Frame.{cutPackets}
-use Rattle.model.specs.Client.{Client}
 use Rattle.model.specs.Model.{Filing}
-use Rattle.model.specs.Feed.{Feeding, ShownFed, shownFed}
-use Rattle.model.specs.Reading.{Rooms, rooms, reads}
+use Rattle.model.specs.Feed.{ShownFed}
+use Rattle.model.specs.Reading.{Rooms, rooms}
 use Rattle.model.specs.declared.Connection.{Connection}
-use Rattle.batch.specs.Feed.{enqueuePackets, feedExact}
-use Rattle.connection.specs.Calls.{Enqueues}
+use Rattle.connection.specs.Calls.{Enqueues, EnqueuesMany}
 use Rattle.honest.specs.Run.{Entry, Fair, Honest, Right, Filed, Bears, Holds}
-use Rattle.honest.specs.Public as Public
 use Rattle.honest.specs.Public.{stateOf}
+use Rattle.honest.specs.Server.{Packet}
 use Rattle.session.specs.Ask.{enqueue-packet, enqueue-packets}
-use Rattle.session.specs.Noting.{tookOf, noteFed}
+use Rattle.session.specs.Noting.{noteFed}
 use Rattle.session.specs.Session.{Session, call}
 use Rattle.session.specs.Theorems.{session-sound, session-true, session-held, session-filed, session-never-ended}
-use Rattle.session.specs.FeedFiled.{AllFiled, session-fed-filed}
+use Rattle.session.specs.Serving.{bytesIn, numbersIn, FiledAll}
+use Rattle.session.specs.Served.{session-fed}
 use Rattle.rows.specs.State.{connectionSlots, connectionOf}
 use Rattle.answers.specs.Exported.{returned, shownOf, shown-at}
 use Rattle.answers.specs.Shown.{stateRow, filing, fed}
@@ -94,25 +93,22 @@ module _ {state requests store slots : List ℕ} {l : List Entry} (k : Run state
       go (refuses n) p e =
           inr (subst (λ (z : ℕ). z ≡ 1 ⊎ z ≡ 2 ⊎ z ≡ 4 ⊎ z ≡ 5) (sym e) (session-never-ended (run-session k) h t packet carries fair (refuses n) (rooms requests store' slots') p n refl))
 
--- A run, and the `xm_enqueue_packets` that brings bytes with packets of the true numbers ts.
-module _ {state requests store slots : List ℕ} {l : List Entry} (k : Run state requests store slots l) (ts bytes : List ℕ) {size count stop : ℕ} {state' store' slots' : List ℕ} {size' count' stop' r : ℕ}
-    (enqueues : XmEnqueuePackets state requests store slots bytes size count stop state' store' slots' size' count' stop' r) where
-  counted : {o : Answer (Feeding × Client)} {q q' : Rooms} {a : Answer (ShownFed × Connection)} (v : List ℕ) → Public.Came shownFed o q a q' → Within 8 a → returned a ≡ 0 → (size' ∷ count' ∷ stop' ∷ []) ≡ shownOf fed a v → count' ≡ length (tookOf o)
-  unfolding tookOf
-  counted v (Public.gave y s q' p) w z e = rw p (shown-at 1 e)
-  counted v (Public.kept n) (named i j) z e = absurd (omega arith)
+-- A run, and the `xm_enqueue_packets` that brings bytes that are cut into the packets ps.
+module _ {state requests store slots : List ℕ} {l : List Entry} (k : Run state requests store slots l) (ps : List Packet) (bytes : List ℕ) (are : Bytes bytes) (cuts : bytesIn ps ≡ cutPackets (connectionOf state .order) bytes .packets)
+    {size count stop : ℕ} {state' store' slots' : List ℕ} {size' count' stop' r : ℕ} (enqueues : XmEnqueuePackets state requests store slots bytes size count stop state' store' slots' size' count' stop' r) where
+  fed-all : (a : Answer (ShownFed × Connection)) → EnqueuesMany (connectionOf state) (rooms requests store slots) bytes a (rooms requests store' slots') → r ≡ returned a → (size' ∷ count' ∷ stop' ∷ []) ≡ shownOf fed a (size ∷ count ∷ stop ∷ []) → state' ≡ shownOf (stateRow state) a state
+      → r ≡ 0 → Honest (connectionOf state .order) (noteFed (numbersIn ps) (clientOf state requests store slots) bytes (gives (tt {0})) l)
+      → FiledAll (clientOf state requests store slots) (take count' ps) (clientOf state' requests store' slots')
+  unfolding stateOf noteFed
+  fed-all (gives y) p e v s z h =
+      let b = call (enqueue-packets bytes) are [] (gives y) (rooms requests store' slots') tt p (run-session k) in
+      let w = row-left state state' (gives y) s (run-long k) (legal-small _ (session-sound b .order)) in
+      rw (shown-at 1 v, w .is) (session-fed (run-session k) bytes ps cuts (gives y) (rooms requests store' slots') p h (y .0) (y .1) refl)
+  fed-all (refuses n) p e v s z h = absurd (none (call-within (enqueue-packets bytes) (connectionOf state) (rooms requests store slots) (session-sound (run-session k)) (refuses n) (rooms requests store' slots') tt p))
+    where
+      none : Within 8 {A = ShownFed × Connection} (refuses n) → ⊥
+      none (named i j) = omega arith
 
-  -- FED: where it returned 0, `count` packets were taken; with an honest server each of them is filed in this way under its own true number.
-  pub exports-fed-filed : r ≡ 0 → Honest (connectionOf state .order) (noteFed ts (clientOf state requests store slots) bytes (gives (tt {0})) l)
-      → (count' ≡ length (tookOf (enqueuePackets (clientOf state requests store slots) bytes)))
-      × AllFiled (clientOf state requests store slots) ts (cutPackets (connectionOf state .order) bytes .packets)
-  unfolding noteFed reads
-  exports-fed-filed z h =
-      let c = connectionOf state in
-      let q = rooms requests store slots in
-      let q' = rooms requests store' slots' in
-      let a = enqueues .exported .answer in
-      let p = enqueues .exported .promise in (
-        counted (size ∷ count ∷ stop ∷ []) (Public.came shownFed (feedExact c q bytes) (λ m. enqueuePackets m bytes) c q a q' p) (call-within (enqueue-packets bytes) c q (session-sound (run-session k)) a q' tt p) (sym (enqueues .exported .number) ∙ z) (enqueues .exported .values),
-        session-fed-filed (run-session k) ts bytes h,
-      )
+  -- FED: where it returned 0, the first `count` of them were taken: with an honest server each stands in the rooms as they are now, or was dropped, under its true number.
+  pub exports-fed : r ≡ 0 → Honest (connectionOf state .order) (noteFed (numbersIn ps) (clientOf state requests store slots) bytes (gives (tt {0})) l) → FiledAll (clientOf state requests store slots) (take count' ps) (clientOf state' requests store' slots')
+  exports-fed z h = fed-all (enqueues .exported .answer) (enqueues .exported .promise) (enqueues .exported .number) (enqueues .exported .values) (enqueues .state) z h

@@ -1,7 +1,7 @@
 -- Every run's records can be followed, and those of a run whose numbers are right are tied to their packets. Assumes nothing.
 use mathlib.Core.Bool.{Bool, true, false}
 use mathlib.Core.List.{List, [], _∷_, _++_, append-nil}
-use mathlib.Core.Logic.{_⊎_, inl, inr, ⊎-elim}
+use mathlib.Core.Logic.{inl, inr}
 use mathlib.Core.Path.{_≡_, refl, sym, ap, _∙_, subst}
 use Prim.Native.Nat.{ℕ, zero, suc}
 use native.Mathlib.Omega.{arith}
@@ -19,8 +19,8 @@ use Rattle.model.specs.declared.DiscardMode.the-variants as DiscardMode
 use Rattle.model.specs.declared.Place.{Place}
 use Rattle.model.specs.declared.Place.the-variants as Place
 use Rattle.model.specs.Batch.{Each}
-use Rattle.honest.specs.Run.{Entry, sent, took, noteSent, noteTook, noted, Runs, start, call, Right, Lands, heldAs, Holds}
-use Rattle.honest.specs.Calls.{Taking, taking, lands}
+use Rattle.honest.specs.Run.{Entry, took, noteSent, noteTook, noted, Runs, start, call, Right, Lands, heldAs, Holds}
+use Rattle.honest.specs.Calls.{taking, lands}
 use Rattle.honest.specs.Server.{Packet, Own, packetsIn}
 use Rattle.honest.specs.Origins as Origins
 use Rattle.honest.specs.Origins.{Followed, Lists, lists, each, OfClient, Sorts, none, stays, moves, goes, turnedEvent, Moved, joined, joinedBy, Traced, takes, after, At, Tied, AllTied, Any, OneOf}

@@ -1,20 +1,19 @@
 -- DEMAND 3, WORD FOR WORD, for the public calls: of the answers and the rooms as they are, with the server's own list of packets. Assumes nothing.
 use mathlib.Core.Bool.{Bool, true, false}
 use mathlib.Core.List.{List, [], _∷_, _++_}
-use mathlib.Core.Path.{_≡_, refl, sym, ap, _∙_, subst}
+use mathlib.Core.Path.{_≡_, refl, sym, ap, subst}
 use Prim.Native.Nat.{ℕ}
 use native.Mathlib.Omega.{arith}
 use lib.Dec.{ltb}
 use lib.ListN.{length, take}
-use Rattle.octets.specs.Logic.{choose}
 use Rattle.refusal.specs.Answer.{Answer, gives, refuses, refuse, gives-rest, gives-same}
 use Rattle.packet.specs.Packet.{codeOf, unnumbered}
 use Rattle.packet_reader.specs.Frame.{cutPackets}
 use Rattle.model.specs.Client.{Held, Client, setEvents}
 use Rattle.model.specs.Model as Model
-use Rattle.model.specs.Model.{Filing, Taken, PollReply, eventBy, pollForEvent, pollForReplyOrError, pollCheck, pollForReply}
+use Rattle.model.specs.Model.{Filing, Taken, PollReply, eventBy, pollForEvent}
 use Rattle.model.specs.Calls as Calls
-use Rattle.model.specs.Calls.{Call, Said, saysTaken, saysPoll, step, outcome}
+use Rattle.model.specs.Calls.{saysTaken, saysPoll, step, outcome}
 use Rattle.model.specs.Batch.{Each, Many, many, onTurn, onward, modelTurn, Stop, ended, refused, meaningless, notes}
 use Rattle.model.specs.Feed.{Took, ShownFed, shownFed}
 use Rattle.model.specs.PollForEvents.{turns, Lent, lent, roomFor, handing, eventTurn, orRefused, handed, pollForEvents, Handings}
@@ -24,19 +23,19 @@ use Rattle.model.specs.declared.Connection.{Connection}
 use Rattle.batch.specs.Feed.{enqueuePackets, feedExact}
 use Rattle.connection.specs.Calls.{Enqueues, EnqueuesMany}
 use Rattle.honest.specs.Run.{Entry, Runs, noteTook, Honest, Right, Filed, Holds, Hands}
-use Rattle.honest.specs.Public.{Came, gave, kept, came, stateOf, public-runs}
+use Rattle.honest.specs.Public.{Came, gave, kept, came, public-runs}
 use Rattle.honest.specs.Lists.{hands}
 use Rattle.honest.specs.Server.{Packet, packetsIn, carrying, HonestServer}
 use Rattle.honest.specs.Origins.{Lists, Traced, AllTied, OneOf}
 use Rattle.honest.specs.OriginsLaws.{Trace, runs-traced, traced-client, tied-grown, holds-one}
 use Rattle.honest.specs.Theorems.{run-tied}
-use Rattle.session.specs.Ask.{Ask, send-request, enqueue-fds, enqueue-packet, discard-reply, poll-for-reply-or-error, poll-check-for-reply-or-error, poll-for-reply, poll-for-event-with-sequence, take-closed-fds, prepare-check-for-reply-or-error, send-requests, enqueue-packets, poll-for-events, Form, form, Value, Outputs, Answers, OfBytes}
+use Rattle.session.specs.Ask.{Ask, send-request, enqueue-fds, enqueue-packet, discard-reply, poll-for-reply-or-error, poll-check-for-reply-or-error, poll-for-reply, poll-for-event-with-sequence, take-closed-fds, prepare-check-for-reply-or-error, send-requests, enqueue-packets, poll-for-events, form, Value, Outputs, Answers, OfBytes}
 use Rattle.session.specs.AskLaws.{HasForm, outputsOf, has-form}
 use Rattle.session.specs.Noting.{noting, notePacket, noteFed, tookOf}
-use Rattle.session.specs.Session.{Session, logged}
+use Rattle.session.specs.Session.{Session}
 use Rattle.session.specs.Theorems.{session-public, session-true, session-filed}
 use Rattle.session.specs.FeedFiled.{noted-honest, run-fed}
-use Rattle.session.specs.Serving.{tookMany, taken, bytesIn, numbersIn, brought, Serves, call, FiledAll, handedOut, HandsTied, ofTaken, ofPoll}
+use Rattle.session.specs.Serving.{bytesIn, numbersIn, Serves, call, FiledAll, handedOut, HandsTied, ofTaken, ofPoll}
 use Rattle.session.specs.ServingLaws.{serves-session, serves-in-order, serves-honest}
 
 -- ---- The records of a session, followed

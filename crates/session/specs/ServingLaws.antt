@@ -10,13 +10,13 @@ use Rattle.packet_reader.specs.Frame.{cutPackets}
 use Rattle.model.specs.Client.{Client}
 use Rattle.model.specs.Model.{hasReply, Filing}
 use Rattle.model.specs.Batch.{notes}
-use Rattle.model.specs.Feed.{Took, Feeding, ShownFed, shownFed}
+use Rattle.model.specs.Feed.{Took, ShownFed, shownFed}
 use Rattle.model.specs.Reading.{Rooms, reads}
 use Rattle.model.specs.SendRequests.{kindOf, ShownSendings}
 use Rattle.model.specs.declared.Connection.{Connection}
 use Rattle.batch.specs.Feed.{enqueuePackets, feedExact}
 use Rattle.honest.specs.Run.{Entry, sent, noteSent, noteTook, Honest}
-use Rattle.honest.specs.Public.{Came, gave, kept, came, stateOf}
+use Rattle.honest.specs.Public.{Came, gave, kept, came}
 use Rattle.honest.specs.Server.{Packet, left, packetsIn, carrying, offered, HonestServer, log-honest}
 use Rattle.session.specs.Ask.{Ask, send-request, enqueue-fds, enqueue-packet, discard-reply, poll-for-reply-or-error, poll-check-for-reply-or-error, poll-for-reply, poll-for-event-with-sequence, take-closed-fds, prepare-check-for-reply-or-error, send-requests, enqueue-packets, poll-for-events, Value, Outputs, Answers}
 use Rattle.session.specs.Noting.{noting, next, notePacket, tookOf, noteFed}

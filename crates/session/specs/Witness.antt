@@ -1,5 +1,5 @@
 -- There are sessions with an honest server. What the model says of a call some public call does, so that a run that is worked out in the model is one of public calls. Assumes nothing.
-use mathlib.Core.Bool.{Bool, true, false}
+use mathlib.Core.Bool.{true, false}
 use mathlib.Core.List.{List, [], _∷_, _++_}
 use mathlib.Core.Logic.{inl, inr, ⊎-elim}
 use mathlib.Core.Path.{_≡_, refl, sym, ap, _∙_, subst}
@@ -26,16 +26,16 @@ use Rattle.model.specs.declared.Place.the-variants.{Replies, Events}
 use Rattle.batch.specs.Feed.{stopAt, enqueuePackets}
 use Rattle.honest.specs.Computing.{computing, packetOf}
 use Rattle.honest.specs.Test.{every}
-use Rattle.model.specs.Promise.{Done, answerOf, roomsOf, modelOf, guarded, guarded-on, Promise}
+use Rattle.model.specs.Promise.{Done, answerOf, roomsOf, modelOf, guarded, guarded-on}
 use Rattle.model.specs.Reading.{Rooms, rooms, reads}
-use Rattle.model.specs.Sound.{Sound, is-sound}
+use Rattle.model.specs.Sound.{is-sound}
 use Rattle.model.specs.declared.Connection.{Connection}
 use Rattle.connection.specs.Calls.{freshState, Opens}
 use Rattle.connection.specs.Opening.{opens-fresh, opens-done}
 use Rattle.honest.specs.Run.{Entry, sent, took, noteSent, noteTook}
 use Rattle.honest.specs.Public.{stateOf}
 use Rattle.honest.specs.Server.{Packet, carrying, HonestServer}
-use Rattle.session.specs.Ask.{Ask, send-request, enqueue-fds, enqueue-packet, discard-reply, poll-for-reply-or-error, poll-check-for-reply-or-error, poll-for-reply, poll-for-event-with-sequence, take-closed-fds, prepare-check-for-reply-or-error, send-requests, enqueue-packets, poll-for-events, form, Value, Outputs, Answers, OfBytes}
+use Rattle.session.specs.Ask.{Ask, send-request, enqueue-fds, enqueue-packet, discard-reply, poll-for-reply-or-error, poll-check-for-reply-or-error, poll-for-reply, poll-for-event-with-sequence, take-closed-fds, prepare-check-for-reply-or-error, send-requests, enqueue-packets, poll-for-events, form, Value, OfBytes}
 use Rattle.session.specs.AskLaws.{has-form, some-answer}
 use Rattle.session.specs.Noting.{notePacket, tookOf, noteFed}
 use Rattle.session.specs.Session.{sentAll, noteSends, logged}
