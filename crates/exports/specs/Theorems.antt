@@ -14,15 +14,16 @@ use Rattle.model.specs.Feed.{ShownFed}
 use Rattle.model.specs.Reading.{Rooms, rooms}
 use Rattle.model.specs.declared.Connection.{Connection}
 use Rattle.connection.specs.Calls.{Enqueues, EnqueuesMany}
-use Rattle.honest.specs.Run.{Entry, Fair, Honest, Right, Filed, Bears, Holds}
+use Rattle.honest.specs.Run.{Entry, Fair, Honest, Right, Filed}
 use Rattle.honest.specs.Public.{stateOf}
-use Rattle.honest.specs.Server.{Packet}
+use Rattle.honest.specs.Server.{Packet, packetsIn}
+use Rattle.honest.specs.Origins.{Lists, Traced, AllTied}
 use Rattle.session.specs.Ask.{enqueue-packet, enqueue-packets}
 use Rattle.session.specs.Noting.{noteFed}
 use Rattle.session.specs.Session.{Session, call}
-use Rattle.session.specs.Theorems.{session-sound, session-true, session-held, session-filed, session-never-ended}
+use Rattle.session.specs.Theorems.{session-sound, session-true, session-filed, session-never-ended}
 use Rattle.session.specs.Serving.{bytesIn, numbersIn, FiledAll}
-use Rattle.session.specs.Served.{session-fed}
+use Rattle.session.specs.Served.{session-runs, session-tied, session-fed}
 use Rattle.rows.specs.State.{connectionSlots, connectionOf}
 use Rattle.answers.specs.Exported.{returned, shownOf, shown-at}
 use Rattle.answers.specs.Shown.{stateRow, filing, fed}
@@ -48,9 +49,9 @@ run-session k = run-row k .1
 pub exports-true : {state requests store slots : List ℕ} {l : List Entry} → Run state requests store slots l → Honest (connectionOf state .order) l → Right l
 exports-true k h = session-true (run-session k) h
 
--- HELD: at any time each record that is held bears the true number of its packet.
-pub exports-held : {state requests store slots : List ℕ} {l : List Entry} → Run state requests store slots l → Honest (connectionOf state .order) l → Holds (Bears l) (clientOf state requests store slots)
-exports-held k h = session-held (run-session k) h
+-- TIED: however the records of a run are followed, each that is held bears the true number of the very packet that it came from.
+pub exports-tied : {state requests store slots : List ℕ} {l : List Entry} (k : Run state requests store slots l) → Honest (connectionOf state .order) l → (x : Lists) → Traced (clientOf state requests store slots) l (session-runs (run-session k)) x → AllTied (packetsIn l) x
+exports-tied k h x t = session-tied (run-session k) h x t
 
 -- SOUND: no export of a run returns 9, but for a kind or a mode that means nothing.
 pub exports-sound : {state requests store slots state' requests' store' slots' : List ℕ} {l : List Entry} {adds : List Entry → List Entry} {r : ℕ} → Run state requests store slots l

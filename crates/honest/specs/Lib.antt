@@ -1,7 +1,7 @@
 pub mod Run
 pub mod Rules
 pub mod Calls
-pub mod Lists
+pub mod Handing
 pub mod Server
 pub mod Origins
 pub mod OriginsLaws

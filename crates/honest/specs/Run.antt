@@ -127,16 +127,6 @@ pub record Filed (c : Client) (p : List ℕ) (t : ℕ) (x : Filing × Client) : 
   pub last-read : x .1 .numbers .read ≡ t
   pub record-is : Lands (x .0 .place) (heldAs c p t) c (x .1)
 
--- a packet p with the true number t was taken in
-abbrev pub Took : List Entry → ℕ → List ℕ → Type 0
-Took [] t p = ⊥
-Took (sent has-reply ∷ l) t p = Took l t p
-Took (took u q f ∷ l) t p = ((t ≡ u) × (p ≡ q)) ⊎ Took l t p
-
--- a record bears the true number of its packet, if the packet carries one
-abbrev pub Bears : List Entry → Held → Type 0
-Bears l h = unnumbered (codeOf (h .packet)) ≡ false → Took l (h .number) (h .packet)
-
 -- P is true of each record that is held
 abbrev pub Holds : (Held → Type 0) → Client → Type 0
 Holds P c = Each P (c .replies) × Each P (c .events)

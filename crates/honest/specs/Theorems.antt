@@ -17,14 +17,14 @@ use Rattle.model.specs.Promise.{Done, Promise}
 use Rattle.model.specs.Reading.{Rooms, reads}
 use Rattle.model.specs.Sound.{soundb}
 use Rattle.model.specs.declared.Connection.{Connection}
-use Rattle.honest.specs.Run.{Entry, Runs, Fair, Honest, Right, Filed, Bears, Holds, Hands}
+use Rattle.honest.specs.Run.{Entry, Runs, Fair, Honest, Right, Filed, Hands}
 use Rattle.honest.specs.Rules.{ruled-inv, true-range}
 use Rattle.honest.specs.Calls.{Taking, taking, lands, counted, runs-ruled, one-of}
 use Rattle.honest.specs.Server.{Packet, packetsIn, Serves, serves-runs, HonestServer, server-honest}
 use Rattle.honest.specs.Origins.{Lists, Traced, AllTied, OneOf}
 use Rattle.honest.specs.OriginsLaws.{traced-client, traced-tied, holds-one}
 use Rattle.honest.specs.Public.{Public, public-runs, came, given-so, refused-so}
-use Rattle.honest.specs.Lists.{runs-filed, filed-took, all-map, hands}
+use Rattle.honest.specs.Handing.{hands}
 
 -- ---- Over the model
 
@@ -61,17 +61,6 @@ module _ {c : Client} {log : List Entry} (r : Runs c log) (h : Honest (c .order)
             record-is = rw n at (lands c p x k);
           }
 
--- HELD: at any time each record that is held bears the true number of its packet.
-pub held-true : {c : Client} {log : List Entry} → Runs c log → Honest (c .order) log → Holds (Bears log) c
-held-true {c} {log} r h =
-    let k = runs-filed r in
-    let f = filed-took log (true-numbers r h) in
-    (all-map f (c .replies) (k .0), all-map f (c .events) (k .1))
-
--- HANDED OUT: and so does each that a call hands out.
-pub handed-true : {c : Client} {log : List Entry} → Runs c log → Honest (c .order) log → (x : Call) → Hands (Bears log) (step c x .said)
-handed-true {c} {log} r h x = hands (Bears log) c x (held-true r h)
-
 -- TIED: whichever way the records of a run are followed (`runs-traced`: there is one), each that is held bears the true number of the very packet that it came from,
 pub run-tied : {c : Client} {log : List Entry} {r : Runs c log} {x : Lists} → Traced c log r x → Honest (c .order) log → AllTied (packetsIn log) x
 run-tied {r = r} t h = traced-tied t (true-numbers r h)
@@ -91,11 +80,6 @@ server-true s h = true-numbers (serves-runs s) (server-honest _ s h)
 pub public-true : {c : Connection} {r : Rooms} {log : List Entry} → Public c r log → Honest (c .order) log → Right log
 unfolding reads
 public-true k h = true-numbers (public-runs k) h
-
--- what is held, as it is read
-pub public-held : {c : Connection} {r : Rooms} {log : List Entry} → Public c r log → Honest (c .order) log → Holds (Bears log) (reads c r)
-unfolding reads
-public-held k h = held-true (public-runs k) h
 
 -- A run of public calls with an honest server, and the call that brings its next packet.
 module _ {c : Connection} {r : Rooms} {log : List Entry} (k : Public c r log) (h : Honest (c .order) log) (t : ℕ) (p : List ℕ) (carries : unnumbered (codeOf p) ≡ false) (fair : Fair (c .order) log t p)

@@ -24,7 +24,7 @@ use Rattle.batch.specs.Feed.{enqueuePackets, feedExact}
 use Rattle.connection.specs.Calls.{Enqueues, EnqueuesMany}
 use Rattle.honest.specs.Run.{Entry, Runs, noteTook, Honest, Right, Filed, Holds, Hands}
 use Rattle.honest.specs.Public.{Came, gave, kept, came, public-runs}
-use Rattle.honest.specs.Lists.{hands}
+use Rattle.honest.specs.Handing.{hands}
 use Rattle.honest.specs.Server.{Packet, packetsIn, carrying, HonestServer}
 use Rattle.honest.specs.Origins.{Lists, Traced, AllTied, OneOf}
 use Rattle.honest.specs.OriginsLaws.{Trace, runs-traced, traced-client, tied-grown, holds-one}

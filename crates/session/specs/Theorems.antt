@@ -20,7 +20,7 @@ use Rattle.intake.specs.Exact.{enqueueExact}
 use Rattle.polling.specs.Exact.{eventExact}
 use Rattle.connection.specs.Calls.{Sends, Enqueues}
 use Rattle.connection.specs.Opening.{opens-fresh, opens-sound}
-use Rattle.honest.specs.Run.{Entry, sent, noteSent, noteTook, Fair, Honest, Right, Filed, Bears, Holds}
+use Rattle.honest.specs.Run.{Entry, sent, noteSent, noteTook, Fair, Honest, Right, Filed}
 use Rattle.honest.specs.Public.{stateOf, Public, opens, sends, takes, others}
 use Rattle.honest.specs.Theorems as Any
 use Rattle.session.specs.Ask.{Ask, send-request, enqueue-fds, enqueue-packet, discard-reply, poll-for-reply-or-error, poll-check-for-reply-or-error, poll-for-reply, poll-for-event-with-sequence, take-closed-fds, prepare-check-for-reply-or-error, send-requests, enqueue-packets, poll-for-events, Value, Outputs, Answers, OfBytes}
@@ -78,10 +78,6 @@ session-public (call x b ts a r' o h k) = call-public x b ts a r' o h (session-s
 -- TRUE NUMBERS: with an honest server the number of each packet taken in is its true one, however long the session is.
 pub session-true : {c : Connection} {r : Rooms} {l : List Entry} → Session c r l → Honest (c .order) l → Right l
 session-true k h = Any.public-true (session-public k) h
-
--- HELD: at any time each record that is held bears the true number of its packet.
-pub session-held : {c : Connection} {r : Rooms} {l : List Entry} → Session c r l → Honest (c .order) l → Holds (Bears l) (reads c r)
-session-held k h = Any.public-held (session-public k) h
 
 -- A session with an honest server, and the call that brings its next packet.
 module _ {c : Connection} {r : Rooms} {l : List Entry} (k : Session c r l) (h : Honest (c .order) l) (t : ℕ) (p : List ℕ) (carries : unnumbered (codeOf p) ≡ false) (fair : Fair (c .order) l t p)
