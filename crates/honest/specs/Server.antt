@@ -1,28 +1,22 @@
--- The server's packets in order, a refused one being offered again before a later one: a run's log then has the server's numbered packets, from the first on, in order and none left out. So what is asked of the log is asked of the server. Assumes nothing.
+-- The server's packets as it has them to bring: what is asked of them, instead of a run's log. Where a run has them in order, none left out (`session/specs/Serving.antt`), its log is then honest. Assumes nothing.
 use mathlib.Core.Bool.{Bool, true, false}
 use mathlib.Core.List.{List, [], _∷_, _++_, append-assoc}
-use mathlib.Core.Path.{_≡_, refl, sym, ap, _∙_}
+use mathlib.Core.Path.{_≡_, refl, sym, _∙_}
 use mathlib.Core.Logic.{_⊎_, inl, inr, ⊎-elim}
 use Prim.Native.Nat.{ℕ, _≤_, _<_}
 use native.Mathlib.Omega.{arith}
 use Rattle.octets.specs.Logic.{choose}
-use Rattle.refusal.specs.Answer.{Answer, gives, refuses}
+use Rattle.refusal.specs.Answer.{gives}
 use Rattle.packet.specs.Packet.{codeOf, unnumbered}
-use Rattle.model.specs.Client.{Client}
-use Rattle.model.specs.Model.{fresh, hasReply, sendRequest, Filing, enqueuePacket}
-use Rattle.model.specs.Calls.{Call, send, enqueue-fds, enqueue, discard, poll, check, poll-reply, prepare, poll-event, take-closed, step}
+use Rattle.model.specs.Model.{Filing}
+use Rattle.model.specs.Calls.{Call, send, enqueue-fds, enqueue, discard, poll, check, poll-reply, prepare, poll-event, take-closed}
 use Rattle.model.specs.Batch.{Each}
-use Rattle.honest.specs.Run.{Entry, sent, took, noteSent, noteTook, noted, Runs, start, call, WithReply, Heard, Wire, Known, Along, Honest}
+use Rattle.honest.specs.Run.{Entry, sent, took, noteTook, WithReply, Heard, Wire, Known, Along, Honest}
 
 -- a packet of the server, with its true number
 pub record Packet : Type 0 where
   pub true-number : ℕ
   pub bytes : List ℕ
-
--- the packets that are left: one that was taken in goes, one that was refused is still the next
-unfoldable pub left : {A : Type 0} → Answer A → Packet → List Packet → List Packet
-left (gives x) p rest = rest
-left (refuses n) p rest = p ∷ rest
 
 -- calls that bring no packet
 abbrev pub Own : Call → Type 0
@@ -36,19 +30,6 @@ Own (poll-reply n bytes) = Unit {0}
 Own (prepare n) = Unit {0}
 Own (poll-event bytes) = Unit {0}
 Own (take-closed places) = Unit {0}
-
--- A run with a server that has these packets to bring, of which `rest` are left.
-pub data Serves (all : List Packet) : List Packet → Client → List Entry → Type 0 where
-  begins : (o k s : ℕ) → Serves all all (fresh o k s) []
-  offers : {p : Packet} {rest : List Packet} {c : Client} {l : List Entry} → Serves all (p ∷ rest) c l
-      → Serves all (left (enqueuePacket c (p .bytes)) p rest) (step c (enqueue (p .bytes)) .next) (noted c (enqueue (p .bytes)) (p .true-number) l)
-  calls : {rest : List Packet} {c : Client} {l : List Entry} (x : Call) → Own x → Serves all rest c l → Serves all rest (step c x .next) (noted c x 0 l)
-
--- it is a run
-pub serves-runs : {all rest : List Packet} {c : Client} {l : List Entry} → Serves all rest c l → Runs c l
-serves-runs (begins o k s) = start o k s
-serves-runs (offers {p = p} h) = call (enqueue (p .bytes)) (p .true-number) (serves-runs h)
-serves-runs (calls x o h) = call x 0 (serves-runs h)
 
 -- the packets that carry a number; and those of a log, the earliest first
 unfoldable pub carrying : List Packet → List Packet
@@ -79,42 +60,16 @@ pub record HonestServer (o : ℕ) (all : List Packet) (l : List Entry) : Type 0 
   pub known : Along (λ before t p. Known before t) l
   pub answered : (q : ℕ) → WithReply l q → First q (carrying all)
 
--- ---- IN ORDER: the log's packets and those left are the server's.
+-- ---- A log whose packets, and those that are left, are the server's
 
-pub offered : {A : Type 0} (p : Packet) (rest : List Packet) (l : List Entry) (a : Answer (Filing × A)) → packetsIn (noteTook (p .true-number) (p .bytes) a l) ++ carrying (left a p rest) ≡ packetsIn l ++ carrying (p ∷ rest)
-unfolding noteTook left carrying packetsIn choose
-offered p rest l (refuses n) = refl
-offered p rest l (gives x) = go (unnumbered (codeOf (p .bytes)))
+-- one that is taken in is the log's last, if it carries a number, and no more of those left
+pub offered : {A : Type 0} (p : Packet) (rest : List Packet) (l : List Entry) (x : Filing × A) → packetsIn (noteTook (p .true-number) (p .bytes) (gives x) l) ++ carrying rest ≡ packetsIn l ++ carrying (p ∷ rest)
+unfolding noteTook carrying packetsIn choose
+offered p rest l x = go (unnumbered (codeOf (p .bytes)))
   where
     go : (b : Bool) → packetsIn (choose b l (took (p .true-number) (p .bytes) (x .0) ∷ l)) ++ carrying rest ≡ packetsIn l ++ choose b (carrying rest) (p ∷ carrying rest)
     go true = refl
     go false = append-assoc (packetsIn l) (p ∷ []) (carrying rest)
-
-sent-none : {A : Type 0} (b : Bool) (a : Answer A) (l : List Entry) → packetsIn (noteSent b a l) ≡ packetsIn l
-unfolding noteSent packetsIn
-sent-none b (gives x) l = refl
-sent-none b (refuses n) l = refl
-
-own-none : (c : Client) (x : Call) (l : List Entry) → Own x → packetsIn (noted c x 0 l) ≡ packetsIn l
-unfolding noted
-own-none c (send kind) l o = sent-none (hasReply kind) (sendRequest c kind) l
-own-none c (enqueue-fds list) l o = refl
-own-none c (enqueue p) l o = absurd o
-own-none c (discard n m) l o = refl
-own-none c (poll n bytes places) l o = refl
-own-none c (check n bytes) l o = refl
-own-none c (poll-reply n bytes) l o = refl
-own-none c (prepare n) l o = refl
-own-none c (poll-event bytes) l o = refl
-own-none c (take-closed places) l o = refl
-
-pub in-order : {all rest : List Packet} {c : Client} {l : List Entry} → Serves all rest c l → packetsIn l ++ carrying rest ≡ carrying all
-unfolding packetsIn noted
-in-order (begins o k s) = refl
-in-order (offers {p = p} {rest = rest} {c = c} {l = l} h) = offered p rest l (enqueuePacket c (p .bytes)) ∙ in-order h
-in-order (calls {rest = rest} {c = c} {l = l} x o h) = ap (λ y. y ++ carrying rest) (own-none c x l o) ∙ in-order h
-
--- ---- So the log is honest.
 
 every-split : (P : Packet → Type 0) (xs ys : List Packet) → Each P (xs ++ ys) → Each P xs × Each P ys
 every-split P [] ys e = (tt, e)
@@ -175,9 +130,6 @@ module _ (o : ℕ) (packets : List Packet) (wire : Each (λ (p : Packet). Wire o
         honest-log l (x ∷ ys) g (k .1) a,
       )
 
--- whatever brought its packets in order
+-- HONEST: such a log is, where the server is.
 pub log-honest : (o : ℕ) (all rest : List Packet) (l : List Entry) → packetsIn l ++ carrying rest ≡ carrying all → HonestServer o all l → Honest o l
 log-honest o all rest l e h = honest-log o (carrying all) (h .wire) (h .rising) l (carrying rest) e (h .known) (h .answered)
-
-pub server-honest : {all rest : List Packet} {c : Client} {l : List Entry} (o : ℕ) → Serves all rest c l → HonestServer o all l → Honest o l
-server-honest {all} {rest} {c} {l} o s h = log-honest o all rest l (in-order s) h

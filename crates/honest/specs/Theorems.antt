@@ -20,7 +20,7 @@ use Rattle.model.specs.declared.Connection.{Connection}
 use Rattle.honest.specs.Run.{Entry, Runs, Fair, Honest, Right, Filed, Hands}
 use Rattle.honest.specs.Rules.{ruled-inv, true-range}
 use Rattle.honest.specs.Calls.{Taking, taking, lands, counted, runs-ruled, one-of}
-use Rattle.honest.specs.Server.{Packet, packetsIn, Serves, serves-runs, HonestServer, server-honest}
+use Rattle.honest.specs.Server.{packetsIn}
 use Rattle.honest.specs.Origins.{Lists, Traced, AllTied, OneOf}
 use Rattle.honest.specs.OriginsLaws.{traced-client, traced-tied, holds-one}
 use Rattle.honest.specs.Public.{Public, public-runs, came, given-so, refused-so}
@@ -68,12 +68,6 @@ run-tied {r = r} t h = traced-tied t (true-numbers r h)
 -- and what a call hands out is one of them.
 pub handed-tied : {c : Client} {log : List Entry} {r : Runs c log} {x : Lists} → Traced c log r x → Honest (c .order) log → (z : Call) → Hands (OneOf (packetsIn log) x) (step c z .said)
 handed-tied {c} {log} {r} {x} t h z = hands (OneOf (packetsIn log) x) c z (holds-one c (packetsIn log) x (traced-client t) (run-tied t h))
-
--- ---- Word for word
-
--- With an honest server, whose packets come in order and a refused one again before a later one, every numbered packet that is taken in gets its true number.
-pub server-true : {all rest : List Packet} {c : Client} {log : List Entry} → Serves all rest c log → HonestServer (c .order) all log → Right log
-server-true s h = true-numbers (serves-runs s) (server-honest _ s h)
 
 -- ---- For the public calls, over state and rooms
 

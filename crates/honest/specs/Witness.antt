@@ -27,7 +27,7 @@ use Rattle.model.specs.declared.Place.{Place}
 use Rattle.model.specs.declared.Place.the-variants.{Replies, Events, Dropped}
 use Rattle.honest.specs.Run.{Entry, sent, took, noted, Runs, start, call, sends, WithReply, Heard, Fair, Honest}
 use Rattle.honest.specs.Computing.{computing, packetOf, send-to, packet-to, poll-to}
-use Rattle.honest.specs.Server.{Packet, Serves, begins, offers, calls, left, carrying, HonestServer}
+use Rattle.honest.specs.Server.{Packet, carrying, HonestServer}
 use Rattle.honest.specs.Theorems.{next-number}
 use Rattle.honest.specs.Test.{numbersAsked, numbersHeard, every, among, fairb, honestb, honest-by}
 
@@ -78,38 +78,6 @@ pub witness-honest : Honest 108 (logged (fresh 108 4 100) [] moves)
 unfolding computing numbersAsked numbersHeard every among fairb honestb
 witness-honest = honest-by 108 (logged (fresh 108 4 100) [] moves) refl
 
--- ---- A server with two packets: the second is refused once, for want of room, and offered again
-
-abbrev first : Packet
-first = record { true-number = 0; bytes = packetOf 2 0 0 }
-
-abbrev second : Packet
-second = record { true-number = 1; bytes = packetOf 1 0 1 }
-
-abbrev servedLog : List Entry
-servedLog = took 1 (packetOf 1 0 1) (record { place = Replies; number = 1 }) ∷ took 0 (packetOf 2 0 0) (record { place = Events; number = 0 }) ∷ sent true ∷ []
-
-abbrev served : List Call
-served = send ReplyWithoutFds ∷ enqueue (first .bytes) ∷ enqueue (second .bytes) ∷ poll-event 32 ∷ enqueue (second .bytes) ∷ []
-
-pub served-says : run (fresh 108 4 48) served .said ≡ number 1 ∷ filed Events 0 ∷ refused 5 ∷ heldAt 0 (packetOf 2 0 0) [] ∷ filed Replies 1 ∷ []
-unfolding computing
-served-says = refl
-
-pub served-run : Serves (first ∷ second ∷ []) [] (run (fresh 108 4 48) served .end) servedLog
-unfolding computing left
-served-run = offers {p = second} (calls (poll-event 32) tt (offers {p = second} (offers {p = first} (calls (send ReplyWithoutFds) tt (begins 108 4 48)))))
-
-pub served-honest : HonestServer 108 (first ∷ second ∷ []) servedLog
-unfolding computing carrying
-served-honest =
-    record {
-      wire = (refl, (refl, tt));
-      rising = ((omega arith, tt), (tt, tt));
-      known = (omega arith, (omega arith, tt));
-      answered = λ q a. inr (omega arith, ⊎-elim (λ (e : q ≡ 1). inl (sym e)) (λ z. absurd z) a);
-    }
-
 -- ---- A server may be silent: two requests without a reply get no packet before the reply to a later one, and the last request, which has a reply, is still pending
 
 abbrev third : Packet
@@ -118,12 +86,12 @@ third = record { true-number = 3; bytes = packetOf 1 0 3 }
 abbrev quietLog : List Entry
 quietLog = sent true ∷ took 3 (packetOf 1 0 3) (record { place = Replies; number = 3 }) ∷ sent true ∷ sent false ∷ sent false ∷ []
 
-abbrev quiet : List Call
-quiet = send NoReply ∷ send NoReply ∷ send ReplyWithoutFds ∷ enqueue (third .bytes) ∷ send ReplyWithoutFds ∷ []
+abbrev quiet : List Move
+quiet = does (send NoReply) ∷ does (send NoReply) ∷ does (send ReplyWithoutFds) ∷ brings 3 (third .bytes) ∷ does (send ReplyWithoutFds) ∷ []
 
-pub quiet-run : Serves (third ∷ []) [] (run (fresh 108 4 48) quiet .end) quietLog
-unfolding computing left
-quiet-run = calls (send ReplyWithoutFds) tt (offers {p = third} (calls (send ReplyWithoutFds) tt (calls (send NoReply) tt (calls (send NoReply) tt (begins 108 4 48)))))
+pub quiet-run : Runs (run (fresh 108 4 48) (made quiet) .end) quietLog
+unfolding computing
+quiet-run = moves-run quiet (fresh 108 4 48) [] (start 108 4 48)
 
 pub quiet-honest : HonestServer 108 (third ∷ []) quietLog
 unfolding computing carrying

@@ -3,6 +3,7 @@
 //
 // To believe: `specs/Run.antt`, what a run of the model is and what is asked of the server's
 // packets as they are logged; `specs/Server.antt`, the same asked of the packets that the server
-// has to bring; `specs/Public.antt`, what a run of the public calls is. `specs/Theorems.antt` says
-// what follows, `specs/Needed.antt` that each premise is needed, and `specs/Witness.antt` that
-// there are such runs, of every kind and of any length.
+// has to bring; `specs/Origins.antt`, how a held record is followed from its packet;
+// `specs/Public.antt`, what a run of the public calls is. `specs/Theorems.antt` says what follows,
+// `specs/Needed.antt` that each premise is needed, and `specs/Witness.antt` that there are such
+// runs, of every kind and of any length.

@@ -17,7 +17,7 @@ use Rattle.model.specs.declared.Connection.{Connection}
 use Rattle.batch.specs.Feed.{enqueuePackets, feedExact}
 use Rattle.honest.specs.Run.{Entry, sent, noteSent, noteTook, Honest}
 use Rattle.honest.specs.Public.{Came, gave, kept, came}
-use Rattle.honest.specs.Server.{Packet, left, packetsIn, carrying, offered, HonestServer, log-honest}
+use Rattle.honest.specs.Server.{Packet, packetsIn, carrying, offered, HonestServer, log-honest}
 use Rattle.session.specs.Ask.{Ask, send-request, enqueue-fds, enqueue-packet, discard-reply, poll-for-reply-or-error, poll-check-for-reply-or-error, poll-for-reply, poll-for-event-with-sequence, take-closed-fds, prepare-check-for-reply-or-error, send-requests, enqueue-packets, poll-for-events, Value, Outputs, Answers}
 use Rattle.session.specs.Noting.{noting, next, notePacket, tookOf, noteFed}
 use Rattle.session.specs.Session as Session
@@ -49,12 +49,12 @@ sends-none bytes (refuses n) l = refl
 -- a packet alone
 one-order : {A : Type 0} (ahead rest : List Packet) (p : List ℕ) → bytesIn ahead ≡ p ∷ [] → (a : Answer (Filing × A)) (l : List Entry)
     → packetsIn (noteTook (next (numbersIn ahead)) p a l) ++ carrying (drop (tookOne a) ahead ++ rest) ≡ packetsIn l ++ carrying (ahead ++ rest)
-unfolding tookOne left noteTook
+unfolding tookOne noteTook
 one-order [] rest p e a l = absurd (omega (arith, ap length e))
 one-order (q ∷ ahead) rest p e (refuses n) l = refl
 one-order (q ∷ ahead) rest p e (gives x) l =
     let w : q .bytes ≡ p = ap (λ (y : List (List ℕ)). head y) e in
-    subst (λ (y : List ℕ). packetsIn (noteTook (q .true-number) y (gives x) l) ++ carrying (ahead ++ rest) ≡ packetsIn l ++ carrying (q ∷ ahead ++ rest)) w (offered q (ahead ++ rest) l (gives x))
+    subst (λ (y : List ℕ). packetsIn (noteTook (q .true-number) y (gives x) l) ++ carrying (ahead ++ rest) ≡ packetsIn l ++ carrying (q ∷ ahead ++ rest)) w (offered q (ahead ++ rest) l x)
   where
     head : List (List ℕ) → List ℕ
     head [] = []
@@ -62,12 +62,12 @@ one-order (q ∷ ahead) rest p e (gives x) l =
 
 -- the packets of a run, of which vs were taken
 row-order : (ps rest : List Packet) (vs : List Took) (l : List Entry) → packetsIn (notes notePacket (bytesIn ps) vs (noting (numbersIn ps) l) .log) ++ carrying (drop (length vs) ps ++ rest) ≡ packetsIn l ++ carrying (ps ++ rest)
-unfolding notes notePacket left
+unfolding notes notePacket
 row-order [] rest [] l = refl
 row-order [] rest (v ∷ vs) l = refl
 row-order (p ∷ ps) rest [] l = refl
 row-order (p ∷ ps) rest (v ∷ vs) l =
-    row-order ps rest vs (noteTook (p .true-number) (p .bytes) (gives (v .filing, tt {0})) l) ∙ offered p (ps ++ rest) l (gives (v .filing, tt {0}))
+    row-order ps rest vs (noteTook (p .true-number) (p .bytes) (gives (v .filing, tt {0})) l) ∙ offered p (ps ++ rest) l (v .filing, tt {0})
 
 fed-order : (ahead rest : List Packet) (m : Client) (bytes : List ℕ) → bytesIn ahead ≡ cutPackets (m .order) bytes .packets → (r : Rooms) {a : Answer (ShownFed × Connection)} {r' : Rooms} → Came shownFed (enqueuePackets m bytes) r a r' → (l : List Entry)
     → packetsIn (noteFed (numbersIn ahead) m bytes a l) ++ carrying (drop (tookMany a) ahead ++ rest) ≡ packetsIn l ++ carrying (ahead ++ rest)
