@@ -61,7 +61,8 @@ pub record Opens (o : ℕ) (r : Rooms) (a : Answer (Unit × Connection)) : Type 
   pub exact : Exact same (openExact o r) r a r
   pub model : modelOf (openExact o r) ≡ opened o r
 
--- ---- the promises, call by call: what the call is exactly, and which function of the model that is
+-- ---- the promises, call by call: what the call is exactly, and which function of the model that is. What a promise takes last is the answer and
+-- the rooms (and outputs) at exit: `Sends c r kind answer left`.
 
 abbrev pub Sends : Connection → Rooms → ReplyFdKind → Answer (ℕ × Connection) → Rooms → Type 0
 Sends c r kind = Promise same (sendExact c r kind) (λ m. sendRequest m kind) c r
@@ -75,11 +76,15 @@ Enqueues c r p = Promise same (enqueueExact c r p) (λ m. enqueuePacket m p) c r
 abbrev pub Discards : Connection → Rooms → ℕ → DiscardMode → Answer (Unit × Connection) → Rooms → Type 0
 Discards c r n mode = Promise same (gives (discardExact c r n mode)) (λ m. discardReply m n mode) c r
 
--- A call that hands something out: its promise, and what g takes of the value at the start of the lent output.
-pub record Hands {A B : Type 0} (f : A → B) (g : A → List ℕ) (e : Answer (Done A)) (m : Client → Answer (A × Client)) (c : Connection) (r : Rooms) (out : List ℕ)
-    (a : Answer (B × Connection)) (r' : Rooms) (out' : List ℕ) : Type 0 where
-  pub promise : Promise f e m c r a r'
-  pub output : out' ≡ outputOf g (guarded c r e) out
+-- A call that hands something out: its promise, and besides
+--
+--      writes     what goes into the output of a value: the bytes of a packet, say
+--      out        the output, as it is lent
+--      out'       the output at exit: what is written stands at its start, the rest as found, and so is all of it after a refusal
+pub record Hands {A B : Type 0} (shows : A → B) (writes : A → List ℕ) (outcome : Answer (Done A)) (modelled : Client → Answer (A × Client)) (state : Connection) (lent : Rooms) (out : List ℕ)
+    (answer : Answer (B × Connection)) (left : Rooms) (out' : List ℕ) : Type 0 where
+  pub promise : Promise shows outcome modelled state lent answer left
+  pub output : out' ≡ outputOf writes (guarded state lent outcome) out
 
 abbrev pub Closes : Connection → Rooms → List ℕ → Answer (ℕ × Connection) → Rooms → List ℕ → Type 0
 Closes c r out = Hands length same (closeExact c r (length out)) (λ m. takeClosed m (length out)) c r out

@@ -1,5 +1,6 @@
 -- THE PROMISES of the exports of the connection: a name is what was lent or handed in, with a stroke what is there at exit, and r the number returned. Beside each, that any two outcomes that it
--- allows are equal: the number returned, the numbers shown, the row, the rooms and every output. Assumes nothing.
+-- allows are equal: the number returned, the numbers shown, the row, the rooms and every output. Each reads: kept as the call below promises; of what that gives these numbers are shown, and the
+-- state is put into the row; the numbers behind the pointers and then the row, each before and after. Assumes nothing.
 use mathlib.Core.Path.{_≡_, sym, ap, _∙_}
 use mathlib.Core.List.{List, [], _∷_}
 use Prim.Native.Nat.{ℕ}
@@ -15,7 +16,7 @@ use Rattle.model.specs.declared.Connection.{Connection}
 use Rattle.connection.specs.Calls.{Opens, Sends, EnqueuesFds, Enqueues, Discards, Hands, Polls, Checks, PollsReply, PollsEvent, Closes, Prepares, SendsMany, EnqueuesMany, PollsEvents}
 use Rattle.connection.specs.Theorems.{one-outcome, hands-outcome}
 use Rattle.rows.specs.State.{connectionSlots, connectionOf}
-use Rattle.answers.specs.Exported.{Exported, Kept, When, shown-at, exported-one, kept-one, kept-left, when-one, when-left}
+use Rattle.answers.specs.Exported.{Exported, Kept, KeptWhen, shown-at, exported-one, kept-one, kept-left, when-one, when-left}
 use Rattle.model.specs.SendRequests.{kindOf}
 use Rattle.answers.specs.Shown.{nothing, stateRow, first, filing, polled, poll, event, flag, modeOf, mostKind, isMode, sendings, fed, handings}
 use Rattle.xiengmado.specs.Looking.{requestKept, requestFields, Looks, looks-one, recordFields}
@@ -37,7 +38,7 @@ events-left a b x y = let w = hands-outcome _ _ _ _ _ _ _ a b _ _ _ _ (x .packet
 module _ (state : List ℕ) (order : ℕ) (requests store slots : List ℕ) where
   abbrev pub XmConnectionNew : (state' : List ℕ) (r : ℕ) → Type 0
   XmConnectionNew state' r =
-      Kept (λ a. When (eqb (length state) connectionSlots) Unit (Opens order (rooms requests store slots)) a) nothing (stateRow state) [] [] state state' r
+      KeptWhen (eqb (length state) connectionSlots) Unit (Opens order (rooms requests store slots)) nothing (stateRow state) [] [] state state' r
 
   pub xm-connection-new-one : {state₁ : List ℕ} {r₁ : ℕ} {state₂ : List ℕ} {r₂ : ℕ} → XmConnectionNew state₁ r₁ → XmConnectionNew state₂ r₂
       → (state₁ ≡ state₂) × (r₁ ≡ r₂)
@@ -49,7 +50,7 @@ module _ (state : List ℕ) (order : ℕ) (requests store slots : List ℕ) wher
 module _ (state requests store slots : List ℕ) (kind number : ℕ) where
   abbrev pub XmSendRequest : (state' requests' : List ℕ) (number' r : ℕ) → Type 0
   XmSendRequest state' requests' number' r =
-      Kept (λ a. When (leb kind mostKind) (requests' ≡ requests) (λ b. Sends (connectionOf state) (rooms requests store slots) (kindOf kind) b (rooms requests' store slots)) a) first (stateRow state) (number ∷ []) (number' ∷ []) state state' r
+      KeptWhen (leb kind mostKind) (requests' ≡ requests) (λ a. Sends (connectionOf state) (rooms requests store slots) (kindOf kind) a (rooms requests' store slots)) first (stateRow state) (number ∷ []) (number' ∷ []) state state' r
 
   pub xm-send-request-one : {state₁ requests₁ : List ℕ} {number₁ r₁ : ℕ} {state₂ requests₂ : List ℕ} {number₂ r₂ : ℕ} → XmSendRequest state₁ requests₁ number₁ r₁ → XmSendRequest state₂ requests₂ number₂ r₂
       → (state₁ ≡ state₂) × (requests₁ ≡ requests₂) × (number₁ ≡ number₂) × (r₁ ≡ r₂)
@@ -61,7 +62,7 @@ module _ (state requests store slots : List ℕ) (kind number : ℕ) where
 module _ (state requests store slots : List ℕ) (number mode : ℕ) where
   abbrev pub XmDiscardReply : (state' requests' store' slots' : List ℕ) (r : ℕ) → Type 0
   XmDiscardReply state' requests' store' slots' r =
-      Kept (λ a. When (isMode mode) ((rooms requests' store' slots') ≡ (rooms requests store slots)) (λ b. Discards (connectionOf state) (rooms requests store slots) number (modeOf mode) b (rooms requests' store' slots')) a) nothing (stateRow state) [] [] state state' r
+      KeptWhen (isMode mode) (rooms requests' store' slots' ≡ rooms requests store slots) (λ a. Discards (connectionOf state) (rooms requests store slots) number (modeOf mode) a (rooms requests' store' slots')) nothing (stateRow state) [] [] state state' r
 
   pub xm-discard-reply-one : {state₁ requests₁ store₁ slots₁ : List ℕ} {r₁ : ℕ} {state₂ requests₂ store₂ slots₂ : List ℕ} {r₂ : ℕ} → XmDiscardReply state₁ requests₁ store₁ slots₁ r₁ → XmDiscardReply state₂ requests₂ store₂ slots₂ r₂
       → (state₁ ≡ state₂) × (requests₁ ≡ requests₂) × (store₁ ≡ store₂) × (slots₁ ≡ slots₂) × (r₁ ≡ r₂)
