@@ -114,12 +114,7 @@ when-left found one x y (off h s) (off k t) = (refl, found s t)
 pub when-one : {A : Type 0} {b : Bool} {same same' : Type 0} {P Q : Answer A → Type 0} → ((x y : Answer A) → P x → Q y → x ≡ y) → (x y : Answer A) → When b same P x → When b same' Q y → x ≡ y
 when-one one x y h k = when-left {L = Unit {0}} (λ s t. tt) (λ v w p q. (one v w p q, tt)) x y h k .0
 
--- Where the test holds, the promise is kept;
-pub when-on : {A : Type 0} {b : Bool} {same : Type 0} {P : Answer A → Type 0} {x : Answer A} → b ≡ true → When b same P x → P x
-when-on e (on h p) = p
-when-on e (off h s) = apart e h
-
--- where it fails, the refusal is by 9 and all is as found.
+-- Where the test fails, the refusal is by 9 and all is as found.
 pub when-off : {A : Type 0} {b : Bool} {same : Type 0} {P : Answer A → Type 0} {x : Answer A} → b ≡ false → When b same P x → (x ≡ refuses 9) × same
 when-off e (on h p) = apart h e
 when-off e (off h s) = (refl, s)

@@ -57,12 +57,12 @@ unfoldable pub opened : ℕ → Rooms → Answer (Unit × Client)
 opened o r =
     refuse (not (eqb (length (r .slots)) mostDescriptors)) 9 (pass (new o (capacity (r .requests)) (length (r .store))) (λ c. gives (tt, c)))
 
-pub record Opens (o : ℕ) (r : Rooms) (a : Answer (Unit × Connection)) : Type 0 where
-  pub exact : Exact same (openExact o r) r a r
-  pub model : modelOf (openExact o r) ≡ opened o r
+pub record Opens (order : ℕ) (lent : Rooms) (answer : Answer (Unit × Connection)) : Type 0 where
+  pub exact : Exact same (openExact order lent) lent answer lent
+  pub model : modelOf (openExact order lent) ≡ opened order lent
 
--- ---- the promises, call by call: what the call is exactly, and which function of the model that is. What a promise takes last is the answer and
--- the rooms (and outputs) at exit: `Sends c r kind answer left`.
+-- ---- the promises, call by call: what the call is exactly, and which function of the model that is. First comes what the call is given, state and rooms as c and r, and last the answer, the
+-- rooms at exit and the outputs at exit: `Sends c r kind answer left`, `PollsEvent c r out answer left out'`.
 
 abbrev pub Sends : Connection → Rooms → ReplyFdKind → Answer (ℕ × Connection) → Rooms → Type 0
 Sends c r kind = Promise same (sendExact c r kind) (λ m. sendRequest m kind) c r
@@ -99,8 +99,8 @@ abbrev pub PollsReply : Connection → Rooms → ℕ → List ℕ → Answer (Sh
 PollsReply c r n out = Hands shownPoll bytesOfPoll (repliedExact c r n (length out)) (λ m. pollForReply m n (length out)) c r out
 
 -- `poll_for_reply_or_error` has two outputs, for the packet and for its descriptors.
-pub record Polls (c : Connection) (r : Rooms) (n : ℕ) (out fds : List ℕ) (a : Answer (Shown × Connection)) (r' : Rooms) (out' fds' : List ℕ) : Type 0 where
-  pub packet : Hands shownTaken bytesOfTaken (takenExact c r n (length out) (length fds)) (λ m. pollForReplyOrError m n (length out) (length fds)) c r out a r' out'
+pub record Polls (c : Connection) (r : Rooms) (n : ℕ) (out fds : List ℕ) (answer : Answer (Shown × Connection)) (left : Rooms) (out' fds' : List ℕ) : Type 0 where
+  pub packet : Hands shownTaken bytesOfTaken (takenExact c r n (length out) (length fds)) (λ m. pollForReplyOrError m n (length out) (length fds)) c r out answer left out'
   pub descriptors : fds' ≡ outputOf descriptorsOfTaken (guarded c r (takenExact c r n (length out) (length fds))) fds
 
 -- ---- calls that make many steps: each is exactly its row of steps, and that is the model's row of single calls
@@ -112,8 +112,8 @@ abbrev pub EnqueuesMany : Connection → Rooms → List ℕ → Answer (ShownFed
 EnqueuesMany c r bytes = Promise shownFed (feedExact c r bytes) (λ m. enqueuePackets m bytes) c r
 
 -- `poll_for_events` has two outputs, for the packets and for their marks.
-pub record PollsEvents (c : Connection) (r : Rooms) (out marks : List ℕ) (a : Answer (ShownHandings × Connection)) (r' : Rooms) (out' marks' : List ℕ) : Type 0 where
-  pub packets : Hands shownHandings packetsOfHandings (eventsExact c r (length out) (length marks)) (λ m. pollForEvents m (length out) (length marks)) c r out a r' out'
+pub record PollsEvents (c : Connection) (r : Rooms) (out marks : List ℕ) (answer : Answer (ShownHandings × Connection)) (left : Rooms) (out' marks' : List ℕ) : Type 0 where
+  pub packets : Hands shownHandings packetsOfHandings (eventsExact c r (length out) (length marks)) (λ m. pollForEvents m (length out) (length marks)) c r out answer left out'
   pub marked : marks' ≡ outputOf marksOfHandings (guarded c r (eventsExact c r (length out) (length marks))) marks
 
 -- `prepare_check_for_reply_or_error`: 9, or the model's word; state and rooms are not even lent to be written.
