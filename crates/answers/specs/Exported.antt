@@ -17,14 +17,22 @@ abbrev pub shownOf : {A : Type 0} → (A → List ℕ) → Answer A → List ℕ
 shownOf show (gives x) v = show x
 shownOf show (refuses n) v = v
 
--- An export of a call with the promise P: it has an answer that P allows, returns its number, and shows its values.
+-- AN EXPORT of a call with the promise P: it has an answer that P allows, returns its number, and shows its values, where
+--
+--      P          says of an answer that the call below may give it
+--      show       gives the numbers that are shown of a value
+--      v, v'      the numbers behind the pointers, as they are lent and at exit
+--      code       the number returned
 pub record Exported {A : Type 0} (P : Answer A → Type 0) (show : A → List ℕ) (v v' : List ℕ) (code : ℕ) : Type 0 where
   pub answer : Answer A
   pub promise : P answer
   pub number : code ≡ returned answer
   pub values : v' ≡ shownOf show answer v
 
--- One that keeps a state in a row of numbers: a refusal leaves the row, otherwise the state handed back is put there.
+-- One that keeps a state in a row of numbers: a refusal leaves the row, otherwise the state handed back is put there. Here
+--
+--      put        gives the row with the state of what was given
+--      s, s'      the row, as it is lent and at exit
 pub record Kept {A : Type 0} (P : Answer A → Type 0) (show : A → List ℕ) (put : A → List ℕ) (v v' s s' : List ℕ) (code : ℕ) : Type 0 where
   pub exported : Exported P show v v' code
   pub state : s' ≡ shownOf put (exported .answer) s
@@ -33,6 +41,11 @@ pub record Kept {A : Type 0} (P : Answer A → Type 0) (show : A → List ℕ) (
 pub data When {A : Type 0} (b : Bool) (same : Type 0) (P : Answer A → Type 0) : Answer A → Type 0 where
   on : {a : Answer A} → b ≡ true → P a → When b same P a
   off : b ≡ false → same → When b same P (refuses 9)
+
+-- An export that tests a number or a row before its call. Where the test holds, it is one of a call with the promise P that keeps its state; where not, it
+-- returns 9, numbers and row are as found, and so are the rooms, which `same` says of them. (`xiengmado/specs/Worked.antt` has both cases.)
+abbrev pub KeptWhen : {A : Type 0} (test : Bool) (same : Type 0) (P : Answer A → Type 0) (show put : A → List ℕ) (v v' s s' : List ℕ) (code : ℕ) → Type 0
+KeptWhen test same P show put v v' s s' code = Kept (λ a. When test same P a) show put v v' s s' code
 
 -- An export that goes by the case of an enum.
 pub exported-at : {E A : Type 0} {P : Answer A → Type 0} {show : A → List ℕ} {v v' : List ℕ} {code : ℕ} (says : E → Answer A) {e k : E} → e ≡ k → P (says e) → code ≡ returned (says k)

@@ -1,4 +1,4 @@
--- `enqueue_packets` at work: computed rows of the model. Assumes nothing.
+-- `enqueue_packets` and the turns of `poll_for_events` at work: computed rows of the model. Assumes nothing.
 use mathlib.Core.Path.{_≡_, refl}
 use mathlib.Core.List.{List, [], _∷_, _++_}
 use Prim.Native.Nat.{ℕ}
@@ -11,9 +11,11 @@ use Rattle.refusal.specs.Answer.{Answer, gives, refuses, refuse, pass}
 use Rattle.sequence.specs.Numbering.{full, inRange}
 use Rattle.packet.specs.Packet.{hasLength, unnumbered, numberAfter}
 use Rattle.packet_reader.specs.Frame.{total, totalOf, aim, cuts, cutPackets}
-use Rattle.model.specs.Client.{Client, costs, descriptorsOf}
+use Rattle.model.specs.Client.{Held, Client, heldPacket, setEvents, costs, descriptorsOf}
 use Rattle.model.specs.Model as Model
-use Rattle.model.specs.Batch.{many, onTurn}
+use Rattle.model.specs.Batch as Batch
+use Rattle.model.specs.Batch.{goes, stops, many, onTurn, modelTurn}
+use Rattle.model.specs.PollForEvents.{withMarks, withoutMarks, turns, lent, roomFor, handing, eventTurn}
 use Rattle.model.specs.Feed.{Stopped, ended, partial, refused, Feeding, ShownFed, shownFed, modelTook, bytesTaken}
 use Rattle.batch.specs.Feed.{stopAt, enqueuePackets}
 
@@ -40,3 +42,31 @@ longer = 1 ∷ 0 ∷ 2 ∷ 0 ∷ 1 ∷ replicate 31 0
 pub feeds : (fed (event ++ longer ++ 2 ∷ 0 ∷ []) ≡ took 68 2 partial) × (fed (event ++ event ++ event ++ event) ≡ took 96 3 (refused 5)) × (fed (2 ∷ 0 ∷ []) ≡ took 0 0 partial) × (fed [] ≡ took 0 0 ended)
 unfolding enqueuePackets cutPackets cuts aim totalOf total hasLength stopAt many onTurn modelTook bytesTaken Model.enqueuePacket numberAfter unnumbered Model.numbered Model.askedOf Model.headOf Model.placeOf Model.claimed Model.takeIn Model.decide Model.decideBy pass refuse inRange full field numberIn cut turned bytesOf lowBytes lowNumber costs descriptorsOf choose both either
 feeds = (refl, refl, refl, refl)
+
+-- ---- the turns of `poll_for_events`
+
+-- two events, of 32 and of 36 bytes, and a state that holds these
+abbrev first : Held
+first = heldPacket 5 event []
+
+abbrev second : Held
+second = heldPacket 6 longer []
+
+abbrev holding : List Held → Client
+holding l = setEvents (Model.fresh 108 4 500) l
+
+-- Five marks are two turns with marks and the last, without.
+pub turns-five : turns 5 ≡ withMarks ∷ withMarks ∷ withoutMarks ∷ []
+unfolding turns
+turns-five = refl
+
+-- With room for 67 bytes the first turn hands out 32 bytes and leaves room for 35, in which the second event does not fit: 8 stops the row there. Room for 68 is enough for both.
+pub second-stays : (eventTurn (lent (holding (first ∷ second ∷ [])) 67) withMarks ≡ goes first (lent (holding (second ∷ [])) 35)) × (eventTurn (lent (holding (second ∷ [])) 35) withMarks ≡ stops (Batch.refused 8))
+    × (eventTurn (lent (holding (second ∷ [])) 36) withMarks ≡ goes second (lent (holding []) 0))
+unfolding eventTurn handing roomFor modelTurn Model.pollForEvent refuse choose bytesOf turned lowBytes
+second-stays = (refl, refl, refl)
+
+-- The last turn, whatever room is left: 8 where an event is left, otherwise the end.
+pub last-turn : (eventTurn (lent (holding (second ∷ [])) 100) withoutMarks ≡ stops (Batch.refused 8)) × (eventTurn (lent (holding []) 100) withoutMarks ≡ stops Batch.ended)
+unfolding eventTurn handing roomFor modelTurn Model.pollForEvent refuse choose
+last-turn = (refl, refl)

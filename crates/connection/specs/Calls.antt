@@ -57,11 +57,12 @@ unfoldable pub opened : ℕ → Rooms → Answer (Unit × Client)
 opened o r =
     refuse (not (eqb (length (r .slots)) mostDescriptors)) 9 (pass (new o (capacity (r .requests)) (length (r .store))) (λ c. gives (tt, c)))
 
-pub record Opens (o : ℕ) (r : Rooms) (a : Answer (Unit × Connection)) : Type 0 where
-  pub exact : Exact same (openExact o r) r a r
-  pub model : modelOf (openExact o r) ≡ opened o r
+pub record Opens (order : ℕ) (lent : Rooms) (answer : Answer (Unit × Connection)) : Type 0 where
+  pub exact : Exact same (openExact order lent) lent answer lent
+  pub model : modelOf (openExact order lent) ≡ opened order lent
 
--- ---- the promises, call by call: what the call is exactly, and which function of the model that is
+-- ---- the promises, call by call: what the call is exactly, and which function of the model that is. First comes what the call is given, state and rooms as c and r, and last the answer, the
+-- rooms at exit and the outputs at exit: `Sends c r kind answer left`, `PollsEvent c r out answer left out'`.
 
 abbrev pub Sends : Connection → Rooms → ReplyFdKind → Answer (ℕ × Connection) → Rooms → Type 0
 Sends c r kind = Promise same (sendExact c r kind) (λ m. sendRequest m kind) c r
@@ -75,11 +76,15 @@ Enqueues c r p = Promise same (enqueueExact c r p) (λ m. enqueuePacket m p) c r
 abbrev pub Discards : Connection → Rooms → ℕ → DiscardMode → Answer (Unit × Connection) → Rooms → Type 0
 Discards c r n mode = Promise same (gives (discardExact c r n mode)) (λ m. discardReply m n mode) c r
 
--- A call that hands something out: its promise, and what g takes of the value at the start of the lent output.
-pub record Hands {A B : Type 0} (f : A → B) (g : A → List ℕ) (e : Answer (Done A)) (m : Client → Answer (A × Client)) (c : Connection) (r : Rooms) (out : List ℕ)
-    (a : Answer (B × Connection)) (r' : Rooms) (out' : List ℕ) : Type 0 where
-  pub promise : Promise f e m c r a r'
-  pub output : out' ≡ outputOf g (guarded c r e) out
+-- A call that hands something out: its promise, and besides
+--
+--      writes     what goes into the output of a value: the bytes of a packet, say
+--      out        the output, as it is lent
+--      out'       the output at exit: what is written stands at its start, the rest as found, and so is all of it after a refusal
+pub record Hands {A B : Type 0} (shows : A → B) (writes : A → List ℕ) (outcome : Answer (Done A)) (modelled : Client → Answer (A × Client)) (state : Connection) (lent : Rooms) (out : List ℕ)
+    (answer : Answer (B × Connection)) (left : Rooms) (out' : List ℕ) : Type 0 where
+  pub promise : Promise shows outcome modelled state lent answer left
+  pub output : out' ≡ outputOf writes (guarded state lent outcome) out
 
 abbrev pub Closes : Connection → Rooms → List ℕ → Answer (ℕ × Connection) → Rooms → List ℕ → Type 0
 Closes c r out = Hands length same (closeExact c r (length out)) (λ m. takeClosed m (length out)) c r out
@@ -94,8 +99,8 @@ abbrev pub PollsReply : Connection → Rooms → ℕ → List ℕ → Answer (Sh
 PollsReply c r n out = Hands shownPoll bytesOfPoll (repliedExact c r n (length out)) (λ m. pollForReply m n (length out)) c r out
 
 -- `poll_for_reply_or_error` has two outputs, for the packet and for its descriptors.
-pub record Polls (c : Connection) (r : Rooms) (n : ℕ) (out fds : List ℕ) (a : Answer (Shown × Connection)) (r' : Rooms) (out' fds' : List ℕ) : Type 0 where
-  pub packet : Hands shownTaken bytesOfTaken (takenExact c r n (length out) (length fds)) (λ m. pollForReplyOrError m n (length out) (length fds)) c r out a r' out'
+pub record Polls (c : Connection) (r : Rooms) (n : ℕ) (out fds : List ℕ) (answer : Answer (Shown × Connection)) (left : Rooms) (out' fds' : List ℕ) : Type 0 where
+  pub packet : Hands shownTaken bytesOfTaken (takenExact c r n (length out) (length fds)) (λ m. pollForReplyOrError m n (length out) (length fds)) c r out answer left out'
   pub descriptors : fds' ≡ outputOf descriptorsOfTaken (guarded c r (takenExact c r n (length out) (length fds))) fds
 
 -- ---- calls that make many steps: each is exactly its row of steps, and that is the model's row of single calls
@@ -107,8 +112,8 @@ abbrev pub EnqueuesMany : Connection → Rooms → List ℕ → Answer (ShownFed
 EnqueuesMany c r bytes = Promise shownFed (feedExact c r bytes) (λ m. enqueuePackets m bytes) c r
 
 -- `poll_for_events` has two outputs, for the packets and for their marks.
-pub record PollsEvents (c : Connection) (r : Rooms) (out marks : List ℕ) (a : Answer (ShownHandings × Connection)) (r' : Rooms) (out' marks' : List ℕ) : Type 0 where
-  pub packets : Hands shownHandings packetsOfHandings (eventsExact c r (length out) (length marks)) (λ m. pollForEvents m (length out) (length marks)) c r out a r' out'
+pub record PollsEvents (c : Connection) (r : Rooms) (out marks : List ℕ) (answer : Answer (ShownHandings × Connection)) (left : Rooms) (out' marks' : List ℕ) : Type 0 where
+  pub packets : Hands shownHandings packetsOfHandings (eventsExact c r (length out) (length marks)) (λ m. pollForEvents m (length out) (length marks)) c r out answer left out'
   pub marked : marks' ≡ outputOf marksOfHandings (guarded c r (eventsExact c r (length out) (length marks))) marks
 
 -- `prepare_check_for_reply_or_error`: 9, or the model's word; state and rooms are not even lent to be written.

@@ -3,3 +3,5 @@ pub mod Laws
 pub mod Opening
 pub mod Theorems
 pub mod Handing
+pub mod Promises
+pub mod Worked

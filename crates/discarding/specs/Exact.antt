@@ -32,7 +32,15 @@ modeSet c q n m = choose (both (leb (c .first) n) (leb n (c .written))) (putMode
 
 -- ---- the descriptors
 
--- of r replies of the number with k behind them, the one whose descriptors are closed first: the first, or that at k mod r
+-- Those of held replies stand in the slots one reply's behind the other's, in the replies' order, and reply numbers never fall. So what the
+-- replies of one number have is one run of slots, and the reply whose turn it is cuts it in two:
+--
+--      of lower numbers | of the number, before its turn | of the number, from its turn on | of higher numbers
+--          fdsBelow                fdsBefore                         fdsFrom
+--
+-- The run from the turn on goes to the end of the close list, then the run before it. `Examples.antt` has this with numbers.
+
+-- of r replies of the number with k behind them, the one whose turn is first: under DiscardReply the first, otherwise that at k mod r
 abbrev pub turnOf : DiscardMode → ℕ → ℕ → ℕ
 turnOf DiscardMode.DiscardReply r k = 0
 turnOf DiscardMode.DiscardReplyAndError r k = k % r
@@ -40,7 +48,7 @@ turnOf DiscardMode.DiscardReplyAndError r k = k % r
 abbrev pub turnAt : DiscardMode → ℕ → List Head.Record → ℕ
 turnAt m n rs = turnOf m (length (own n rs)) (length (higher n rs))
 
--- how many descriptors lower replies have; those of the number before that one; and from it on
+-- how many descriptors each of the three parts has
 abbrev pub fdsBelow : ℕ → List Head.Record → ℕ
 fdsBelow n rs = Store.fdsIn (lower n rs)
 
@@ -50,7 +58,7 @@ fdsBefore m n rs = Store.fdsIn (take (turnAt m n rs) (own n rs))
 abbrev pub fdsFrom : DiscardMode → ℕ → List Head.Record → ℕ
 fdsFrom m n rs = Store.fdsIn (drop (turnAt m n rs) (own n rs))
 
--- two runs, side by side from place at on: the second is closed, then the first
+-- of two runs side by side, u slots from place at on and v behind them, the second is closed, then the first
 unfoldable pub closedRound : ℕ → ℕ → ℕ → Slots.Room → Slots.Room
 closedRound at u v d = Slots.closeHeld at u (Slots.closeHeld (at + u) v d)
 

@@ -4,3 +4,4 @@ pub mod Rows
 pub mod Steps
 pub mod Whole
 pub mod Theorems
+pub mod Examples

@@ -9,9 +9,7 @@ use Rattle.model.specs.Says.{saysNext, saysSent, saysEnqueued, saysPolled, says
 use Rattle.model.specs.Feed.{saysFed, fed-one}
 use Rattle.model.specs.SaysBatch.{saysSentMany, saysEvents, sentMany-one, events-one}
 use Rattle.model.specs.declared.Connection.{Connection}
-use Rattle.model.specs.declared.Next.{Next}
 use Rattle.model.specs.declared.Prepared.{Prepared}
-use Rattle.connection.specs.Calls.{Opens}
 use Rattle.connection.specs.Theorems.{one-outcome}
 use Rattle.session.specs.Ask.{Ask, send-request, enqueue-fds, enqueue-packet, discard-reply, poll-for-reply-or-error, poll-check-for-reply-or-error, poll-for-reply, poll-for-event-with-sequence, take-closed-fds, prepare-check-for-reply-or-error, send-requests, enqueue-packets, poll-for-events, form, Value, Outputs, told, Answers}
 use Rattle.session.specs.AskLaws.{outputsOf, has-form}
@@ -56,9 +54,6 @@ spoken (enqueue-packets bytes) = spoken-by saysFed fed-one
 spoken (poll-for-events out marks) = spoken-by saysEvents events-one
 
 -- ---- one outcome
-
-pub new-one : (o : ℕ) (r : Rooms) (a b : Next) → Opens o r (saysNext a) → Opens o r (saysNext b) → a ≡ b
-new-one o r a b p q = next-one a b (p .exact .answers ∙ sym (q .exact .answers))
 
 module _ (x : Ask) (c : Connection) (r : Rooms) where
   pub call-one : (a b : spoken x .Enum) (s t : Rooms) (o p : Outputs x) → Answers x c r (spoken x .says c a) s o → Answers x c r (spoken x .says c b) t p → (a ≡ b) × (s ≡ t) × (o ≡ p)

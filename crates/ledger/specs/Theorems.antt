@@ -30,6 +30,7 @@ use Rattle.model.specs.declared.Next.{Next}
 use Rattle.batch.specs.Feed.{enqueuePackets}
 use Rattle.connection.specs.Calls.{Opens, Discards, PollsReply, SendsMany, PollsEvents}
 use Rattle.connection.specs.Opening as Opening
+use Rattle.connection.specs.Promises.{opens-one}
 use Rattle.connection.specs.Theorems.{Sentence}
 use Rattle.connection.specs.Theorems as Connection
 use Rattle.honest.specs.Run as Log
@@ -161,7 +162,7 @@ module _ (c : Connection) (r : Rooms) (n : ℕ) where
 
 -- Any two answers that the promise of `new` allows are equal.
 pub new-one : (o : ℕ) (r : Rooms) (a b : Next) → Opens o r (saysNext a) → Opens o r (saysNext b) → a ≡ b
-new-one o r a b p q = Outcomes.new-one o r a b p q
+new-one o r a b p q = opens-one o r a b p q
 
 -- Whatever state and rooms any other public call is given, there is an outcome that its promise allows,
 pub call-answers : (x : Ask) → OfBytes x → (c : Connection) (r : Rooms) → (a : Answer (Value x × Connection)) × (r' : Rooms) × (o : Outputs x) × Answers x c r a r' o

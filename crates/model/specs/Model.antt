@@ -223,7 +223,8 @@ unfoldable pub errorsOf : List Held → List Held
 errorsOf [] = []
 errorsOf (h ∷ l) = choose (isError h) (asEvent h ∷ errorsOf l) (errorsOf l)
 
--- The Rust's `retain` closes what it removes from record k mod r on and then round, of r removed records with k kept behind them.
+-- The Rust's `retain` closes what it removes from record k mod r on and then round, of r removed records with k kept behind them. Of a, b and
+-- c, counted from 0, with two behind them that is from record 2 on: c, a, b; with four, from record 1 on: b, c, a.
 unfoldable pub closingOrder : ℕ → List Held → List Held
 closingOrder k l = drop (k % length l) l ++ take (k % length l) l
 

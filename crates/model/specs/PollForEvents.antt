@@ -10,11 +10,19 @@ use Rattle.model.specs.Model.{Taken, none, packet, pollForEvent}
 use Rattle.model.specs.Batch.{Turn, goes, stops, Many, many, Stop, ended, refused, meaningless, modelTurn}
 
 -- Two outputs are lent: one for the packets, and one for marks, two for each event: its number and the length of its packet.
--- One turn for each pair of marks, and a last one without any, which has no room and tells whether an event is left.
+-- A turn that has its two marks may use all the room that is left for packets; one without marks has no room, and hands nothing out.
+abbrev pub withMarks : Bool
+withMarks = true
+
+abbrev pub withoutMarks : Bool
+withoutMarks = false
+
+-- One turn for each pair of marks, and a last one without, which tells whether an event is left: it is refused by 8 if one is. Of five marks
+-- the turns are two with marks and the last without; the fifth mark is not used.
 unfoldable pub turns : ℕ → List Bool
-turns zero = false ∷ []
-turns (suc zero) = false ∷ []
-turns (suc (suc n)) = true ∷ turns n
+turns zero = withoutMarks ∷ []
+turns (suc zero) = withoutMarks ∷ []
+turns (suc (suc n)) = withMarks ∷ turns n
 
 -- a state, with the room that is left for packets
 pub record Lent (S : Type 0) : Type 0 where
@@ -24,7 +32,7 @@ pub record Lent (S : Type 0) : Type 0 where
 abbrev pub lent : {S : Type 0} → S → ℕ → Lent S
 lent s n = record { at = s; room = n }
 
--- the room of a turn
+-- the room of a turn, of what is left
 unfoldable pub roomFor : Bool → ℕ → ℕ
 roomFor marks room = choose marks room 0
 

@@ -46,15 +46,27 @@ guarded c r e = refuse (not (soundb c r)) 9 e
 abbrev pub same : {A : Type 0} → A → A
 same x = x
 
--- EXACT: answer and rooms at exit are those of the outcome e.
-pub record Exact {A B : Type 0} (f : A → B) (e : Answer (Done A)) (r : Rooms) (a : Answer (B × Connection)) (r' : Rooms) : Type 0 where
-  pub answers : a ≡ answerOf f e
-  pub leaves : r' ≡ roomsOf e r
+-- EXACT: answer and rooms at exit are those of an outcome.
+pub record Exact {A B : Type 0} (shows : A → B) (outcome : Answer (Done A)) (lent : Rooms) (answer : Answer (B × Connection)) (left : Rooms) : Type 0 where
+  pub answers : answer ≡ answerOf shows outcome
+  pub leaves : left ≡ roomsOf outcome lent
 
--- THE PROMISE of a public call: it is exactly e, or 9 where the state is not sound; and e is what the model m says of the state as it is read.
-pub record Promise {A B : Type 0} (f : A → B) (e : Answer (Done A)) (m : Client → Answer (A × Client)) (c : Connection) (r : Rooms) (a : Answer (B × Connection)) (r' : Rooms) : Type 0 where
-  pub exact : Exact f (guarded c r e) r a r'
-  pub model : modelOf (guarded c r e) ≡ guarded c r (m (reads c r))
+-- THE PROMISE of a public call, about
+--
+--      shows      what an answer shows of a value: of a packet, say, its number and its length
+--      outcome    what the call does with a sound state, exactly: value, state and rooms, or a refusal
+--      modelled   the model's function of the call
+--      state      of the connection, as the call is given it
+--      lent       the rooms, as they are lent
+--      answer     what the call answers, with the state that it hands back
+--      left       the rooms at exit
+--
+-- The call is exactly the outcome, or 9 where the state is not sound; and that outcome, as it is read, is what the model says of the state
+-- as it is read. `connection/specs/Worked.antt` has both equations with numbers.
+pub record Promise {A B : Type 0} (shows : A → B) (outcome : Answer (Done A)) (modelled : Client → Answer (A × Client)) (state : Connection) (lent : Rooms)
+    (answer : Answer (B × Connection)) (left : Rooms) : Type 0 where
+  pub exact : Exact shows (guarded state lent outcome) lent answer left
+  pub model : modelOf (guarded state lent outcome) ≡ guarded state lent (modelled (reads state lent))
 
 -- ---- laws
 

@@ -1,5 +1,6 @@
 -- THE PROMISES of the exports of the connection: a name is what was lent or handed in, with a stroke what is there at exit, and r the number returned. Beside each, that any two outcomes that it
--- allows are equal: the number returned, the numbers shown, the row, the rooms and every output. Assumes nothing.
+-- allows are equal: the number returned, the numbers shown, the row, the rooms and every output. Each says first what the call below promises of its answer; then which numbers are shown of what that
+-- gives, that the state is put into the row, and, before and after, the numbers behind the pointers and the row; and last the number returned. `Worked.antt` has one with numbers. Assumes nothing.
 use mathlib.Core.Path.{_≡_, sym, ap, _∙_}
 use mathlib.Core.List.{List, [], _∷_}
 use Prim.Native.Nat.{ℕ}
@@ -15,7 +16,7 @@ use Rattle.model.specs.declared.Connection.{Connection}
 use Rattle.connection.specs.Calls.{Opens, Sends, EnqueuesFds, Enqueues, Discards, Hands, Polls, Checks, PollsReply, PollsEvent, Closes, Prepares, SendsMany, EnqueuesMany, PollsEvents}
 use Rattle.connection.specs.Theorems.{one-outcome, hands-outcome}
 use Rattle.rows.specs.State.{connectionSlots, connectionOf}
-use Rattle.answers.specs.Exported.{Exported, Kept, When, shown-at, exported-one, kept-one, kept-left, when-one, when-left}
+use Rattle.answers.specs.Exported.{Exported, Kept, KeptWhen, shown-at, exported-one, kept-one, kept-left, when-one, when-left}
 use Rattle.model.specs.SendRequests.{kindOf}
 use Rattle.answers.specs.Shown.{nothing, stateRow, first, filing, polled, poll, event, flag, modeOf, mostKind, isMode, sendings, fed, handings}
 use Rattle.xiengmado.specs.Looking.{requestKept, requestFields, Looks, looks-one, recordFields}
@@ -37,7 +38,7 @@ events-left a b x y = let w = hands-outcome _ _ _ _ _ _ _ a b _ _ _ _ (x .packet
 module _ (state : List ℕ) (order : ℕ) (requests store slots : List ℕ) where
   abbrev pub XmConnectionNew : (state' : List ℕ) (r : ℕ) → Type 0
   XmConnectionNew state' r =
-      Kept (λ a. When (eqb (length state) connectionSlots) Unit (Opens order (rooms requests store slots)) a) nothing (stateRow state) [] [] state state' r
+      KeptWhen (eqb (length state) connectionSlots) Unit (Opens order (rooms requests store slots)) nothing (stateRow state) [] [] state state' r
 
   pub xm-connection-new-one : {state₁ : List ℕ} {r₁ : ℕ} {state₂ : List ℕ} {r₂ : ℕ} → XmConnectionNew state₁ r₁ → XmConnectionNew state₂ r₂
       → (state₁ ≡ state₂) × (r₁ ≡ r₂)
@@ -49,7 +50,9 @@ module _ (state : List ℕ) (order : ℕ) (requests store slots : List ℕ) wher
 module _ (state requests store slots : List ℕ) (kind number : ℕ) where
   abbrev pub XmSendRequest : (state' requests' : List ℕ) (number' r : ℕ) → Type 0
   XmSendRequest state' requests' number' r =
-      Kept (λ a. When (leb kind mostKind) (requests' ≡ requests) (λ b. Sends (connectionOf state) (rooms requests store slots) (kindOf kind) b (rooms requests' store slots)) a) first (stateRow state) (number ∷ []) (number' ∷ []) state state' r
+      KeptWhen (leb kind mostKind) (requests' ≡ requests)
+      (λ a. Sends (connectionOf state) (rooms requests store slots) (kindOf kind) a (rooms requests' store slots))
+      first (stateRow state) (number ∷ []) (number' ∷ []) state state' r
 
   pub xm-send-request-one : {state₁ requests₁ : List ℕ} {number₁ r₁ : ℕ} {state₂ requests₂ : List ℕ} {number₂ r₂ : ℕ} → XmSendRequest state₁ requests₁ number₁ r₁ → XmSendRequest state₂ requests₂ number₂ r₂
       → (state₁ ≡ state₂) × (requests₁ ≡ requests₂) × (number₁ ≡ number₂) × (r₁ ≡ r₂)
@@ -61,7 +64,9 @@ module _ (state requests store slots : List ℕ) (kind number : ℕ) where
 module _ (state requests store slots : List ℕ) (number mode : ℕ) where
   abbrev pub XmDiscardReply : (state' requests' store' slots' : List ℕ) (r : ℕ) → Type 0
   XmDiscardReply state' requests' store' slots' r =
-      Kept (λ a. When (isMode mode) ((rooms requests' store' slots') ≡ (rooms requests store slots)) (λ b. Discards (connectionOf state) (rooms requests store slots) number (modeOf mode) b (rooms requests' store' slots')) a) nothing (stateRow state) [] [] state state' r
+      KeptWhen (isMode mode) (rooms requests' store' slots' ≡ rooms requests store slots)
+      (λ a. Discards (connectionOf state) (rooms requests store slots) number (modeOf mode) a (rooms requests' store' slots'))
+      nothing (stateRow state) [] [] state state' r
 
   pub xm-discard-reply-one : {state₁ requests₁ store₁ slots₁ : List ℕ} {r₁ : ℕ} {state₂ requests₂ store₂ slots₂ : List ℕ} {r₂ : ℕ} → XmDiscardReply state₁ requests₁ store₁ slots₁ r₁ → XmDiscardReply state₂ requests₂ store₂ slots₂ r₂
       → (state₁ ≡ state₂) × (requests₁ ≡ requests₂) × (store₁ ≡ store₂) × (slots₁ ≡ slots₂) × (r₁ ≡ r₂)
@@ -73,7 +78,8 @@ module _ (state requests store slots : List ℕ) (number mode : ℕ) where
 module _ (state requests store slots list : List ℕ) where
   abbrev pub XmEnqueueFds : (state' slots' : List ℕ) (r : ℕ) → Type 0
   XmEnqueueFds state' slots' r =
-      Kept (λ a. EnqueuesFds (connectionOf state) (rooms requests store slots) list a (rooms requests store slots')) nothing (stateRow state) [] [] state state' r
+      Kept (λ a. EnqueuesFds (connectionOf state) (rooms requests store slots) list a (rooms requests store slots'))
+      nothing (stateRow state) [] [] state state' r
 
   pub xm-enqueue-fds-one : {state₁ slots₁ : List ℕ} {r₁ : ℕ} {state₂ slots₂ : List ℕ} {r₂ : ℕ} → XmEnqueueFds state₁ slots₁ r₁ → XmEnqueueFds state₂ slots₂ r₂
       → (state₁ ≡ state₂) × (slots₁ ≡ slots₂) × (r₁ ≡ r₂)
@@ -85,7 +91,8 @@ module _ (state requests store slots list : List ℕ) where
 module _ (state requests store slots packet : List ℕ) (place number : ℕ) where
   abbrev pub XmEnqueuePacket : (state' store' slots' : List ℕ) (place' number' r : ℕ) → Type 0
   XmEnqueuePacket state' store' slots' place' number' r =
-      Kept (λ a. Enqueues (connectionOf state) (rooms requests store slots) packet a (rooms requests store' slots')) filing (stateRow state) (place ∷ number ∷ []) (place' ∷ number' ∷ []) state state' r
+      Kept (λ a. Enqueues (connectionOf state) (rooms requests store slots) packet a (rooms requests store' slots'))
+      filing (stateRow state) (place ∷ number ∷ []) (place' ∷ number' ∷ []) state state' r
 
   pub xm-enqueue-packet-one : {state₁ store₁ slots₁ : List ℕ} {place₁ number₁ r₁ : ℕ} {state₂ store₂ slots₂ : List ℕ} {place₂ number₂ r₂ : ℕ} → XmEnqueuePacket state₁ store₁ slots₁ place₁ number₁ r₁ → XmEnqueuePacket state₂ store₂ slots₂ place₂ number₂ r₂
       → (state₁ ≡ state₂) × (store₁ ≡ store₂) × (slots₁ ≡ slots₂) × (place₁ ≡ place₂) × (number₁ ≡ number₂) × (r₁ ≡ r₂)
@@ -97,7 +104,8 @@ module _ (state requests store slots packet : List ℕ) (place number : ℕ) whe
 module _ (state requests store slots : List ℕ) (number : ℕ) (out fds : List ℕ) (found size count : ℕ) where
   abbrev pub XmPollForReplyOrError : (state' store' slots' out' fds' : List ℕ) (found' size' count' r : ℕ) → Type 0
   XmPollForReplyOrError state' store' slots' out' fds' found' size' count' r =
-      Kept (λ a. Polls (connectionOf state) (rooms requests store slots) number out fds a (rooms requests store' slots') out' fds') polled (stateRow state) (found ∷ size ∷ count ∷ []) (found' ∷ size' ∷ count' ∷ []) state state' r
+      Kept (λ a. Polls (connectionOf state) (rooms requests store slots) number out fds a (rooms requests store' slots') out' fds')
+      polled (stateRow state) (found ∷ size ∷ count ∷ []) (found' ∷ size' ∷ count' ∷ []) state state' r
 
   pub xm-poll-for-reply-or-error-one : {state₁ store₁ slots₁ out₁ fds₁ : List ℕ} {found₁ size₁ count₁ r₁ : ℕ} {state₂ store₂ slots₂ out₂ fds₂ : List ℕ} {found₂ size₂ count₂ r₂ : ℕ} → XmPollForReplyOrError state₁ store₁ slots₁ out₁ fds₁ found₁ size₁ count₁ r₁ → XmPollForReplyOrError state₂ store₂ slots₂ out₂ fds₂ found₂ size₂ count₂ r₂
       → (state₁ ≡ state₂) × (store₁ ≡ store₂) × (slots₁ ≡ slots₂) × (out₁ ≡ out₂) × (fds₁ ≡ fds₂) × (found₁ ≡ found₂) × (size₁ ≡ size₂) × (count₁ ≡ count₂) × (r₁ ≡ r₂)
@@ -109,7 +117,8 @@ module _ (state requests store slots : List ℕ) (number : ℕ) (out fds : List 
 module _ (state requests store slots : List ℕ) (number : ℕ) (out : List ℕ) (result size : ℕ) where
   abbrev pub XmPollCheckForReplyOrError : (state' store' slots' out' : List ℕ) (result' size' r : ℕ) → Type 0
   XmPollCheckForReplyOrError state' store' slots' out' result' size' r =
-      Kept (λ a. Checks (connectionOf state) (rooms requests store slots) number out a (rooms requests store' slots') out') poll (stateRow state) (result ∷ size ∷ []) (result' ∷ size' ∷ []) state state' r
+      Kept (λ a. Checks (connectionOf state) (rooms requests store slots) number out a (rooms requests store' slots') out')
+      poll (stateRow state) (result ∷ size ∷ []) (result' ∷ size' ∷ []) state state' r
 
   pub xm-poll-check-for-reply-or-error-one : {state₁ store₁ slots₁ out₁ : List ℕ} {result₁ size₁ r₁ : ℕ} {state₂ store₂ slots₂ out₂ : List ℕ} {result₂ size₂ r₂ : ℕ} → XmPollCheckForReplyOrError state₁ store₁ slots₁ out₁ result₁ size₁ r₁ → XmPollCheckForReplyOrError state₂ store₂ slots₂ out₂ result₂ size₂ r₂
       → (state₁ ≡ state₂) × (store₁ ≡ store₂) × (slots₁ ≡ slots₂) × (out₁ ≡ out₂) × (result₁ ≡ result₂) × (size₁ ≡ size₂) × (r₁ ≡ r₂)
@@ -121,7 +130,8 @@ module _ (state requests store slots : List ℕ) (number : ℕ) (out : List ℕ)
 module _ (state requests store slots : List ℕ) (number : ℕ) (out : List ℕ) (result size : ℕ) where
   abbrev pub XmPollForReply : (state' store' slots' out' : List ℕ) (result' size' r : ℕ) → Type 0
   XmPollForReply state' store' slots' out' result' size' r =
-      Kept (λ a. PollsReply (connectionOf state) (rooms requests store slots) number out a (rooms requests store' slots') out') poll (stateRow state) (result ∷ size ∷ []) (result' ∷ size' ∷ []) state state' r
+      Kept (λ a. PollsReply (connectionOf state) (rooms requests store slots) number out a (rooms requests store' slots') out')
+      poll (stateRow state) (result ∷ size ∷ []) (result' ∷ size' ∷ []) state state' r
 
   pub xm-poll-for-reply-one : {state₁ store₁ slots₁ out₁ : List ℕ} {result₁ size₁ r₁ : ℕ} {state₂ store₂ slots₂ out₂ : List ℕ} {result₂ size₂ r₂ : ℕ} → XmPollForReply state₁ store₁ slots₁ out₁ result₁ size₁ r₁ → XmPollForReply state₂ store₂ slots₂ out₂ result₂ size₂ r₂
       → (state₁ ≡ state₂) × (store₁ ≡ store₂) × (slots₁ ≡ slots₂) × (out₁ ≡ out₂) × (result₁ ≡ result₂) × (size₁ ≡ size₂) × (r₁ ≡ r₂)
@@ -133,7 +143,8 @@ module _ (state requests store slots : List ℕ) (number : ℕ) (out : List ℕ)
 module _ (state requests store slots out : List ℕ) (found number size : ℕ) where
   abbrev pub XmPollForEventWithSequence : (state' store' out' : List ℕ) (found' number' size' r : ℕ) → Type 0
   XmPollForEventWithSequence state' store' out' found' number' size' r =
-      Kept (λ a. PollsEvent (connectionOf state) (rooms requests store slots) out a (rooms requests store' slots) out') event (stateRow state) (found ∷ number ∷ size ∷ []) (found' ∷ number' ∷ size' ∷ []) state state' r
+      Kept (λ a. PollsEvent (connectionOf state) (rooms requests store slots) out a (rooms requests store' slots) out')
+      event (stateRow state) (found ∷ number ∷ size ∷ []) (found' ∷ number' ∷ size' ∷ []) state state' r
 
   pub xm-poll-for-event-with-sequence-one : {state₁ store₁ out₁ : List ℕ} {found₁ number₁ size₁ r₁ : ℕ} {state₂ store₂ out₂ : List ℕ} {found₂ number₂ size₂ r₂ : ℕ} → XmPollForEventWithSequence state₁ store₁ out₁ found₁ number₁ size₁ r₁ → XmPollForEventWithSequence state₂ store₂ out₂ found₂ number₂ size₂ r₂
       → (state₁ ≡ state₂) × (store₁ ≡ store₂) × (out₁ ≡ out₂) × (found₁ ≡ found₂) × (number₁ ≡ number₂) × (size₁ ≡ size₂) × (r₁ ≡ r₂)
@@ -145,7 +156,8 @@ module _ (state requests store slots out : List ℕ) (found number size : ℕ) w
 module _ (state requests store slots out : List ℕ) (count : ℕ) where
   abbrev pub XmTakeClosedFds : (state' slots' out' : List ℕ) (count' r : ℕ) → Type 0
   XmTakeClosedFds state' slots' out' count' r =
-      Kept (λ a. Closes (connectionOf state) (rooms requests store slots) out a (rooms requests store slots') out') first (stateRow state) (count ∷ []) (count' ∷ []) state state' r
+      Kept (λ a. Closes (connectionOf state) (rooms requests store slots) out a (rooms requests store slots') out')
+      first (stateRow state) (count ∷ []) (count' ∷ []) state state' r
 
   pub xm-take-closed-fds-one : {state₁ slots₁ out₁ : List ℕ} {count₁ r₁ : ℕ} {state₂ slots₂ out₂ : List ℕ} {count₂ r₂ : ℕ} → XmTakeClosedFds state₁ slots₁ out₁ count₁ r₁ → XmTakeClosedFds state₂ slots₂ out₂ count₂ r₂
       → (state₁ ≡ state₂) × (slots₁ ≡ slots₂) × (out₁ ≡ out₂) × (count₁ ≡ count₂) × (r₁ ≡ r₂)
@@ -169,7 +181,8 @@ module _ (state requests store slots : List ℕ) (number sync : ℕ) where
 module _ (state requests store slots kinds : List ℕ) (count number stop : ℕ) where
   abbrev pub XmSendRequests : (state' requests' : List ℕ) (count' number' stop' r : ℕ) → Type 0
   XmSendRequests state' requests' count' number' stop' r =
-      Kept (λ a. SendsMany (connectionOf state) (rooms requests store slots) kinds a (rooms requests' store slots)) sendings (stateRow state) (count ∷ number ∷ stop ∷ []) (count' ∷ number' ∷ stop' ∷ []) state state' r
+      Kept (λ a. SendsMany (connectionOf state) (rooms requests store slots) kinds a (rooms requests' store slots))
+      sendings (stateRow state) (count ∷ number ∷ stop ∷ []) (count' ∷ number' ∷ stop' ∷ []) state state' r
 
   pub xm-send-requests-one : {state₁ requests₁ : List ℕ} {count₁ number₁ stop₁ r₁ : ℕ} {state₂ requests₂ : List ℕ} {count₂ number₂ stop₂ r₂ : ℕ} → XmSendRequests state₁ requests₁ count₁ number₁ stop₁ r₁ → XmSendRequests state₂ requests₂ count₂ number₂ stop₂ r₂
       → (state₁ ≡ state₂) × (requests₁ ≡ requests₂) × (count₁ ≡ count₂) × (number₁ ≡ number₂) × (stop₁ ≡ stop₂) × (r₁ ≡ r₂)
@@ -181,7 +194,8 @@ module _ (state requests store slots kinds : List ℕ) (count number stop : ℕ)
 module _ (state requests store slots bytes : List ℕ) (size count stop : ℕ) where
   abbrev pub XmEnqueuePackets : (state' store' slots' : List ℕ) (size' count' stop' r : ℕ) → Type 0
   XmEnqueuePackets state' store' slots' size' count' stop' r =
-      Kept (λ a. EnqueuesMany (connectionOf state) (rooms requests store slots) bytes a (rooms requests store' slots')) fed (stateRow state) (size ∷ count ∷ stop ∷ []) (size' ∷ count' ∷ stop' ∷ []) state state' r
+      Kept (λ a. EnqueuesMany (connectionOf state) (rooms requests store slots) bytes a (rooms requests store' slots'))
+      fed (stateRow state) (size ∷ count ∷ stop ∷ []) (size' ∷ count' ∷ stop' ∷ []) state state' r
 
   pub xm-enqueue-packets-one : {state₁ store₁ slots₁ : List ℕ} {size₁ count₁ stop₁ r₁ : ℕ} {state₂ store₂ slots₂ : List ℕ} {size₂ count₂ stop₂ r₂ : ℕ} → XmEnqueuePackets state₁ store₁ slots₁ size₁ count₁ stop₁ r₁ → XmEnqueuePackets state₂ store₂ slots₂ size₂ count₂ stop₂ r₂
       → (state₁ ≡ state₂) × (store₁ ≡ store₂) × (slots₁ ≡ slots₂) × (size₁ ≡ size₂) × (count₁ ≡ count₂) × (stop₁ ≡ stop₂) × (r₁ ≡ r₂)
@@ -193,7 +207,8 @@ module _ (state requests store slots bytes : List ℕ) (size count stop : ℕ) w
 module _ (state requests store slots out marks : List ℕ) (count size stop : ℕ) where
   abbrev pub XmPollForEvents : (state' store' out' marks' : List ℕ) (count' size' stop' r : ℕ) → Type 0
   XmPollForEvents state' store' out' marks' count' size' stop' r =
-      Kept (λ a. PollsEvents (connectionOf state) (rooms requests store slots) out marks a (rooms requests store' slots) out' marks') handings (stateRow state) (count ∷ size ∷ stop ∷ []) (count' ∷ size' ∷ stop' ∷ []) state state' r
+      Kept (λ a. PollsEvents (connectionOf state) (rooms requests store slots) out marks a (rooms requests store' slots) out' marks')
+      handings (stateRow state) (count ∷ size ∷ stop ∷ []) (count' ∷ size' ∷ stop' ∷ []) state state' r
 
   pub xm-poll-for-events-one : {state₁ store₁ out₁ marks₁ : List ℕ} {count₁ size₁ stop₁ r₁ : ℕ} {state₂ store₂ out₂ marks₂ : List ℕ} {count₂ size₂ stop₂ r₂ : ℕ} → XmPollForEvents state₁ store₁ out₁ marks₁ count₁ size₁ stop₁ r₁ → XmPollForEvents state₂ store₂ out₂ marks₂ count₂ size₂ stop₂ r₂
       → (state₁ ≡ state₂) × (store₁ ≡ store₂) × (out₁ ≡ out₂) × (marks₁ ≡ marks₂) × (count₁ ≡ count₂) × (size₁ ≡ size₂) × (stop₁ ≡ stop₂) × (r₁ ≡ r₂)
