@@ -3,3 +3,4 @@ pub mod Laws
 pub mod Opening
 pub mod Theorems
 pub mod Handing
+pub mod Examples

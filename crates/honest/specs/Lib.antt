@@ -9,3 +9,4 @@ pub mod Computing
 pub mod Needed
 pub mod Test
 pub mod Witness
+pub mod Examples

@@ -4,3 +4,4 @@ pub mod Exports
 pub mod ExportsLeaves
 pub mod ExportsReader
 pub mod ExportsHandshake
+pub mod Examples
