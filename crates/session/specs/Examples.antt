@@ -1,5 +1,6 @@
 -- The log at work, computed: each packet of a run of bytes is noted with the true number that is its own, whatever number the engine gives it. Assumes nothing.
 use mathlib.Core.Path.{_≡_, refl}
+use mathlib.Core.Bool.{true, false}
 use mathlib.Core.List.{List, [], _∷_, _++_}
 use Prim.Native.Nat.{ℕ}
 use lib.ListN.{replicate}
