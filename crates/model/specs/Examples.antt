@@ -74,12 +74,12 @@ row3 = record {
   said = number 1 ∷ done ∷ filed Replies 1 ∷ took (heldPacket 1 (pk 1 2 1) (3 ∷ 4 ∷ [])) ∷ closed (3 ∷ 4 ∷ []) ∷ filed Replies 1 ∷ took (heldPacket 1 (pk 1 1 1) (5 ∷ [])) ∷ closed (5 ∷ []) ∷ filed Replies 1 ∷ took (heldPacket 1 (pk 1 1 1) (6 ∷ [])) ∷ closed [] ∷ [];
 }
 
--- the answered request stays: a second reply has its mode and takes descriptors, an error is dropped
+-- the answered request stays: a second reply has its mode and takes descriptors, the first of those that wait, and an error is dropped
 abbrev row4 : Row
 row4 = record {
   start = Model.fresh 108 4 500;
-  calls = send ReplyWithFds ∷ enqueue-fds (6 ∷ 7 ∷ 8 ∷ []) ∷ discard 1 DiscardReplyAndError ∷ enqueue (pk 1 1 1) ∷ enqueue (pk 1 1 1) ∷ enqueue (pk 0 0 1) ∷ take-closed 2 ∷ [];
-  said = number 1 ∷ done ∷ done ∷ filed Dropped 1 ∷ filed Dropped 1 ∷ filed Dropped 1 ∷ closed (6 ∷ 7 ∷ []) ∷ [];
+  calls = send ReplyWithFds ∷ enqueue-fds (6 ∷ []) ∷ enqueue-fds (7 ∷ 8 ∷ []) ∷ discard 1 DiscardReplyAndError ∷ enqueue (pk 1 1 1) ∷ enqueue (pk 1 1 1) ∷ enqueue (pk 0 0 1) ∷ take-closed 2 ∷ [];
+  said = number 1 ∷ done ∷ done ∷ done ∷ filed Dropped 1 ∷ filed Dropped 1 ∷ filed Dropped 1 ∷ closed (6 ∷ 7 ∷ []) ∷ [];
 }
 
 -- next reply expected can fall; a number above the last written lets every request go
@@ -327,13 +327,21 @@ row36 = record {
   said = refused 3 ∷ refused 5 ∷ [];
 }
 
+-- codes 128 and 129 are no error and no reply, though 0 and 1 with the top bit
+abbrev row37 : Row
+row37 = record {
+  start = Model.fresh 108 4 500;
+  calls = send ReplyWithFds ∷ enqueue (pk 128 7 1) ∷ enqueue (pk 129 1 1) ∷ discard 1 DiscardReplyAndError ∷ enqueue (pk 128 8 1) ∷ enqueue (pk 129 2 1) ∷ [];
+  said = number 1 ∷ filed Events 1 ∷ filed Events 1 ∷ done ∷ filed Events 1 ∷ filed Events 1 ∷ [];
+}
+
 abbrev pub table : List Row
-table = row1 ∷ row2 ∷ row3 ∷ row4 ∷ row5 ∷ row6 ∷ row7 ∷ row8 ∷ row9 ∷ row10 ∷ row11 ∷ row12 ∷ row13 ∷ row14 ∷ row15 ∷ row16 ∷ row17 ∷ row18 ∷ row19 ∷ row20 ∷ row21 ∷ row22 ∷ row23 ∷ row24 ∷ row25 ∷ row26 ∷ row27 ∷ row28 ∷ row29 ∷ row30 ∷ row31 ∷ row32 ∷ row33 ∷ row34 ∷ row35 ∷ row36 ∷ []
+table = row1 ∷ row2 ∷ row3 ∷ row4 ∷ row5 ∷ row6 ∷ row7 ∷ row8 ∷ row9 ∷ row10 ∷ row11 ∷ row12 ∷ row13 ∷ row14 ∷ row15 ∷ row16 ∷ row17 ∷ row18 ∷ row19 ∷ row20 ∷ row21 ∷ row22 ∷ row23 ∷ row24 ∷ row25 ∷ row26 ∷ row27 ∷ row28 ∷ row29 ∷ row30 ∷ row31 ∷ row32 ∷ row33 ∷ row34 ∷ row35 ∷ row36 ∷ row37 ∷ []
 
 -- THE EXAMPLES: each row runs as it says.
 pub examples : All table
 unfolding run step Model.sendRequest Model.enqueueFds Model.enqueuePacket Model.discardReply Model.takeClosed Model.pollForReplyOrError Model.pollCheck Model.pollForReply Model.prepareCheck Model.pollForEvent Model.find pass refuse sending mustSync both either choose numberAfter unnumbered inRange full field numberIn cut turned bytesOf lowBytes lowNumber Model.numbered Model.askedOf Model.headOf Model.placeOf Model.claimed Model.takeIn Model.decide Model.decideBy costs descriptorsOf Model.withMode underMode Model.ofNumber Model.notOf Model.above Model.errorsOf Model.closingOrder
-examples = (refl, (refl, (refl, (refl, (refl, (refl, (refl, (refl, (refl, (refl, (refl, (refl, (refl, (refl, (refl, (refl, (refl, (refl, (refl, (refl, (refl, (refl, (refl, (refl, (refl, (refl, (refl, (refl, (refl, (refl, (refl, (refl, (refl, (refl, (refl, (refl, tt))))))))))))))))))))))))))))))))))))
+examples = (refl, (refl, (refl, (refl, (refl, (refl, (refl, (refl, (refl, (refl, (refl, (refl, (refl, (refl, (refl, (refl, (refl, (refl, (refl, (refl, (refl, (refl, (refl, (refl, (refl, (refl, (refl, (refl, (refl, (refl, (refl, (refl, (refl, (refl, (refl, (refl, (refl, tt)))))))))))))))))))))))))))))))))))))
 
 -- the least store, as the rules have it
 pub least-store : _≡_ {A = ℕ} Model.leastStore 48
