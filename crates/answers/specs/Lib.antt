@@ -1,2 +1,3 @@
 pub mod Exported
 pub mod Shown
+pub mod Examples

@@ -5,3 +5,4 @@ pub mod Theorems
 pub mod Handing
 pub mod Promises
 pub mod Worked
+pub mod Examples

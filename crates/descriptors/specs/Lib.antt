@@ -4,3 +4,4 @@ pub mod Steps
 pub mod Parts
 pub mod Counting
 pub mod Theorems
+pub mod Examples

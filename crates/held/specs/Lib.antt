@@ -14,3 +14,4 @@ pub mod Keeps
 pub mod Theorems
 pub mod Tally
 pub mod First
+pub mod Examples

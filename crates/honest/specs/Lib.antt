@@ -11,3 +11,4 @@ pub mod Computing
 pub mod Needed
 pub mod Test
 pub mod Witness
+pub mod Examples

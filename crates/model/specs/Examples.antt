@@ -15,7 +15,7 @@ use Rattle.sequence.specs.Numbering.{full, inRange}
 use Rattle.sequence.specs.Sending.{sending, mustSync}
 use Rattle.packet.specs.Packet.{unnumbered, numberAfter}
 use Rattle.requests.specs.Room.{underMode}
-use Rattle.model.specs.Client.{Client, heldPacket, costs, descriptorsOf, setNumbers, setOutstanding, setEvents}
+use Rattle.model.specs.Client.{Client, heldPacket, costs, descriptorsOf, setNumbers, setOutstanding, setReplies, setEvents, setWaiting, setClosing}
 use Rattle.model.specs.Model as Model
 use Rattle.model.specs.Calls.{Call, send, enqueue-fds, enqueue, discard, poll, check, poll-reply, prepare, poll-event, take-closed, Said, number, done, filed, nothing, took, again, absent, answer, closed, refused, step, run}
 use Rattle.model.specs.Batch as Batch
@@ -74,12 +74,12 @@ row3 = record {
   said = number 1 ∷ done ∷ filed Replies 1 ∷ took (heldPacket 1 (pk 1 2 1) (3 ∷ 4 ∷ [])) ∷ closed (3 ∷ 4 ∷ []) ∷ filed Replies 1 ∷ took (heldPacket 1 (pk 1 1 1) (5 ∷ [])) ∷ closed (5 ∷ []) ∷ filed Replies 1 ∷ took (heldPacket 1 (pk 1 1 1) (6 ∷ [])) ∷ closed [] ∷ [];
 }
 
--- the answered request stays: a second reply has its mode and takes descriptors, an error is dropped
+-- the answered request stays: a second reply has its mode and takes descriptors, the first of those that wait, and an error is dropped
 abbrev row4 : Row
 row4 = record {
   start = Model.fresh 108 4 500;
-  calls = send ReplyWithFds ∷ enqueue-fds (6 ∷ 7 ∷ 8 ∷ []) ∷ discard 1 DiscardReplyAndError ∷ enqueue (pk 1 1 1) ∷ enqueue (pk 1 1 1) ∷ enqueue (pk 0 0 1) ∷ take-closed 2 ∷ [];
-  said = number 1 ∷ done ∷ done ∷ filed Dropped 1 ∷ filed Dropped 1 ∷ filed Dropped 1 ∷ closed (6 ∷ 7 ∷ []) ∷ [];
+  calls = send ReplyWithFds ∷ enqueue-fds (6 ∷ []) ∷ enqueue-fds (7 ∷ 8 ∷ []) ∷ discard 1 DiscardReplyAndError ∷ enqueue (pk 1 1 1) ∷ enqueue (pk 1 1 1) ∷ enqueue (pk 0 0 1) ∷ take-closed 2 ∷ [];
+  said = number 1 ∷ done ∷ done ∷ done ∷ filed Dropped 1 ∷ filed Dropped 1 ∷ filed Dropped 1 ∷ closed (6 ∷ 7 ∷ []) ∷ [];
 }
 
 -- next reply expected can fall; a number above the last written lets every request go
@@ -185,13 +185,163 @@ row19 = record {
   said = number 1 ∷ number 2 ∷ filed Events 1 ∷ filed Replies 1 ∷ filed Replies 2 ∷ done ∷ absent ∷ took (heldPacket 1 (pk 2 0 1) []) ∷ took (heldPacket 1 (pk 0 7 1) []) ∷ took (heldPacket 2 (pk 0 8 2) []) ∷ [];
 }
 
+-- a request with an ordinary reply, or with none, has no descriptors, whatever byte 1 of a reply says
+abbrev row20 : Row
+row20 = record {
+  start = Model.fresh 108 4 500;
+  calls = enqueue-fds (5 ∷ 6 ∷ []) ∷ send ReplyWithoutFds ∷ send NoReply ∷ enqueue (pk 1 2 1) ∷ enqueue (pk 1 3 2) ∷ poll 1 32 0 ∷ poll 2 32 0 ∷ [];
+  said = done ∷ number 1 ∷ number 2 ∷ filed Replies 1 ∷ filed Replies 2 ∷ took (heldPacket 1 (pk 1 2 1) []) ∷ took (heldPacket 2 (pk 1 3 2) []) ∷ [];
+}
+
+-- a reply with no outstanding request is held, and takes no descriptors
+abbrev row21 : Row
+row21 = record {
+  start = Model.fresh 108 4 500;
+  calls = enqueue-fds (5 ∷ []) ∷ enqueue (pk 1 1 7) ∷ poll 7 32 0 ∷ [];
+  said = done ∷ filed Replies 7 ∷ took (heldPacket 7 (pk 1 1 7) []) ∷ [];
+}
+
+-- each discard of a request sets its mode anew, and whether it has descriptors stays
+abbrev row22 : Row
+row22 = record {
+  start = Model.fresh 108 4 500;
+  calls = send ReplyWithFds ∷ enqueue-fds (5 ∷ 6 ∷ []) ∷ discard 1 DiscardReply ∷ discard 1 DiscardReplyAndError ∷ enqueue (pk 0 7 1) ∷ discard 1 DiscardReply ∷ enqueue (pk 0 8 1) ∷ enqueue (pk 1 1 1) ∷ take-closed 1 ∷ [];
+  said = number 1 ∷ done ∷ done ∷ done ∷ filed Dropped 1 ∷ done ∷ filed Events 1 ∷ filed Dropped 1 ∷ closed (5 ∷ []) ∷ [];
+}
+
+-- a discard of a number that is not outstanding, below or above, sets no mode
+abbrev row23 : Row
+row23 = record {
+  start = Model.fresh 108 4 500;
+  calls = send NoReply ∷ send NoReply ∷ enqueue (pk 2 0 2) ∷ discard 1 DiscardReplyAndError ∷ discard 3 DiscardReplyAndError ∷ send NoReply ∷ enqueue (pk 0 7 2) ∷ enqueue (pk 0 8 3) ∷ [];
+  said = number 1 ∷ number 2 ∷ filed Events 2 ∷ done ∷ done ∷ number 3 ∷ filed Replies 2 ∷ filed Replies 3 ∷ [];
+}
+
+-- a packet of a number below the first outstanding one has no request
+abbrev row24 : Row
+row24 = record {
+  start = Model.fresh 108 4 500;
+  calls = send ReplyWithFds ∷ enqueue (pk 0 7 0) ∷ discard 1 DiscardReply ∷ enqueue (pk 1 2 0) ∷ [];
+  said = number 1 ∷ filed Events 0 ∷ done ∷ filed Replies 0 ∷ [];
+}
+
+-- an event takes no descriptors, whatever its byte 1; 4 for a reply that would be dropped too
+abbrev row25 : Row
+row25 = record {
+  start = Model.fresh 108 4 500;
+  calls = send ReplyWithFds ∷ enqueue-fds (5 ∷ []) ∷ enqueue (pk 2 3 1) ∷ discard 1 DiscardReply ∷ enqueue (pk 1 2 1) ∷ enqueue (pk 1 1 1) ∷ take-closed 1 ∷ [];
+  said = number 1 ∷ done ∷ filed Events 1 ∷ done ∷ refused 4 ∷ filed Dropped 1 ∷ closed (5 ∷ []) ∷ [];
+}
+
+-- replies as they are held, between others: three of request 2, and two errors among three of request 3
+abbrev threes : Client
+threes = setReplies (numbersAt 9 0 6) (heldPacket 1 (pk 1 1 1) (1 ∷ []) ∷ heldPacket 2 (pk 1 1 2) (2 ∷ []) ∷ heldPacket 2 (pk 1 1 2) (3 ∷ []) ∷ heldPacket 2 (pk 1 1 2) (4 ∷ []) ∷ heldPacket 5 (pk 1 1 5) (6 ∷ []) ∷ [])
+
+abbrev errors : Client
+errors = setReplies (numbersAt 9 0 6) (heldPacket 3 (pk 0 1 3) (5 ∷ []) ∷ heldPacket 3 (pk 1 2 3) (6 ∷ []) ∷ heldPacket 3 (pk 0 4 3) [] ∷ heldPacket 4 (pk 1 5 4) (7 ∷ 8 ∷ []) ∷ [])
+
+-- DiscardReplyAndError closes from the record on that as many as are held above it say, and round
+abbrev row26 : Row
+row26 = record {
+  start = threes;
+  calls = discard 2 DiscardReplyAndError ∷ take-closed 3 ∷ poll 5 32 1 ∷ poll 1 32 1 ∷ [];
+  said = done ∷ closed (3 ∷ 4 ∷ 2 ∷ []) ∷ took (heldPacket 5 (pk 1 1 5) (6 ∷ [])) ∷ took (heldPacket 1 (pk 1 1 1) (1 ∷ [])) ∷ [];
+}
+
+-- under DiscardReply errors become events in their order, without descriptors; under DiscardReplyAndError they go
+abbrev row27 : Row
+row27 = record {
+  start = errors;
+  calls = discard 3 DiscardReply ∷ take-closed 2 ∷ poll-event 32 ∷ poll-event 32 ∷ poll-event 32 ∷ [];
+  said = done ∷ closed (5 ∷ 6 ∷ []) ∷ took (heldPacket 3 (pk 0 1 3) []) ∷ took (heldPacket 3 (pk 0 4 3) []) ∷ nothing ∷ [];
+}
+
+abbrev row28 : Row
+row28 = record {
+  start = errors;
+  calls = discard 3 DiscardReplyAndError ∷ take-closed 2 ∷ poll-event 32 ∷ poll 3 32 9 ∷ [];
+  said = done ∷ closed (6 ∷ 5 ∷ []) ∷ nothing ∷ nothing ∷ [];
+}
+
+-- polling: the oldest of the number, behind others or not; `poll_check` hands out an error, `poll_for_reply` turns it into an event and closes what it has; 8 for a reply and none for an error
+abbrev row29 : Row
+row29 = record {
+  start = errors;
+  calls = poll 4 32 1 ∷ poll-reply 4 31 ∷ poll 4 32 2 ∷ poll-reply 3 0 ∷ take-closed 1 ∷ check 3 32 ∷ take-closed 1 ∷ check 3 32 ∷ poll-event 32 ∷ poll-event 32 ∷ [];
+  said = refused 8 ∷ refused 8 ∷ took (heldPacket 4 (pk 1 5 4) (7 ∷ 8 ∷ [])) ∷ absent ∷ closed (5 ∷ []) ∷ took (heldPacket 3 (pk 1 2 3) (6 ∷ [])) ∷ closed (6 ∷ []) ∷ took (heldPacket 3 (pk 0 4 3) []) ∷ took (heldPacket 3 (pk 0 1 3) []) ∷ nothing ∷ [];
+}
+
+-- the close list leaves whole or, by 8, not at all
+abbrev row30 : Row
+row30 = record {
+  start = setClosing (Model.fresh 108 4 500) (5 ∷ 6 ∷ 7 ∷ []);
+  calls = take-closed 2 ∷ take-closed 3 ∷ take-closed 0 ∷ [];
+  said = refused 8 ∷ closed (5 ∷ 6 ∷ 7 ∷ []) ∷ closed [] ∷ [];
+}
+
+-- descriptors inside are those waiting, those held and those to be closed
+abbrev row31 : Row
+row31 = record {
+  start = setClosing (setWaiting (setReplies (numbersAt 9 0 6) (heldPacket 1 (pk 1 56 1) (replicate 56 1) ∷ [])) (replicate 99 2)) (replicate 100 3);
+  calls = enqueue-fds (8 ∷ 9 ∷ []) ∷ enqueue-fds (8 ∷ []) ∷ enqueue-fds (9 ∷ []) ∷ [];
+  said = refused 5 ∷ done ∷ refused 5 ∷ [];
+}
+
+-- used is what both lists cost, 16 bytes with each packet, and room given back counts at once
+abbrev row32 : Row
+row32 = record {
+  start = Model.fresh 108 4 120;
+  calls = send NoReply ∷ enqueue (pk 0 7 1) ∷ enqueue (pk 2 0 1) ∷ enqueue (pk 3 0 1) ∷ poll 1 32 0 ∷ enqueue (pk 3 0 1) ∷ [];
+  said = number 1 ∷ filed Replies 1 ∷ filed Events 1 ∷ refused 5 ∷ took (heldPacket 1 (pk 0 7 1) []) ∷ filed Events 1 ∷ [];
+}
+
+-- code 11 does not raise next reply expected to a last read that is above it
+abbrev row33 : Row
+row33 = record {
+  start = Model.fresh 108 4 500;
+  calls = send ReplyWithoutFds ∷ enqueue (pk 2 0 900) ∷ send ReplyWithoutFds ∷ enqueue (pk 11 0 7) ∷ prepare 900 ∷ prepare 3 ∷ prepare 2 ∷ [];
+  said = number 1 ∷ filed Events 900 ∷ number 2 ∷ filed Events 900 ∷ answer true ∷ answer true ∷ answer false ∷ [];
+}
+
+-- sending leaves the last read, by which alone NoReply is said
+abbrev row34 : Row
+row34 = record {
+  start = numbersAt 5 0 3;
+  calls = send ReplyWithoutFds ∷ check 3 0 ∷ check 2 0 ∷ poll-reply 2 0 ∷ [];
+  said = number 6 ∷ again ∷ absent ∷ again ∷ [];
+}
+
+-- a packet's number stands in the order of the connection
+abbrev row35 : Row
+row35 = record {
+  start = Model.fresh 66 4 500;
+  calls = send NoReply ∷ enqueue (0 ∷ 7 ∷ 0 ∷ 1 ∷ replicate 28 0) ∷ enqueue (2 ∷ 0 ∷ 1 ∷ 2 ∷ replicate 28 0) ∷ [];
+  said = number 1 ∷ filed Replies 1 ∷ filed Events 258 ∷ [];
+}
+
+-- 3 before 5
+abbrev row36 : Row
+row36 = record {
+  start = setEvents (setNumbers (Model.fresh 108 4 48) (record { written = 9; expected = 0; read = 9223372036854775807 })) (heldPacket 5 (pk 2 0 5) [] ∷ []);
+  calls = enqueue (pk 2 0 0) ∷ enqueue (pk 2 0 65535) ∷ [];
+  said = refused 3 ∷ refused 5 ∷ [];
+}
+
+-- codes 128 and 129 are no error and no reply, though 0 and 1 with the top bit
+abbrev row37 : Row
+row37 = record {
+  start = Model.fresh 108 4 500;
+  calls = send ReplyWithFds ∷ enqueue (pk 128 7 1) ∷ enqueue (pk 129 1 1) ∷ discard 1 DiscardReplyAndError ∷ enqueue (pk 128 8 1) ∷ enqueue (pk 129 2 1) ∷ [];
+  said = number 1 ∷ filed Events 1 ∷ filed Events 1 ∷ done ∷ filed Events 1 ∷ filed Events 1 ∷ [];
+}
+
 abbrev pub table : List Row
-table = row1 ∷ row2 ∷ row3 ∷ row4 ∷ row5 ∷ row6 ∷ row7 ∷ row8 ∷ row9 ∷ row10 ∷ row11 ∷ row12 ∷ row13 ∷ row14 ∷ row15 ∷ row16 ∷ row17 ∷ row18 ∷ row19 ∷ []
+table = row1 ∷ row2 ∷ row3 ∷ row4 ∷ row5 ∷ row6 ∷ row7 ∷ row8 ∷ row9 ∷ row10 ∷ row11 ∷ row12 ∷ row13 ∷ row14 ∷ row15 ∷ row16 ∷ row17 ∷ row18 ∷ row19 ∷ row20 ∷ row21 ∷ row22 ∷ row23 ∷ row24 ∷ row25 ∷ row26 ∷ row27 ∷ row28 ∷ row29 ∷ row30 ∷ row31 ∷ row32 ∷ row33 ∷ row34 ∷ row35 ∷ row36 ∷ row37 ∷ []
 
 -- THE EXAMPLES: each row runs as it says.
 pub examples : All table
 unfolding run step Model.sendRequest Model.enqueueFds Model.enqueuePacket Model.discardReply Model.takeClosed Model.pollForReplyOrError Model.pollCheck Model.pollForReply Model.prepareCheck Model.pollForEvent Model.find pass refuse sending mustSync both either choose numberAfter unnumbered inRange full field numberIn cut turned bytesOf lowBytes lowNumber Model.numbered Model.askedOf Model.headOf Model.placeOf Model.claimed Model.takeIn Model.decide Model.decideBy costs descriptorsOf Model.withMode underMode Model.ofNumber Model.notOf Model.above Model.errorsOf Model.closingOrder
-examples = (refl, (refl, (refl, (refl, (refl, (refl, (refl, (refl, (refl, (refl, (refl, (refl, (refl, (refl, (refl, (refl, (refl, (refl, (refl, tt)))))))))))))))))))
+examples = (refl, (refl, (refl, (refl, (refl, (refl, (refl, (refl, (refl, (refl, (refl, (refl, (refl, (refl, (refl, (refl, (refl, (refl, (refl, (refl, (refl, (refl, (refl, (refl, (refl, (refl, (refl, (refl, (refl, (refl, (refl, (refl, (refl, (refl, (refl, (refl, (refl, tt)))))))))))))))))))))))))))))))))))))
 
 -- the least store, as the rules have it
 pub least-store : _≡_ {A = ℕ} Model.leastStore 48

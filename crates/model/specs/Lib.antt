@@ -17,3 +17,4 @@ pub mod SaysBatch
 pub mod Feed
 pub mod Encoding
 pub mod EncodingLaws
+pub mod Parts

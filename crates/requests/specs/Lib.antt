@@ -3,3 +3,4 @@ pub mod Upto
 pub mod Slots
 pub mod Legal
 pub mod Theorems
+pub mod Examples

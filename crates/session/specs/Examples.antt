@@ -1,5 +1,6 @@
 -- The log at work, computed: each packet of a run of bytes is noted with the true number that is its own, whatever number the engine gives it. Assumes nothing.
 use mathlib.Core.Path.{_≡_, refl}
+use mathlib.Core.Bool.{true, false}
 use mathlib.Core.List.{List, [], _∷_, _++_}
 use Prim.Native.Nat.{ℕ}
 use lib.ListN.{replicate}
@@ -13,12 +14,13 @@ use Rattle.packet.specs.Packet.{hasLength, unnumbered, numberAfter}
 use Rattle.packet_reader.specs.Frame.{total, totalOf, aim, cuts, cutPackets}
 use Rattle.model.specs.Client.{costs}
 use Rattle.model.specs.Model as Model
-use Rattle.model.specs.Batch.{many, onTurn, notes}
+use Rattle.model.specs.Batch.{many, onTurn, refused, notes}
 use Rattle.model.specs.Feed.{modelTook}
 use Rattle.model.specs.declared.Place.the-variants.{Events}
 use Rattle.batch.specs.Feed.{stopAt, enqueuePackets}
-use Rattle.honest.specs.Run.{Entry, took, noteTook}
-use Rattle.session.specs.Noting.{notePacket, tookOf, noteFed}
+use Rattle.honest.specs.Run.{Entry, sent, took, noteTook}
+use Rattle.session.specs.Noting.{next, rest, notePacket, tookOf, noteFed}
+use Rattle.session.specs.Session.{sentAll, noteSends}
 
 -- an event of 32 bytes: its code and its wire number
 abbrev event : ℕ → ℕ → List ℕ
@@ -37,3 +39,9 @@ fed = refl
 pub alone : (noteTook 70 (event 2 1) (gives (record { place = Events; number = 1 }, tt {0})) [] ≡ taken 70 (event 2 1) 1 ∷ []) × (noteTook {A = Unit {0}} 70 (event 2 1) (refuses 5) [] ≡ [])
 unfolding noteTook unnumbered choose bytesOf lowBytes turned
 alone = (refl, refl)
+
+-- of the bytes of `send_requests` those that were sent, the latest first: 1 and 2 with a reply, 0 without; nothing of a refusal; the next true number, and none left
+pub sends : (noteSends {A = Unit {0}} (1 ∷ 0 ∷ 2 ∷ 1 ∷ []) (gives (record { count = 3; last = 9; stopped = refused 5 }, tt)) [] ≡ sent true ∷ sent false ∷ sent true ∷ []) × (noteSends {A = Unit {0}} (1 ∷ []) (refuses 9) (sent false ∷ []) ≡ sent false ∷ [])
+    × (next (7 ∷ 8 ∷ []) ≡ 7) × (rest (7 ∷ 8 ∷ []) ≡ 8 ∷ []) × (rest [] ≡ [])
+unfolding noteSends sentAll
+sends = (refl, refl, refl, refl, refl)

@@ -5,3 +5,4 @@ pub mod ExportsLeaves
 pub mod ExportsReader
 pub mod ExportsHandshake
 pub mod Worked
+pub mod Examples
