@@ -1,10 +1,11 @@
 -- The log at work, computed: each packet of a run of bytes is noted with the true number that is its own, whatever number the engine gives it. Assumes nothing.
-use mathlib.Core.Path.{_≡_, refl}
+use mathlib.Core.Path.{_≡_, refl, ap}
 use mathlib.Core.Bool.{true, false}
 use mathlib.Core.List.{List, [], _∷_, _++_}
 use Prim.Native.Nat.{ℕ}
+use native.Mathlib.Omega.{arith}
 use lib.ListN.{replicate}
-use Rattle.refusal.specs.Answer.{gives, refuses, refuse, pass}
+use Rattle.refusal.specs.Answer.{gives, refuses, refuse, pass, gives-same}
 use Rattle.octets.specs.Logic.{choose, both, either}
 use Rattle.octets.specs.Bytes.{bytesOf, numberIn, lowBytes, lowNumber, turned}
 use Rattle.octets.specs.Put.{cut}
@@ -12,13 +13,16 @@ use Rattle.octets.specs.Field.{field}
 use Rattle.sequence.specs.Numbering.{full, inRange}
 use Rattle.packet.specs.Packet.{hasLength, unnumbered, numberAfter}
 use Rattle.packet_reader.specs.Frame.{total, totalOf, aim, cuts, cutPackets}
-use Rattle.model.specs.Client.{costs}
+use Rattle.model.specs.Client.{Held, Client, heldPacket, costs, setNumbers, setEvents}
 use Rattle.model.specs.Model as Model
 use Rattle.model.specs.Batch.{many, onTurn, refused, notes}
 use Rattle.model.specs.Feed.{modelTook}
 use Rattle.model.specs.declared.Place.the-variants.{Events}
 use Rattle.batch.specs.Feed.{stopAt, enqueuePackets}
 use Rattle.honest.specs.Run.{Entry, sent, took, noteTook}
+use Rattle.honest.specs.Server.{Packet}
+use Rattle.session.specs.Ask.{poll-for-reply-or-error, poll-check-for-reply-or-error, poll-for-reply, poll-for-event-with-sequence, poll-for-events}
+use Rattle.session.specs.Serving.{FiledAll, handedOut}
 use Rattle.session.specs.Noting.{next, rest, notePacket, tookOf, noteFed}
 use Rattle.session.specs.Session.{sentAll, noteSends}
 
@@ -45,3 +49,25 @@ pub sends : (noteSends {A = Unit {0}} (1 ∷ 0 ∷ 2 ∷ 1 ∷ []) (gives (recor
     × (next (7 ∷ 8 ∷ []) ≡ 7) × (rest (7 ∷ 8 ∷ []) ≡ 8 ∷ []) × (rest [] ≡ [])
 unfolding noteSends sentAll
 sends = (refl, refl, refl, refl, refl)
+
+-- ---- what is to be shown
+
+-- a packet of true number t that the engine gives number 7, and the client after it
+abbrev bringing : ℕ → Packet
+bringing t = record { true-number = t; bytes = event 2 7 }
+
+abbrev afterSeven : Client
+afterSeven = setEvents (setNumbers (Model.fresh 108 4 500) (record { written = 0; expected = 7; read = 7 })) (heldPacket 7 (event 2 7) [] ∷ [])
+
+-- it is filed under its true number where that is 7, and not where it is 8
+pub filings : FiledAll (Model.fresh 108 4 500) (bringing 7 ∷ []) afterSeven × (FiledAll (Model.fresh 108 4 500) (bringing 8 ∷ []) afterSeven → ⊥)
+unfolding Model.enqueuePacket numberAfter unnumbered inRange full field numberIn cut lowNumber turned bytesOf lowBytes choose both either Model.numbered Model.askedOf Model.headOf Model.placeOf Model.claimed Model.takeIn Model.decide Model.decideBy costs refuse pass
+filings = (
+  ((record { place = Events; number = 7 }, afterSeven), refl, λ e. record { number = refl; last-read = refl; record-is = (refl, refl) }, refl),
+  λ k. let z : k .0 .0 .number ≡ 7 = ap (λ y. y .0 .number) (gives-same (k .1)) in omega (arith, z, k .2 refl .number),
+)
+
+-- the records that each call hands out
+pub handings : (h g : Held) → (handedOut (poll-for-reply-or-error 5 [] []) (Model.packet h) ≡ h ∷ []) × (handedOut (poll-check-for-reply-or-error 5 []) (Model.reply h) ≡ h ∷ []) × (handedOut (poll-for-reply 5 []) (Model.reply h) ≡ h ∷ [])
+    × (handedOut (poll-for-event-with-sequence []) (Model.packet h) ≡ h ∷ []) × (handedOut (poll-for-events [] []) (record { events = h ∷ g ∷ []; stopped = refused 8 }) ≡ h ∷ g ∷ [])
+handings h g = (refl, refl, refl, refl, refl)
