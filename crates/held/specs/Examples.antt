@@ -118,13 +118,13 @@ e4 = held 4 0 1 (replicate 32 9)
 abbrev filled : List ℕ
 filled = 11 ∷ 12 ∷ (flat (r5 ∷ e4 ∷ r6 ∷ []) ++ (13 ∷ []))
 
--- an event's number may be lower than those before it, a reply's may not; no number above the last read; the window lies in the store and ends with a record; its zeros are zeros
+-- an event's number may be lower than those before it, a reply's may not; no number above the last read; the window lies in the store and ends with a record; its zeros are zeros; 0 is a number
 pub sounds : (soundb 6 (window 2 147) filled ≡ true) × (soundb 5 (window 2 147) filled ≡ false) × (soundb 6 (window 2 98) filled ≡ true) × (soundb 6 (window 2 146) filled ≡ false) × (soundb 6 (window 3 147) filled ≡ false)
     × (soundb 0 (window 148 148) filled ≡ true) × (soundb 0 (window 149 149) filled ≡ false) × (soundb 0 (window 9 8) filled ≡ false)
     × (soundb 6 (window 0 97) (flat (r6 ∷ r5 ∷ [])) ≡ false) × (soundb 5 (window 0 96) (flat (r5 ∷ r5 ∷ [])) ≡ true) × (soundb 5 (window 0 48) (set (encoded r5) 14 1) ≡ false) × (soundb 5 (window 0 48) (set (encoded r5) 15 1) ≡ false)
-    × (soundb 5 (window 0 47) (encoded (held 5 2 0 (replicate 31 7))) ≡ false)
+    × (soundb 5 (window 0 47) (encoded (held 5 2 0 (replicate 31 7))) ≡ false) × (soundb 0 (window 0 48) (encoded (held 0 2 0 (replicate 32 7))) ≡ true)
 unfolding soundb fine all rising fits mostFds same records readAll readUpTo only flat decoded numOf lenOf fdsOf kindOf encoded field numberIn lowNumber cut bytesOf lowBytes turned both choose
-sounds = (refl, refl, refl, refl, refl, refl, refl, refl, refl, refl, refl, refl, refl)
+sounds = (refl, refl, refl, refl, refl, refl, refl, refl, refl, refl, refl, refl, refl, refl)
 
 -- a store of 16,777,216 bytes, and no more
 pub largest : (s : List ℕ) → soundb 0 (window 0 0) s ≡ both (leb (length s) 16777216) (both (leb 0 (length s)) true)

@@ -299,8 +299,8 @@ row32 = record {
 abbrev row33 : Row
 row33 = record {
   start = Model.fresh 108 4 500;
-  calls = send ReplyWithoutFds ∷ enqueue (pk 2 0 900) ∷ send ReplyWithoutFds ∷ enqueue (pk 11 0 7) ∷ prepare 900 ∷ prepare 3 ∷ prepare 2 ∷ [];
-  said = number 1 ∷ filed Events 900 ∷ number 2 ∷ filed Events 900 ∷ answer true ∷ answer true ∷ answer false ∷ [];
+  calls = send ReplyWithoutFds ∷ enqueue (pk 2 0 900) ∷ send ReplyWithoutFds ∷ send NoReply ∷ enqueue (pk 11 0 7) ∷ prepare 900 ∷ prepare 3 ∷ prepare 2 ∷ [];
+  said = number 1 ∷ filed Events 900 ∷ number 2 ∷ number 3 ∷ filed Events 900 ∷ answer true ∷ answer true ∷ answer false ∷ [];
 }
 
 -- sending leaves the last read, by which alone NoReply is said

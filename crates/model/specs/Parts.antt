@@ -193,6 +193,10 @@ pub shows : (Says.shownTaken (Model.packet one) ≡ Says.packet (handed 5 2 3)) 
     × (Says.bytesOfTaken Model.none ≡ []) × (Says.descriptorsOfTaken Model.none ≡ []) × (Says.bytesOfPoll Model.tryAgain ≡ []) × (Says.bytesOfPoll Model.noReply ≡ [])
 shows = (refl, refl, refl, refl, refl, refl, refl, refl, refl, refl, refl, refl)
 
+-- handed out under the number 5, and without descriptors
+pub such : Says.Under 5 (handed 5 2 3) × Says.Bare (handed 5 2 0) × Says.IfShown (Says.Under 5) (Says.packet (handed 5 2 3)) × Says.IfPolled Says.Bare (Says.reply (handed 5 2 0))
+such = (refl, refl, refl, refl)
+
 -- what the enums say
 module _ (c : Connection) where
   pub says : (Says.saysNext (Next.State c) ≡ gives (tt, c)) × (Says.saysSent (Sent.Number (record { 0 = 7 }) c) ≡ gives (7, c)) × (Says.saysEnqueued (Enqueued.Filed Place.Dropped (record { 0 = 7 }) c) ≡ gives (record { place = Place.Dropped; number = 7 }, c))
