@@ -59,16 +59,14 @@ least-one read wire m n p q =
 pub number-is : (read wire : ℕ) (a : Answer ℕ) → wire < wireValues → FullNumber read wire a → a ≡ inRange (full read wire)
 number-is read wire a h f = f .answers ∙ ap inRange (least-one read wire (f .number) (full read wire) (f .is-least) (full-least read wire h))
 
--- How the sum is answered on either side of the last number.
-pub full-past : (read wire n : ℕ) → wire < wireValues → n ≡ full read wire → lastNumber < n → FullNumber read wire (refuses 3)
+-- How the least number is answered on either side of the last number.
+pub least-past : (read wire n : ℕ) → Least read wire n → lastNumber < n → FullNumber read wire (refuses 3)
 unfolding inRange refuse
-full-past read wire n h e p =
-    record { number = full read wire; is-least = full-least read wire h; answers = simp (lt-ltb lastNumber (full read wire) (omega arith)) }
+least-past read wire n l p = record { number = n; is-least = l; answers = simp (lt-ltb lastNumber n p) }
 
-pub full-within : (read wire n : ℕ) → wire < wireValues → n ≡ full read wire → n ≤ lastNumber → FullNumber read wire (gives n)
+pub least-within : (read wire n : ℕ) → Least read wire n → n ≤ lastNumber → FullNumber read wire (gives n)
 unfolding inRange refuse
-full-within read wire n h e p =
-    record { number = full read wire; is-least = full-least read wire h; answers = ap gives e ∙ simp (le-ltb lastNumber (full read wire) (omega arith)) }
+least-within read wire n l p = record { number = n; is-least = l; answers = simp (le-ltb lastNumber n p) }
 
 -- A true number at or above the last read and at most 65,535 past it is found again from its low 16 bits.
 pub full-near : (read true-number : ℕ) → read ≤ true-number → true-number ≤ read + 65535 → full read (true-number % wireValues) ≡ true-number

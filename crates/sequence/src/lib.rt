@@ -5,8 +5,8 @@
 // can be handed where the other is due. Nothing is kept here: the three numbers of a connection
 // (last written, next reply expected, last read) come in and go out.
 ghost use mathlib.Core.Path.{_≡_};
-ghost use Prim.Native.Nat.{_≤_, _<_};
-ghost use Rattle.sequence.specs.Numbering.{FullNumber, saysFull, full, lastNumber, wireValues};
+ghost use Prim.Native.Nat.{_≤_};
+ghost use Rattle.sequence.specs.Numbering.{Least, FullNumber, saysFull, lastNumber};
 ghost use Rattle.sequence.specs.Sending.{mustSync};
 ghost use Rattle.sequence.specs.Promises.{SendsNumber};
 use refusal::Refusal;
@@ -38,17 +38,15 @@ pub enum Sent {
     Refused(Refusal),
 }
 
-// The number of the last read's own block of 65,536 that has the wire's bits, or that of the next
-// block where this one is below the last read.
-fn least(last: u64, wire: u64) -> u64
-    requires { ⌜ (last ≤ lastNumber) × (wire < wireValues) ⌝ }
-    ensures { λ r. ⌜ r ≡ full last wire ⌝ }
+// The last read and a step: the packet's 16 bits less the last read's own, wrapping at 65,536. It
+// leads to the least number, at or above the last read, that ends in the packet's bits.
+fn least(last: u64, wire: u16) -> u64
+    requires { ⌜ last ≤ lastNumber ⌝ }
+    ensures { λ r. ⌜ Least last wire r ⌝ }
 {
-    let near = last - last % WIRE_VALUES + wire;
-    if near < last {
-        return near + WIRE_VALUES;
-    }
-    near
+    let low = (last % WIRE_VALUES) as u16;
+    let step = std::num::wrapping_sub_u16(wire, low);
+    last + step as u64
 }
 
 // The full number of a packet: the least one at or above the last read whose low 16 bits are the
@@ -60,7 +58,7 @@ pub fn full_number(read: SequenceNumber, wire: WireNumber) -> Full
     if LAST_NUMBER < last {
         return Full::Refused(Refusal::NumberEnd);
     }
-    let number = least(last, wire.0 as u64);
+    let number = least(last, wire.0);
     if LAST_NUMBER < number {
         return Full::Refused(Refusal::NumberEnd);
     }
