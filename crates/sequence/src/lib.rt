@@ -38,8 +38,8 @@ pub enum Sent {
     Refused(Refusal),
 }
 
-// The last read and a step: the packet's 16 bits less the last read's own, wrapping at 65,536. It
-// leads to the least number, at or above the last read, that ends in the packet's bits.
+// The last read and a step: the packet's 16 bits less the low 16 of the last read, wrapping at
+// 65,536. It leads to the least number at or above the last read that ends in the packet's bits.
 fn least(last: u64, wire: u16) -> u64
     requires { ⌜ last ≤ lastNumber ⌝ }
     ensures { λ r. ⌜ Least last wire r ⌝ }

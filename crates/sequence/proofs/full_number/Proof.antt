@@ -1,5 +1,5 @@
 -- `sequence::full_number` meets its contract. Assumes nothing.
-use Rattle.sequence.specs.Numbering.{full, full-least, least-past, least-within}
+use Rattle.sequence.specs.Numbering.{full-least, least-past, least-within}
 use native.Mathlib.Omega.{arith}
 use borrow.Author.Needs.{needs}
 use Rattle.sequence.proofs.full_number.Statement.{statement}
