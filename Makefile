@@ -1,5 +1,5 @@
 # The commands of the README, and the benchmark of docs/BENCH.md.
-.PHONY: run test bench bench-rooms bench-beside bench-counts library published beside record second fuzz house
+.PHONY: run test bench bench-rooms bench-savepoints bench-beside bench-counts library published beside record second fuzz house
 
 # The folder of the published Rust's files, with connection/mod.rs in it: for bench, beside and record.
 RUST ?= $(XIENGMADO_RUST)
@@ -14,9 +14,9 @@ run:
 test:
 	tests/run
 
-# Figures, no part of the tests: the moves of the rooms beside plain C, then the library beside the published Rust
+# Figures, no part of the tests: the moves of the rooms beside plain C, savepoints beside a copy of their bytes, then the library beside the published Rust
 # if RUST is the folder of its files. Writes the tables, and the plot of the second to docs/bench.svg.
-bench: bench-rooms
+bench: bench-rooms bench-savepoints
 ifneq ($(strip $(RUST)),)
 bench: bench-beside
 else
@@ -72,6 +72,11 @@ fuzz: $(ARCHIVE)
 # The picture of docs/ARCHITECTURE.md, from crates.txt.
 house:
 	python3 docs/house.py
+
+# Savepoints beside a copy of the same bytes.
+bench-savepoints: $(ARCHIVE)
+	cd rust && cargo build --offline --quiet --release -p bench --bin savepoints
+	rust/target/release/savepoints
 
 # ARGS is a part of the names of rows, for some of them alone.
 bench-beside: published $(ARCHIVE)

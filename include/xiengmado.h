@@ -29,22 +29,24 @@ extern "C" {
 /* What a call answers where it refuses; XM_DONE otherwise. */
 enum xm_refusal {
     XM_DONE = 0,
-    XM_SHORT_PACKET = 1,    /* a packet under 32 bytes */
-    XM_LONG_PACKET = 2,     /* a packet over 65,536 bytes or its buffer, a setup over its buffer */
-    XM_NUMBER_END = 3,      /* a full number would pass 2^63 - 1 */
-    XM_FEW_DESCRIPTORS = 4, /* a reply claims more descriptors than wait */
-    XM_NO_ROOM = 5,         /* no room for a request, a packet or a descriptor */
-    XM_SYNC_FIRST = 6,      /* a request with a reply must be sent first */
-    XM_OVER_ADVANCE = 7,    /* more bytes claimed than remain */
-    XM_OUT_SHORT = 8,       /* the caller's output is too small */
-    XM_BAD_ROOM = 9,        /* a length out of range, an unsound state, a kind or mode of no meaning */
-    XM_ZERO_MASK = 10,      /* an id mask of 0 */
-    XM_IDS_EXHAUSTED = 11,  /* no id left */
-    XM_BAD_RANGE = 12,      /* a range whose last id is over 2^32 - 1 */
-    XM_BAD_ORDER = 13,      /* a byte order other than XM_LITTLE and XM_BIG */
-    XM_BAD_CONTENT = 14,    /* a wrong first byte, or inner lengths that pass the end */
-    XM_INCOMPLETE = 15,     /* a setup asked for too early */
-    XM_LONG_AUTH = 16       /* an authorization name or data over 65,535 bytes */
+    XM_SHORT_PACKET = 1,     /* a packet under 32 bytes */
+    XM_LONG_PACKET = 2,      /* a packet over 65,536 bytes or its buffer, a setup over its buffer */
+    XM_NUMBER_END = 3,       /* a full number would pass 2^63 - 1 */
+    XM_FEW_DESCRIPTORS = 4,  /* a reply claims more descriptors than wait */
+    XM_NO_ROOM = 5,          /* no room for a request, a packet or a descriptor */
+    XM_SYNC_FIRST = 6,       /* a request with a reply must be sent first */
+    XM_OVER_ADVANCE = 7,     /* more bytes claimed than remain */
+    XM_OUT_SHORT = 8,        /* the caller's output is too small */
+    XM_BAD_ROOM = 9,         /* a length out of range, an unsound state, a kind or mode of no meaning */
+    XM_ZERO_MASK = 10,       /* an id mask of 0 */
+    XM_IDS_EXHAUSTED = 11,   /* no id left */
+    XM_BAD_RANGE = 12,       /* a range whose last id is over 2^32 - 1 */
+    XM_BAD_ORDER = 13,       /* a byte order other than XM_LITTLE and XM_BIG */
+    XM_BAD_CONTENT = 14,     /* a wrong first byte, or inner lengths that pass the end */
+    XM_INCOMPLETE = 15,      /* a setup asked for too early */
+    XM_LONG_AUTH = 16,       /* an authorization name or data over 65,535 bytes */
+    XM_HAS_DESCRIPTORS = 18, /* a savepoint asked for while a descriptor is inside */
+    XM_BAD_SAVEPOINT = 19    /* bytes that are no savepoint */
 };
 
 /* Byte orders. */
@@ -387,6 +389,35 @@ uint32_t xm_take_closed_fds(uint64_t *state, size_t state_len, const uint8_t *re
                             size_t requests_len, const uint8_t *store, size_t store_len,
                             uint32_t *slots, size_t slots_len, uint32_t *out, size_t out_len,
                             size_t *count);
+
+/* ---- savepoints: a connection, a packet reader and an id allocator written to bytes and read back ---- */
+
+/*
+ * How many bytes a savepoint takes. Refused by 9 where connection, reader or allocator is unsound, then
+ * by 18 while a descriptor is waiting, held or to be closed.
+ */
+uint32_t xm_savepoint_length(const uint64_t *state, size_t state_len, const uint8_t *requests,
+                             size_t requests_len, const uint8_t *store, size_t store_len,
+                             const uint32_t *slots, size_t slots_len, const uint64_t *reader,
+                             size_t reader_len, const uint8_t *buf, size_t buf_len,
+                             const uint64_t *ids, size_t ids_len, size_t *length);
+
+/* A savepoint at the start of out, length bytes of it. Refused by 9, 18, and 8 where out is too small. */
+uint32_t xm_save(const uint64_t *state, size_t state_len, const uint8_t *requests,
+                 size_t requests_len, const uint8_t *store, size_t store_len, const uint32_t *slots,
+                 size_t slots_len, const uint64_t *reader, size_t reader_len, const uint8_t *buf,
+                 size_t buf_len, const uint64_t *ids, size_t ids_len, uint8_t *out, size_t out_len,
+                 size_t *length);
+
+/*
+ * What was saved, in these rows, rooms and buffer; what they held before is no matter. Refused by 19 for
+ * bytes that are no savepoint, then by 9 for rooms or a buffer of other lengths than those saved, other
+ * than 256 slots, or rows of other than 16, 3 and 3 numbers.
+ */
+uint32_t xm_restore(const uint8_t *bytes, size_t bytes_len, uint64_t *state, size_t state_len,
+                    uint8_t *requests, size_t requests_len, uint8_t *store, size_t store_len,
+                    const uint32_t *slots, size_t slots_len, uint64_t *reader, size_t reader_len,
+                    uint8_t *buf, size_t buf_len, uint64_t *ids, size_t ids_len);
 
 /* ---- what the rooms of a connection hold, for those who compare runs or look for a fault ---- */
 

@@ -1,4 +1,4 @@
-/* The header and the static library from C: a request, its reply with a descriptor, many at once, a reader, an unsound state; and
+/* The header and the static library from C: a request, its reply with a descriptor, many at once, a reader, a savepoint, an unsound state; and
  * the bytes of setup and XC-MISC, which no field of is like another, in both byte orders. */
 #include <stdio.h>
 #include <string.h>
@@ -94,6 +94,33 @@ static void reader(void) {
     expect("part", size, 32);
 }
 
+/* The connection with a fresh reader and allocator, saved and restored in other rooms. */
+static uint64_t row[XM_SLOTS], ids[XM_SLOTS], state2[XM_CONNECTION_SLOTS], row2[XM_SLOTS], ids2[XM_SLOTS];
+static uint8_t buf[64], requests2[16], store2[1024], buf2[64], file[256], again[256];
+
+#define CLIENT CONNECTION, row, XM_SLOTS, buf, sizeof buf, ids, XM_SLOTS
+#define RESTORED(store_size) state2, XM_CONNECTION_SLOTS, requests2, sizeof requests2, store2, store_size, slots, \
+    XM_DESCRIPTORS, row2, XM_SLOTS, buf2, sizeof buf2, ids2, XM_SLOTS
+
+static void saved(void) {
+    size_t length = 9, size = 9;
+    uint32_t seven = 7;
+    expect("reader", xm_reader_new(row, XM_SLOTS, XM_BIG, buf, sizeof buf), XM_DONE);
+    expect("ids", xm_ids_new(ids, XM_SLOTS, 0x100, 0xff), XM_DONE);
+    expect("savepoint", xm_savepoint_length(CLIENT, &length), XM_DONE);
+    expect("its length: three requests are outstanding", length, 119);
+    expect("a byte less", xm_save(CLIENT, file, length - 1, &size), XM_OUT_SHORT);
+    expect("save", xm_save(CLIENT, file, sizeof file, &size), XM_DONE);
+    expect("saved", size, length);
+    expect("cut", xm_restore(file, size - 1, RESTORED(sizeof store2)), XM_BAD_SAVEPOINT);
+    expect("another room", xm_restore(file, size, RESTORED(sizeof store2 - 1)), XM_BAD_ROOM);
+    expect("restore", xm_restore(file, size, RESTORED(sizeof store2)), XM_DONE);
+    expect("save again", xm_save(RESTORED(sizeof store2), again, sizeof again, &size), XM_DONE);
+    expect("the same bytes", size == length ? (unsigned)memcmp(file, again, size) : 9, 0);
+    expect("fds", xm_enqueue_fds(CONNECTION, &seven, 1), XM_DONE);
+    expect("a descriptor waits", xm_save(CLIENT, file, sizeof file, &size), XM_HAS_DESCRIPTORS);
+}
+
 /* More descriptors than there is room for. */
 static void unsound(void) {
     size_t count = 9;
@@ -186,6 +213,7 @@ int main(void) {
     answered();
     at_once();
     reader();
+    saved();
     unsound();
     opened();
     asked_for_ids();

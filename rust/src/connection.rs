@@ -50,7 +50,7 @@ const MARKS: usize = 2 * OUT / 32;
 /// the original's names; the `try_` calls leave them for [`Connection::take_closed_fds`].
 #[derive(Debug)]
 pub struct Connection {
-    engine: Engine,
+    pub(crate) engine: Engine,
 }
 
 impl Default for Connection {

@@ -124,8 +124,8 @@ const SPARE_BYTES: usize = 4096;
 /// A connection's state and its rooms.
 #[derive(Debug, Clone)]
 pub struct Engine {
-    state: [u64; ffi::CONNECTION_SLOTS],
-    rooms: Rooms,
+    pub(crate) state: [u64; ffi::CONNECTION_SLOTS],
+    pub(crate) rooms: Rooms,
     out: Box<[u8]>,
     fds: Box<[u32]>,
     spares: Vec<Vec<u8>>,
@@ -136,7 +136,14 @@ impl Engine {
     /// of so many bytes (48 to 16,777,216), of which a held packet takes [`RECORD_HEADER`] and its
     /// length. Refused by 9.
     pub fn new(order: ByteOrder, requests: usize, store: usize) -> Result<Self, Refusal> {
-        let mut engine = Engine {
+        let mut engine = Engine::bare(requests, store);
+        ffi::connection_new(&mut engine.state, order.byte(), &engine.rooms)?;
+        Ok(engine)
+    }
+
+    /// Rooms of these lengths, and no state yet.
+    pub(crate) fn bare(requests: usize, store: usize) -> Self {
+        Engine {
             state: [0; ffi::CONNECTION_SLOTS],
             rooms: Rooms {
                 requests: vec![0; requests].into(),
@@ -146,9 +153,7 @@ impl Engine {
             out: vec![0; MOST_PACKET].into(),
             fds: vec![0; ffi::DESCRIPTORS].into(),
             spares: Vec::with_capacity(SPARES),
-        };
-        ffi::connection_new(&mut engine.state, order.byte(), &engine.rooms)?;
-        Ok(engine)
+        }
     }
 
     /// A connection after so many requests, of which the last had a reply that came and was taken:

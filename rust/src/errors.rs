@@ -51,6 +51,8 @@ refusals! {
     BadContent = 14, "A wrong first byte, or lengths that pass the end";
     Incomplete = 15, "A setup asked for too early";
     LongAuth = 16, "An authorization name or data over 65,535 bytes";
+    HasDescriptors = 18, "A descriptor is inside, and descriptors can't be saved";
+    BadSavepoint = 19, "Bytes that are no savepoint";
 }
 
 impl Refusal {

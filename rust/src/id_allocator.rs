@@ -10,7 +10,7 @@ use crate::protocol::xc_misc::GetXIDRangeReply;
 /// An allocator for X11 ids.
 #[derive(Debug, Clone, Copy)]
 pub struct IdAllocator {
-    state: [u64; ffi::SLOTS],
+    pub(crate) state: [u64; ffi::SLOTS],
 }
 
 impl IdAllocator {

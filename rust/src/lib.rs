@@ -11,6 +11,9 @@
 //!
 //! [`engine::Engine`] is the connection without those habits: every call answers its refusal,
 //! descriptors are opaque numbers, and everything that is held can be looked at.
+//!
+//! [`savepoint`] writes a connection, its reader and its ids to bytes and reads them back, which the
+//! original can't do.
 
 #![deny(missing_docs)]
 
@@ -24,6 +27,7 @@ mod ffi;
 pub mod id_allocator;
 pub mod packet_reader;
 pub mod protocol;
+pub mod savepoint;
 pub mod sequence;
 pub mod x11_utils;
 

@@ -9,8 +9,8 @@ const BUFFER: usize = 65_536;
 /// A partial packet.
 #[derive(Debug, Clone)]
 pub struct PacketReader {
-    state: [u64; ffi::SLOTS],
-    buffer: Box<[u8]>,
+    pub(crate) state: [u64; ffi::SLOTS],
+    pub(crate) buffer: Box<[u8]>,
 }
 
 impl Default for PacketReader {
@@ -27,12 +27,17 @@ impl PacketReader {
 
     /// The same for packets of up to so many bytes (32 to 65,536). Refused by 9.
     pub fn with_buffer(order: ByteOrder, size: usize) -> Result<Self, Refusal> {
-        let mut reader = PacketReader {
-            state: [0; ffi::SLOTS],
-            buffer: vec![0; size].into(),
-        };
+        let mut reader = PacketReader::bare(size);
         ffi::reader_new(&mut reader.state, order.byte(), &reader.buffer)?;
         Ok(reader)
+    }
+
+    /// A buffer of this length, and no state yet.
+    pub(crate) fn bare(size: usize) -> Self {
+        PacketReader {
+            state: [0; ffi::SLOTS],
+            buffer: vec![0; size].into(),
+        }
     }
 
     /// The part that is to be filled with bytes of the server.

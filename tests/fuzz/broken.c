@@ -16,6 +16,8 @@ static int broken(void) {
 #define REQUESTS uint8_t *requests, size_t requests_len
 #define STORE uint8_t *store, size_t store_len
 #define SLOTS uint32_t *slots, size_t slots_len
+#define READER uint64_t *reader, size_t reader_len, uint8_t *buf, size_t buf_len
+#define IDS uint64_t *ids, size_t ids_len
 #define LENT state, state_len, requests, requests_len, store, store_len, slots, slots_len
 
 uint32_t __real_xm_send_request(STATE, REQUESTS, STORE, SLOTS, uint8_t kind, uint64_t *number);
@@ -60,5 +62,27 @@ uint32_t __wrap_xm_ids_generate_id(uint64_t *ids, size_t ids_len, uint32_t *id) 
     uint32_t answer = __real_xm_ids_generate_id(ids, ids_len, id);
     if (broken() == 16 && answer == 0) ids[XM_IDS_NEXT] += ids[XM_IDS_STEP]; /* past the last, at times */
     if (broken() == 17 && answer == 0) ids[ids_len] = 0;
+    return answer;
+}
+
+uint32_t __real_xm_save(STATE, REQUESTS, STORE, SLOTS, READER, IDS, uint8_t *out, size_t out_len, size_t *length);
+uint32_t __wrap_xm_save(STATE, REQUESTS, STORE, SLOTS, READER, IDS, uint8_t *out, size_t out_len, size_t *length) {
+    uint32_t answer = __real_xm_save(LENT, reader, reader_len, buf, buf_len, ids, ids_len, out, out_len, length);
+    if (broken() == 18 && answer == XM_HAS_DESCRIPTORS && out_len < 116) return XM_OUT_SHORT; /* 8 before 18 */
+    if (broken() == 19 && answer == 0) out[28] ^= 1;                          /* another byte */
+    if (broken() == 20 && answer == 0) *length -= 1;                          /* another length */
+    if (broken() == 21 && answer == 0 && *length < out_len) out[*length] ^= 1; /* behind the output */
+    return answer;
+}
+
+uint32_t __real_xm_restore(const uint8_t *bytes, size_t bytes_len, STATE, REQUESTS, STORE, SLOTS, READER, IDS);
+uint32_t __wrap_xm_restore(const uint8_t *bytes, size_t bytes_len, STATE, REQUESTS, STORE, SLOTS, READER, IDS) {
+    uint32_t answer =
+        __real_xm_restore(bytes, bytes_len, LENT, reader, reader_len, buf, buf_len, ids, ids_len);
+    if (broken() == 22 && answer == XM_BAD_SAVEPOINT && requests_len == 1) return XM_BAD_ROOM; /* 9 before 19 */
+    if (broken() == 23 && answer == 0 && reader[XM_READER_FILLED] == 0) buf[0] = 0;    /* an unused byte */
+    if (broken() == 24 && answer == 0) requests[state[XM_STATE_WRITTEN] % requests_len] ^= 1; /* another request */
+    if (broken() == 25 && answer == 0) state[XM_STATE_EXPECTED] ^= 1;                  /* another number */
+    if (broken() == 26 && answer == XM_BAD_ROOM) ids[0] = 7;                           /* a change by a refusal */
     return answer;
 }

@@ -13,6 +13,7 @@ void connection_new(void), send_request(void), discard_reply(void), enqueue_fds(
 void enqueue_packet(void), poll_for_reply_or_error(void), prepare_check(void), poll_check(void);
 void poll_for_reply(void), poll_for_event(void), take_closed_fds(void);
 void send_requests(void), enqueue_packets(void), poll_for_events(void);
+void savepoint_length(void), save(void), restore(void);
 void request_at(void), record_at(void);
 
 /* Begins anew: a fresh connection, reader, handshake and allocator. */

@@ -1,17 +1,18 @@
 #!/usr/bin/env python3
-"""By hand: single edits of sound.c, each of which the fuzz test must see, since the library then answers otherwise.
+"""By hand: single edits of sound.c and saved.c, each of which the fuzz test must see, since the library then answers otherwise.
 
 edits.py [COUNT]    so many calls with seed 1 for each edit; needs the static library
 """
 import pathlib
+import re
 import subprocess
 import sys
 
 ROOT = pathlib.Path(__file__).resolve().parents[2]
 HERE, WORK = ROOT / "tests/fuzz", ROOT / "target/fuzz/edits"
-OTHERS = sorted(p.stem for p in HERE.glob("*.c") if p.stem not in ("sound", "broken", "libfuzzer"))
+NAMES = sorted(p.stem for p in HERE.glob("*.c") if p.stem not in ("broken", "libfuzzer"))
 
-EDITS = [
+SOUND = [
     ('c->state_len == SLOTS && ', 'c->state_len >= SLOTS && '),
     ('within(c->requests_len, 1, 65536)', 'within(c->requests_len, 1, 65535)'),
     ('within(c->requests_len, 1, 65536)', 'within(c->requests_len, 1, 65537)'),
@@ -105,33 +106,109 @@ EDITS = [
 ]
 
 
+SAVED = [
+    ('need(r, number(r, 4) == count);', 'need(r, number(r, 4) <= count);'),
+    ('need(r, number(r, 4) == count);', 'need(r, number(r, 4) >= count);'),
+    ('n == 108 || n == 66', 'n == 108'),
+    ('n == 108 || n == 66', 'n == 108 || n == 66 || n == 98'),
+    ('n == 108 || n == 66', '(uint8_t)n == 108 || n == 66'),
+    ('n[0] <= last_number &&', 'n[0] <= last_number + 1 &&'),
+    ('n[1] <= last_number &&', 'n[1] <= last_number + 1 &&'),
+    ('n[2] <= last_number);', 'n[2] <= last_number + 1);'),
+    ('n[0] <= last_number &&', 'n[0] < last_number &&'),
+    ('n[1] <= last_number &&', 'n[1] < last_number &&'),
+    ('n[2] <= last_number);', 'n[2] < last_number);'),
+    ('an_order(l[0]) &&', ''),
+    ('an_order(l[3]) &&', ''),
+    ('within(l[1], 1, 65536)', 'within(l[1], 0, 65536)'),
+    ('within(l[1], 1, 65536)', 'within(l[1], 2, 65536)'),
+    ('within(l[1], 1, 65536)', 'within(l[1], 1, 65535)'),
+    ('within(l[1], 1, 65536)', 'within(l[1], 1, 65537)'),
+    ('within(l[2], 48, 16777216)', 'within(l[2], 47, 16777216)'),
+    ('within(l[2], 48, 16777216)', 'within(l[2], 49, 16777216)'),
+    ('within(l[2], 48, 16777216)', 'within(l[2], 48, 16777215)'),
+    ('within(l[2], 48, 16777216)', 'within(l[2], 48, 16777217)'),
+    ('within(l[4], 32, 65536)', 'within(l[4], 33, 65536)'),
+    ('within(l[4], 32, 65536)', 'within(l[4], 32, 65535)'),
+    ('within(l[4], 32, 65536)', 'within(l[4], 32, 65537)'),
+    ('outstanding <= n[0] &&', 'outstanding <= n[0] + 1 &&'),
+    ('outstanding <= n[0] &&', 'outstanding < n[0] &&'),
+    ('outstanding <= l[1]);', 'outstanding <= l[1] + 1);'),
+    ('outstanding <= l[1]);', 'outstanding < l[1]);'),
+    ('requests[i] <= 5', 'requests[i] <= 6'),
+    ('requests[i] <= 5', 'requests[i] <= 4'),
+    ('i < outstanding; i++', 'i + 1 < outstanding; i++'),
+    ('fixed[0] == 0 &&', 'fixed[0] <= 1 &&'),
+    ('fixed[1] == kind &&', 'fixed[1] <= 1 &&'),
+    ('fixed[2] == 0 &&', ''),
+    ('&& fixed[3] == 0)', ')'),
+    ('within(length, 32, 65536)', 'within(length, 31, 65536)'),
+    ('within(length, 32, 65536)', 'within(length, 33, 65536)'),
+    ('within(length, 32, 65536)', 'within(length, 32, 65535)'),
+    ('within(length, 32, 65536)', 'within(length, 32, 65537)'),
+    ('filed <= last_read', 'filed <= last_read + 1'),
+    ('filed <= last_read', 'filed < last_read'),
+    ('kind == 1 || before <= filed', 'before <= filed'),
+    ('kind == 1 || before <= filed', 'kind == 1 || before <= filed + 1'),
+    ('kind == 1 || before <= filed', 'kind == 1 || before < filed'),
+    ('used <= l[2]', 'used <= l[2] + 1'),
+    ('used <= l[2]', 'used < l[2]'),
+    ('used += HEADER + length;', 'used += length;'),
+    ('used += records(&r, 1, n[2]);', 'records(&r, 1, n[2]);'),
+    ('size < 32 ||', 'size < 31 ||'),
+    ('size < 32 ||', 'size <= 32 ||'),
+    ('filled[0] != 1 &&', 'filled[0] != 2 &&'),
+    ('filled[0] % 128 != 35', 'filled[0] != 35'),
+    ('filled[0] % 128 != 35', 'filled[0] % 64 != 35'),
+    ('order == 108);', 'order == 66);'),
+    ('count < wanted(', 'count <= wanted('),
+    ('l[3]) <= l[4]', 'l[3]) <= l[4] + 1'),
+    ('l[3]) <= l[4]', 'l[3]) < l[4]'),
+    ('step != 0 &&', ''),
+    ('(step & (step - 1)) == 0', 'step > 0'),
+    ('step <= most &&', 'step <= most + 1 &&'),
+    ('last <= most &&', 'last <= most + 1 &&'),
+    ('last <= most &&', 'last < most &&'),
+    ('next <= last + step', 'next <= last + step + 1'),
+    ('next <= last + step', 'next < last + step'),
+    ('r.size == 0', 'r.size <= 1'),
+]
+
+
 def cc(*words):
     subprocess.run(["cc", "-std=c11", "-O2", "-w", f"-I{ROOT}/include", f"-I{HERE}", *map(str, words)], check=True)
 
 
-def seen(text, objects, count):
-    """Whether the fuzz test with this text for sound.c ends in a fault."""
-    (WORK / "sound.c").write_text(text)
-    cc(WORK / "sound.c", *objects, ROOT / "target/staticlib/libxiengmado.a", "-o", WORK / "fuzz")
+def seen(name, text, count):
+    """The call in which the fuzz test with this text for a file finds a fault, or None."""
+    (WORK / f"{name}.c").write_text(text)
+    others = [WORK / f"{other}.o" for other in NAMES if other != name]
+    cc(WORK / f"{name}.c", *others, ROOT / "target/staticlib/libxiengmado.a", "-o", WORK / "fuzz")
     run = subprocess.run([WORK / "fuzz", "1", count], capture_output=True, text=True)
-    return "FAULT" in run.stdout
+    fault = re.search(r"FAULT in call (\d+)", run.stdout)
+    return fault and int(fault[1])
+
+
+def missed(name, edits, count):
+    text = (HERE / f"{name}.c").read_text()
+    found, last = [("nothing", "nothing")] if seen(name, text, count) else [], (0, "")
+    for old, new in edits:
+        call = seen(name, text.replace(old, new, 1), count) if old in text else None
+        last = max(last, (call or 0, f"{old} -> {new}"))
+        if call is None:
+            found.append((old, new))
+    for old, new in found:
+        print(f"edits: FAILED, {old} -> {new}")
+    print(f"edits: {len(edits)} edits of {name}.c, {len(edits) - len(found)} seen, the last at call {last[0]:,}: {last[1]}", flush=True)
+    return found
 
 
 def main():
     count = sys.argv[1] if len(sys.argv) > 1 else "1500000"
     WORK.mkdir(parents=True, exist_ok=True)
-    objects = [WORK / f"{name}.o" for name in OTHERS]
-    for name, target in zip(OTHERS, objects):
-        cc("-c", HERE / f"{name}.c", "-o", target)
-    text = (HERE / "sound.c").read_text()
-    missed = [] if not seen(text, objects, count) else [("nothing", "nothing")]
-    for old, new in EDITS:
-        if old not in text or not seen(text.replace(old, new, 1), objects, count):
-            missed.append((old, new))
-    for old, new in missed:
-        print(f"edits: FAILED, {old} -> {new}")
-    print(f"edits: {len(EDITS)} edits of sound.c, {len(EDITS) - len(missed)} seen")
-    sys.exit(bool(missed))
+    for name in NAMES:
+        cc("-c", HERE / f"{name}.c", "-o", WORK / f"{name}.o")
+    sys.exit(bool(missed("saved", SAVED, count) + missed("sound", SOUND, count)))
 
 
 main()

@@ -49,6 +49,9 @@ const struct export exports[] = {
     {"xm_send_requests", send_requests, 10, TESTED, R(9), 3},
     {"xm_enqueue_packets", enqueue_packets, 20, TESTED, R(9), 3},
     {"xm_poll_for_events", poll_for_events, 12, TESTED, R(9) | R(8), 3},
+    {"xm_savepoint_length", savepoint_length, 4, TESTED, R(9) | R(18), 0},
+    {"xm_save", save, 8, TESTED, R(9) | R(18) | R(8), 0},
+    {"xm_restore", restore, 16, TESTED, R(19) | R(9), 0},
     {"xm_request_at", request_at, 3, TESTED, R(9), 3},
     {"xm_record_at", record_at, 6, TESTED, R(9), 2},
 };

@@ -1,6 +1,7 @@
 /* The calls without rooms of a connection: numbers, packets, XC-MISC and ids. */
 #include "calls.h"
 #include "lent.h"
+#include "parts.h"
 #include "report.h"
 #include "sound.h"
 #include "source.h"
@@ -147,15 +148,28 @@ void fresh_ids(void) {
     xm_ids_new(home_ids, XM_SLOTS, 0x200000, 0x1fffff);
 }
 
-static uint64_t *lend_row(size_t *length) {
+static size_t try_row(bool spoilt) {
     static const size_t lengths[] = {0, 1, 2, 4};
     for (size_t i = 0; i < XM_SLOTS; i++) trial_ids[i] = home_ids[i];
-    for (uint64_t faults = once(3) ? 1 + below(2) : 0; faults > 0; faults--) {
+    for (uint64_t faults = spoilt ? 1 + below(2) : 0; faults > 0; faults--) {
         uint64_t *slot = &trial_ids[below(XM_SLOTS)];
         *slot = once(3) ? wide() : once(2) ? *slot + 1 - below(3) : home_ids[below(XM_SLOTS)];
     }
-    *length = once(16) ? PICK(lengths) : XM_SLOTS;
+    return once(16) ? PICK(lengths) : XM_SLOTS;
+}
+
+static uint64_t *lend_row(size_t *length) {
+    *length = try_row(once(3));
     return lend(STATE, trial_ids, 8 * *length, WRITE);
+}
+
+struct part lend_ids(void) {
+    size_t length = try_row(once(8));
+    return (struct part){lend(IDS, trial_ids, 8 * length, READ), length, NULL, 0};
+}
+
+void ids_home(const struct part *p) {
+    for (size_t i = 0; i < XM_SLOTS; i++) home_ids[i] = p->row[i];
 }
 
 static void ids_settle(uint32_t answer, const uint64_t *row, size_t length, bool sound) {

@@ -20,7 +20,8 @@ struct slice {
 
 static const size_t most[PLACES] = {
     [STATE] = 1024, [REQUESTS] = 65537, [STORE] = MOST_LENT, [SLOTS] = 2048,
-    [INPUT] = 262149, [SECOND] = 65537, [OUT] = 131100, [FDS] = 65540,
+    [INPUT] = MOST_SAVED + 64, [SECOND] = 65537, [OUT] = MOST_SAVED + 64, [FDS] = 65540,
+    [READER] = 64, [BUFFER] = 65537, [IDS] = 64,
 };
 static struct slice slices[PLACES];
 static uint8_t cells[NUMBERS * CELL];

@@ -10,10 +10,10 @@
 #include <stddef.h>
 #include <stdint.h>
 
-enum place { STATE, REQUESTS, STORE, SLOTS, INPUT, SECOND, OUT, FDS, PLACES };
+enum place { STATE, REQUESTS, STORE, SLOTS, INPUT, SECOND, OUT, FDS, READER, BUFFER, IDS, PLACES };
 
-/* The most bytes of a slice. */
-enum { MOST_LENT = 16777217 };
+/* The most bytes of a slice, and of a savepoint that is lent. */
+enum { MOST_LENT = 16777217, MOST_SAVED = 1 << 20 };
 
 /* What a call may do with a slice. */
 enum access { READ, WRITE };

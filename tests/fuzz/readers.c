@@ -3,6 +3,7 @@
 
 #include "calls.h"
 #include "lent.h"
+#include "parts.h"
 #include "report.h"
 #include "sound.h"
 #include "source.h"
@@ -88,6 +89,20 @@ static void settle(struct kind *kind, uint32_t answer, bool sound) {
 }
 
 #define LENT row, trial.row_len, buf, trial.buf_len
+
+struct part lend_reader(void) {
+    copy(&trial, &reader.home);
+    if (once(8)) spoil(&reader);
+    return (struct part){lend(READER, trial.row, 8 * trial.row_len, READ), trial.row_len,
+                         lend(BUFFER, trial.buf, trial.buf_len, READ), trial.buf_len};
+}
+
+void reader_home(const struct part *p) {
+    memcpy(reader.home.row, p->row, 8 * p->row_len);
+    memcpy(reader.home.buf, p->buf, p->buf_len);
+    reader.home.row_len = p->row_len;
+    reader.home.buf_len = p->buf_len;
+}
 
 /* ---- the calls that both have ---- */
 

@@ -27,8 +27,9 @@ static struct client seen(const struct world *w) {
 
 /* ---- spoiling a trial ---- */
 
-/* Where a record has the length of its packet: a number of four bytes. */
-enum { LENGTH_AT = 8, LENGTH_BYTES = 4 };
+/* Where a record has the length of its packet, a number of four bytes, and the count of its
+ * descriptors. */
+enum { LENGTH_AT = 8, LENGTH_BYTES = 4, COUNT_AT = 12 };
 
 /* The length of the packet of a record at home. */
 static uint64_t record_length(size_t at) {
@@ -182,9 +183,24 @@ bool lend_some(unsigned writes) {
     return client_sound(&lent);
 }
 
+bool lend_bare(unsigned writes) {
+    struct client whole = seen(&home);
+    copy(&trial, &whole);
+    for (int i = XM_STATE_CLOSED; i <= XM_STATE_WAITING; i++) trial.state[i] = 0;
+    uint64_t at = home.state[XM_STATE_START], end = home.state[XM_STATE_END];
+    for (; at < end; at += XM_RECORD_HEADER + record_length(at)) trial.store[at + COUNT_AT] = 0;
+    if (once(3)) spoil();
+    lend_world(&trial, writes);
+    return client_sound(&lent);
+}
+
 void settle(uint32_t answer, bool sound) {
     report_answer(answer, sound);
     if (answer != XM_DONE) return;
     if (!client_sound(&lent)) report_fault("the state that is left is not sound");
+    go_home();
+}
+
+void go_home(void) {
     copy(&home, &lent);
 }

@@ -28,8 +28,14 @@ void lend_world(const struct world *w, unsigned writes);
 /* Lends home, or once in three a trial; whether it is sound. */
 bool lend_some(unsigned writes);
 
+/* The same without descriptors, but for a fault that is one. */
+bool lend_bare(unsigned writes);
+
 /* The answer of a call. The state that an accepted one leaves must be sound, and becomes home. */
 void settle(uint32_t answer, bool sound);
+
+/* The lent world, which is sound, becomes home. */
+void go_home(void);
 
 /* Where one of home's records begins; the end of the window where none is held. */
 size_t some_record(void);

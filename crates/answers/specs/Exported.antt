@@ -63,6 +63,9 @@ pub kept-on : {A : Type 0} {P : Answer A → Type 0} {show put : A → List ℕ}
 kept-on {P = P} x p =
     record { exported = record { answer = x .exported .answer; promise = subst P (sym (x .exported .promise)) p; number = x .exported .number; values = x .exported .values }; state = x .state }
 
+pub exported-on : {A : Type 0} {P : Answer A → Type 0} {show : A → List ℕ} {v v' : List ℕ} {code : ℕ} {k : Answer A} → Exported (λ a. a ≡ k) show v v' code → P k → Exported P show v v' code
+exported-on {P = P} x p = record { answer = x .answer; promise = subst P (sym (x .promise)) p; number = x .number; values = x .values }
+
 -- An export that refuses by 9 before its call.
 pub kept-off : {A : Type 0} {P : Answer A → Type 0} {show put : A → List ℕ} {v s : List ℕ} → P (refuses 9) → Kept P show put v v s s 9
 kept-off p = record { exported = record { answer = refuses 9; promise = p; number = refl; values = refl }; state = refl }

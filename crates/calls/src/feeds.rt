@@ -4,10 +4,10 @@
 // How many packets there are stands before them in the answer: their text is put so far behind what
 // waits that the words before it fit in between, and is moved up to them at the end.
 use crate::Done;
+use leaves::Buffered;
 use leaves::Fed;
 use model::Connection;
 use model::Enqueued;
-use packet_reader::PacketReader;
 use refusal::Refusal;
 use script::Op;
 
@@ -22,7 +22,7 @@ const PACKETS: usize = 270336;
 // their text ends, and the number of the refusal that stopped it, or 0.
 pub struct Shown {
     pub connection: Connection,
-    pub reader: PacketReader,
+    pub reader: Buffered,
     pub at: usize,
     pub count: u64,
     pub text: usize,
@@ -143,7 +143,7 @@ fn came(
     taken(next, len, requests, store, slots, bytes)
 }
 
-fn on(shown: Shown, n: usize, reader: PacketReader) -> Shown {
+fn on(shown: Shown, n: usize, reader: Buffered) -> Shown {
     let mut next = shown;
     next.reader = reader;
     next.at = text::behind(shown.at, n);

@@ -6,11 +6,15 @@
 mod feeds;
 mod many;
 mod polls;
+mod saves;
 mod sends;
 
+use leaves::Buffered;
 use model::Closed;
 use model::Connection;
-use packet_reader::PacketReader;
+pub use saves::Point;
+pub use saves::restore;
+pub use saves::save;
 use script::Op;
 use shown::Told;
 use text::Answer;
@@ -24,11 +28,11 @@ pub struct Called {
 // What a command leaves: connection, reader, and where the text ends.
 pub struct Done {
     pub connection: Connection,
-    pub reader: PacketReader,
+    pub reader: Buffered,
     pub waiting: usize,
 }
 
-pub fn left(connection: Connection, reader: PacketReader, waiting: usize) -> Done {
+pub fn left(connection: Connection, reader: Buffered, waiting: usize) -> Done {
     Done {
         connection: connection,
         reader: reader,

@@ -32,12 +32,12 @@ pub data Within (m : ℕ) {A : Type 0} : Answer A → Type 0 where
   given : {x : A} → Within m (gives x)
   named : {n : ℕ} → 1 ≤ n → n ≤ m → Within m (refuses n)
 
-within-refuse : {m : ℕ} {A : Type 0} {a : Answer A} (b : Bool) (n : ℕ) → leb 1 n ≡ true → leb n m ≡ true → Within m a → Within m (refuse b n a)
+pub within-refuse : {m : ℕ} {A : Type 0} {a : Answer A} (b : Bool) (n : ℕ) → leb 1 n ≡ true → leb n m ≡ true → Within m a → Within m (refuse b n a)
 unfolding refuse
 within-refuse true n h k w = named (leb-true _ _ h) (leb-true _ _ k)
 within-refuse false n h k w = w
 
-within-pass : {m : ℕ} {A B : Type 0} {a : Answer A} {f : A → Answer B} → Within m a → ((x : A) → Within m (f x)) → Within m (pass a f)
+pub within-pass : {m : ℕ} {A B : Type 0} {a : Answer A} {f : A → Answer B} → Within m a → ((x : A) → Within m (f x)) → Within m (pass a f)
 unfolding pass
 within-pass (given {x = x}) h = h x
 within-pass (named p q) h = named p q

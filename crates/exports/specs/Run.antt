@@ -17,6 +17,7 @@ use Rattle.session.specs.Noting.{noteFed}
 use Rattle.session.specs.Session.{sentAll}
 use Rattle.rows.specs.State.{connectionOf}
 use Rattle.answers.specs.Shown.{mostKind}
+use Rattle.xiengmado.specs.ExportsSavepoint.{XmSave, XmRestore}
 use Rattle.xiengmado.specs.Exports.{XmConnectionNew, XmSendRequest, XmDiscardReply, XmEnqueueFds, XmEnqueuePacket, XmPollForReplyOrError, XmPollCheckForReplyOrError, XmPollForReply, XmPollForEventWithSequence, XmTakeClosedFds, XmPrepareCheckForReplyOrError, XmSendRequests, XmEnqueuePackets, XmPollForEvents}
 
 -- a lent slice is of bytes
@@ -69,12 +70,16 @@ pub data Export (state requests store slots : List ℕ) : (state' requests' stor
 unfoldable pub noted : ℕ → (List Entry → List Entry) → List Entry → List Entry
 noted r adds l = choose (eqb r 0) (adds l) l
 
--- A RUN: `xm_connection_new` that returned 0, then any exports, whatever they returned, each on the row and the rooms as the one before left them; and its log, which has what was accepted.
+-- A RUN: `xm_connection_new` that returned 0, then any exports, whatever they returned, each on the row and the rooms as the one before left them; and its log, which has what was accepted. Saved by `xm_save` that returned 0,
+-- with any reader, buffer and allocator beside it, and restored by `xm_restore` that returned 0 into other rows, rooms and buffer, it goes on in those.
 pub data Run : (state requests store slots : List ℕ) → List Entry → Type 0 where
   xm-connection-new : {state : List ℕ} (order : ℕ) {requests store slots state' : List ℕ} → XmConnectionNew state order requests store slots state' 0
       → Run state' requests store slots []
   call : {state requests store slots state' requests' store' slots' : List ℕ} {l : List Entry} {adds : List Entry → List Entry} {r : ℕ} → Run state requests store slots l → Export state requests store slots state' requests' store' slots' adds r
       → Run state' requests' store' slots' (noted r adds l)
+  restored : {state requests store slots : List ℕ} {l : List Entry} (reader buf ids out : List ℕ) {size : ℕ} {out' : List ℕ} {size' : ℕ} → Run state requests store slots l → XmSave state requests store slots reader buf ids out size out' size' 0
+      → {state₁ requests₁ store₁ slots₁ reader₁ buf₁ ids₁ state' requests' store' reader' buf' ids' : List ℕ} → XmRestore (take size' out') state₁ requests₁ store₁ slots₁ reader₁ buf₁ ids₁ state' requests' store' reader' buf' ids' 0
+      → Run state' requests' store' slots₁ l
 
 -- an argument that means nothing: a kind above 2, or a mode that is neither 1 nor 2
 abbrev pub Meaningless : {state requests store slots state' requests' store' slots' : List ℕ} {adds : List Entry → List Entry} {r : ℕ} → Export state requests store slots state' requests' store' slots' adds r → Type 0

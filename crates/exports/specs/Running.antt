@@ -25,6 +25,7 @@ use Rattle.answers.specs.Shown.{stateRow}
 use Rattle.exports.specs.Refusals.{Within, given, named, call-within, open-within}
 use Rattle.exports.specs.Run as Exports
 use Rattle.exports.specs.Run.{noted, Run, xm-connection-new}
+use Rattle.exports.specs.Restoring.{restored-session}
 use Rattle.exports.specs.Asking.{legal-small, row-long, noted-refused, Came, asked, unasked, export-came}
 
 -- ---- The session
@@ -57,6 +58,37 @@ goes {s} {q = q} {q' = q'} {l = l} {adds = adds} {r = r} n k (unasked x) =
 pub run-row : {state requests store slots : List ℕ} {l : List Entry} → Run state requests store slots l → (length state ≡ connectionSlots) × Session (connectionOf state) (rooms requests store slots) l
 run-row (xm-connection-new {state = s} o {state' = s'} k) = opened s s' o _ (k .exported .answer) (k .exported .promise) (k .exported .number) (k .state)
 run-row (Exports.call k x) = let z = run-row k in goes (z .0) (z .1) (export-came x)
+run-row
+    (Exports.restored
+    {state = state}
+    {requests = requests}
+    {store = store}
+    {slots = slots}
+    {l = l}
+    reader
+    buf
+    ids
+    out
+    {size = size}
+    {out' = out'}
+    {size' = size'}
+    k
+    y
+    {state₁ = row}
+    {requests₁ = requests₁}
+    {store₁ = store₁}
+    {slots₁ = slots₁}
+    {reader₁ = reader₁}
+    {buf₁ = buf₁}
+    {ids₁ = ids₁}
+    {state' = row'}
+    {requests' = requests'}
+    {store' = store'}
+    {reader' = reader'}
+    {buf' = buf'}
+    {ids' = ids'}
+    x) =
+    restored-session state requests store slots reader buf ids out out' size size' row requests₁ store₁ slots₁ reader₁ buf₁ ids₁ row' requests' store' reader' buf' ids' l (run-row k .1) y x
 
 -- ---- What an export of it comes to
 

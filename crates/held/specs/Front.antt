@@ -4,10 +4,10 @@ use mathlib.Core.List.{List, _++_, append-assoc}
 use Prim.Native.Nat.{ℕ, _+_, _-_, _≤_}
 use native.Mathlib.Omega.{arith}
 use lib.ListN.{length, drop, length-append, take-append-drop}
-use Rattle.octets.specs.Bytes.{littleOrder, Octets}
+use Rattle.octets.specs.Bytes.{littleOrder, Octets, number-below}
 use Rattle.octets.specs.Put.{cut, length-cut, cut-cut}
 use Rattle.octets.specs.Field.{field, octets-cut}
-use Rattle.held.specs.General.{field-front, number-below, cut-left, cut-right}
+use Rattle.held.specs.General.{field-front, cut-left, cut-right}
 use Rattle.packet.specs.Packet.{leastPacket, mostPacket}
 use Rattle.held.specs.Head.{headerSize, numberAt, lengthAt, countAt, kindAt, zeroAt, event, Record, Fits, cost, encoded, decoded, mostFds, numOf, lenOf, fdsOf, kindOf, zeroOf, length-encoded, numOf-encoded, lenOf-encoded, fdsOf-encoded, kindOf-encoded, zeroOf-encoded, packet-encoded, encoded-decoded}
 

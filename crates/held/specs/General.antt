@@ -5,14 +5,13 @@ use mathlib.Core.List.{List, [], _∷_, _++_}
 use Prim.Native.Nat.{ℕ, suc, _+_, _-_, _*_, _≤_, _<_, _^_}
 use native.Mathlib.Omega.{arith}
 use lib.Dec.{eqb}
-use lib.Pow.{pow-add}
 use lib.ListN.{length, take, drop, getD}
 use lib.Seq.{take-at, drop-at, drop-drop}
 use borrow.Author.Tests.{eq-eqb, eqb-true}
 use Rattle.octets.specs.Logic.{choose, both, both-left, both-right, both-yes, apart}
-use Rattle.octets.specs.Bytes.{littleOrder, word, Octets, lowNumber, turned, numberIn, length-bytesOf, number-bytes}
+use Rattle.octets.specs.Bytes.{numberIn}
 use Rattle.octets.specs.Put.{put, cut, cut-add, cut-cut, take-cut, drop-cut, cut-put, cut-put-before}
-use Rattle.octets.specs.Field.{field, field-one}
+use Rattle.octets.specs.Field.{field, field-one, field-drop}
 
 -- ---- tests
 
@@ -67,15 +66,6 @@ same-yes a b e = ap (λ (l : List ℕ). same a l) (sym e) ∙ same-self a
 
 -- ---- cuts of two lists side by side
 
-pub cut-first : (a b : List ℕ) (n : ℕ) → length a ≡ n → cut 0 n (a ++ b) ≡ a
-unfolding cut
-cut-first a b n e = take-at a b n e
-
-pub cut-skip : (a b : List ℕ) (n k m : ℕ) → length a ≡ n → cut (n + k) m (a ++ b) ≡ cut k m b
-unfolding cut
-cut-skip a b n k m e =
-    ap (λ (l : List ℕ). take m l) (sym (drop-drop k n (a ++ b)) ∙ ap (λ (l : List ℕ). drop k l) (drop-at a b n e))
-
 -- a cut that is two lists side by side holds each of them
 pub cut-left : (s : List ℕ) (at m : ℕ) (a b : List ℕ) → cut at m s ≡ a ++ b → length a ≤ m → cut at (length a) s ≡ a
 cut-left s at m a b e h = sym (take-cut s at m (length a) h) ∙ ap (λ (l : List ℕ). take (length a) l) e ∙ take-at a b (length a) refl
@@ -100,10 +90,6 @@ pub field-cut : (o : ℕ) (s : List ℕ) (at m k n : ℕ) → k + n ≤ m → fi
 unfolding field
 field-cut o s at m k n h = ap (numberIn o) (cut-cut s at m k n h)
 
-pub field-drop : (o : ℕ) (s : List ℕ) (at k n : ℕ) → field o k n (drop at s) ≡ field o (at + k) n s
-unfolding field cut
-field-drop o s at k n = ap (λ (l : List ℕ). numberIn o (take n l)) (drop-drop k at s)
-
 pub byte-drop : (o : ℕ) (s : List ℕ) (at k : ℕ) → at + k < length s → getD s (at + k) 0 ≡ field o k 1 (drop at s)
 byte-drop o s at k h = field-one o s (at + k) h ∙ sym (field-drop o s at k 1)
 
@@ -111,25 +97,3 @@ byte-drop o s at k h = field-one o s (at + k) h ∙ sym (field-drop o s at k 1)
 pub field-front : (o : ℕ) (s : List ℕ) (at m k n : ℕ) → k + n ≤ m → field o k n (cut at m s) ≡ field o k n (drop at s)
 unfolding field cut
 field-front o s at m k n h = field-cut o s at m k n h ∙ sym (field-drop o s at k n)
-
-pub field-first : (n x : ℕ) (b : List ℕ) → x < 2 ^ (8 * n) → field littleOrder 0 n (word n x ++ b) ≡ x
-unfolding field
-field-first n x b h = ap (numberIn littleOrder) (cut-first (word n x) b n (length-bytesOf littleOrder n x)) ∙ number-bytes littleOrder n x h
-
-pub field-skip : (n x k m : ℕ) (b : List ℕ) → field littleOrder (n + k) m (word n x ++ b) ≡ field littleOrder k m b
-unfolding field
-field-skip n x k m b = ap (numberIn littleOrder) (cut-skip (word n x) b n k m (length-bytesOf littleOrder n x))
-
-low-below : (bs : List ℕ) → Octets bs → lowNumber bs < 2 ^ (8 * length bs)
-unfolding lowNumber
-low-below [] h = omega arith
-low-below (b ∷ bs) h =
-    let p : b < 256 = h 0 in
-    let e : 8 * suc (length bs) ≡ 8 + 8 * length bs = omega arith in
-    let q : 2 ^ (8 * suc (length bs)) ≡ 256 * 2 ^ (8 * length bs) = rw (e, pow-add 2 8 (8 * length bs)) in
-    omega (arith, q, low-below bs (λ i. h (suc i)))
-
--- the number of n bytes fits n bytes
-pub number-below : (bs : List ℕ) (n : ℕ) → length bs ≡ n → Octets bs → numberIn littleOrder bs < 2 ^ (8 * n)
-unfolding numberIn turned choose
-number-below bs n e h = subst (λ (m : ℕ). lowNumber bs < 2 ^ (8 * m)) e (low-below bs h)

@@ -18,11 +18,10 @@ use lib.ListN.{length, set, length-append}
 use borrow.Author.Tests.{leb-true, ltb-true, le-leb, lt-ltb}
 use Rattle.octets.specs.Logic.{choose, both, both-left, both-right, both-yes}
 use Rattle.octets.specs.Bytes.{littleOrder, word, Octets, word-number, length-bytesOf, bytes-one}
-use Rattle.octets.specs.Put.{put, cut, cut-add, length-cut, put-parts, put-none, put-next, set-two}
-use Rattle.octets.specs.Field.{field, putField, octets-cut}
+use Rattle.octets.specs.Put.{put, cut, cut-first, cut-skip, cut-add, length-cut, put-parts, put-none, put-next, set-two}
+use Rattle.octets.specs.Field.{field, putField, field-first, field-skip, octets-cut}
 use Rattle.packet.specs.Packet.{leastPacket, mostPacket}
 use Rattle.held.specs.declared.Label.{Label}
-use Rattle.held.specs.General.{cut-first, cut-skip, field-first, field-skip}
 
 abbrev pub numberAt : ℕ
 numberAt = 0

@@ -58,7 +58,7 @@ Other (prepare n) = Unit {0}
 Other (poll-event bytes) = Unit {0}
 Other (take-closed places) = Unit {0}
 
--- A run of public calls, over state and rooms: from ones that are read as fresh, any call that keeps its promise, whatever it is exactly (e) and whatever it shows of what it gives (f). The log has what the answers say.
+-- A run of public calls, over state and rooms: from ones that are read as fresh, any call that keeps its promise, whatever it is exactly (e) and whatever it shows of what it gives (f). The log has what the answers say. Where other state and rooms are read as the same, the run stands.
 pub data Public : Connection → Rooms → List Entry → Type 1 where
   opens : {c : Connection} {r : Rooms} (o k s : ℕ) → reads c r ≡ fresh o k s → Public c r []
   sends : {c : Connection} {r : Rooms} {l : List Entry} (kind : ReplyFdKind) (e : Answer (Done ℕ)) (a : Answer (ℕ × Connection)) (r' : Rooms) → Promise (λ n. n) e (λ m. sendRequest m kind) c r a r' → Public c r l
@@ -67,6 +67,7 @@ pub data Public : Connection → Rooms → List Entry → Type 1 where
       → Public (stateOf a c) r' (noteTook t p a l)
   others : {c : Connection} {r : Rooms} {l : List Entry} (x : Call) → Other x → {B : Type 0} (f : Given x → B) (e : Answer (Done (Given x))) (a : Answer (B × Connection)) (r' : Rooms) → Promise f e (modelled x) c r a r' → Public c r l
       → Public (stateOf a c) r' l
+  again : {c : Connection} {r : Rooms} {l : List Entry} (c' : Connection) (r' : Rooms) → reads c' r' ≡ reads c r → Public c r l → Public c' r' l
 
 -- ---- What a promise comes to: the model gives the same and the state is read as the model's; or a refusal, 9 among them, and all is as found.
 
@@ -118,6 +119,7 @@ public-runs (opens o k s e) = rw e (start o k s)
 public-runs (sends {c = c} {r = r} {l = l} kind e a r' k h) = came-sent c r l kind (came _ e (λ m. sendRequest m kind) c r a r' k) (public-runs h)
 public-runs (takes {c = c} {r = r} {l = l} t p e a r' k h) = came-took c r l t p (came _ e (λ m. enqueuePacket m p) c r a r' k) (public-runs h)
 public-runs (others {c = c} {r = r} {l = l} x o f e a r' k h) = came-other c r l x o f (came f e (modelled x) c r a r' k) (public-runs h)
+public-runs (again {l = l} c' r' e h) = subst (λ (m : Client). Runs m l) (sym e) (public-runs h)
 
 -- ---- What an answer says of the model's
 

@@ -67,8 +67,9 @@ fn lowest_bit(mask: u32) -> u32
     mask & (1 + !mask)
 }
 
-// Whether an allocator is sound (01, Rooms). A power of two is its own lowest set bit.
-fn is_sound(a: IdAllocator) -> bool
+// Inside, for savepoints too: whether an allocator is sound (01, Rooms). A power of two is its own
+// lowest set bit.
+pub fn is_sound(a: IdAllocator) -> bool
     ensures { λ r. ⌜ r ≡ sound a ⌝ }
 {
     if a.step == 0 {

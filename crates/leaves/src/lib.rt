@@ -13,6 +13,7 @@ mod reader;
 use connect::Connect;
 use id_allocator::IdAllocator;
 use packet_reader::PacketReader;
+pub use reader::Buffered;
 pub use reader::Fed;
 pub use reader::feed;
 pub use reader::room;
@@ -20,8 +21,8 @@ use refusal::Refusal;
 use script::Op;
 use text::Answer;
 
-// Where the reader's buffer begins, where it ends and that of the handshake begins, and where that
-// ends.
+// Where the reader's buffer begins, where the longest ends and that of the handshake begins, and
+// where that ends.
 pub const READER: usize = 65536;
 
 pub const SETUP: usize = 131072;
@@ -29,7 +30,7 @@ pub const SETUP: usize = 131072;
 pub const END: usize = 393220;
 
 pub struct Leaves {
-    pub reader: PacketReader,
+    pub reader: Buffered,
     pub handshake: Connect,
     pub ids: IdAllocator,
 }
@@ -42,10 +43,13 @@ pub struct Turned {
 // What a script finds before its first line: a reader and a handshake in an order, and no ids.
 pub fn fresh(order: u8) -> Leaves {
     Leaves {
-        reader: PacketReader {
-            order: order,
-            filled: 0,
-            target: packet::LEAST_PACKET,
+        reader: Buffered {
+            reader: PacketReader {
+                order: order,
+                filled: 0,
+                target: packet::LEAST_PACKET,
+            },
+            room: SETUP - READER,
         },
         handshake: Connect {
             order: order,

@@ -11,12 +11,24 @@ use packet_reader::PacketReader;
 use refusal::Refusal;
 use text::Answer;
 
-// Its buffer.
-fn buffer<'a>(bytes: &'a [u8]) -> &'a [u8] {
-    text::cut(bytes, crate::READER, crate::SETUP)
+// A reader, and how long its buffer is.
+pub struct Buffered {
+    pub reader: PacketReader,
+    pub room: usize,
 }
 
-fn with(leaves: Leaves, reader: PacketReader, answer: Answer) -> Turned {
+// A buffer of so many bytes.
+fn buffer<'a>(room: usize, bytes: &'a [u8]) -> &'a [u8] {
+    text::cut(bytes, crate::READER, text::behind(crate::READER, room))
+}
+
+fn on(now: Buffered, reader: PacketReader) -> Buffered {
+    let mut next = now;
+    next.reader = reader;
+    next
+}
+
+fn with(leaves: Leaves, reader: Buffered, answer: Answer) -> Turned {
     let mut next = leaves;
     next.reader = reader;
     Turned {
@@ -25,24 +37,35 @@ fn with(leaves: Leaves, reader: PacketReader, answer: Answer) -> Turned {
     }
 }
 
+// One with the longest buffer.
 pub(crate) fn new(leaves: Leaves, order: u8, bytes: &[u8]) -> Turned {
-    match PacketReader::new(order, buffer(bytes)) {
-        Made::Reader(reader) => with(leaves, reader, text::say(text::OK)),
+    let room = crate::SETUP - crate::READER;
+    match PacketReader::new(order, buffer(room, bytes)) {
+        Made::Reader(reader) => with(
+            leaves,
+            Buffered {
+                reader: reader,
+                room: room,
+            },
+            text::say(text::OK),
+        ),
         Made::Refused(refusal) => refused(leaves, refusal),
     }
 }
 
 // How many bytes the reader's part takes.
-pub fn room(reader: PacketReader, bytes: &[u8]) -> usize {
-    match reader.remaining_capacity(buffer(bytes)) {
+pub fn room(now: Buffered, bytes: &[u8]) -> usize {
+    let reader = now.reader;
+    match reader.remaining_capacity(buffer(now.room, bytes)) {
         Capacity::Bytes(n) => n,
         Capacity::Refused(_) => 0,
     }
 }
 
 pub(crate) fn left(leaves: Leaves, bytes: &[u8]) -> Turned {
-    let reader = leaves.reader;
-    match reader.remaining_capacity(buffer(bytes)) {
+    let now = leaves.reader;
+    let reader = now.reader;
+    match reader.remaining_capacity(buffer(now.room, bytes)) {
         Capacity::Bytes(n) => Turned {
             leaves: leaves,
             answer: text::count(text::ROOM, n as u64),
@@ -53,12 +76,12 @@ pub(crate) fn left(leaves: Leaves, bytes: &[u8]) -> Turned {
 
 // The bytes from one index to another, put into the reader's part if it takes them.
 pub(crate) fn fill(leaves: Leaves, bytes: &mut [u8], from: usize, end: usize) -> Turned {
-    let reader = leaves.reader;
+    let now = leaves.reader;
     let n = moves::count(from, end);
-    if room(reader, bytes) < n {
+    if room(now, bytes) < n {
         return refused(leaves, Refusal::OverAdvance);
     }
-    put(reader, bytes, from, n);
+    put(now.reader, bytes, from, n);
     Turned {
         leaves: leaves,
         answer: text::say(text::OK),
@@ -71,37 +94,43 @@ fn put(reader: PacketReader, bytes: &mut [u8], from: usize, n: usize) {
 }
 
 pub(crate) fn advance(leaves: Leaves, bytes: &[u8], n: usize) -> Turned {
-    let reader = leaves.reader;
-    match reader.advance(buffer(bytes), n) {
-        Advanced::NotYet(next) => with(leaves, next, roomed(text::NONE, room(next, bytes))),
+    let now = leaves.reader;
+    let reader = now.reader;
+    match reader.advance(buffer(now.room, bytes), n) {
+        Advanced::NotYet(next) => waiting(leaves, on(now, next), bytes),
         Advanced::Packet(len, next) => with(
             leaves,
-            next,
+            on(now, next),
             text::shown(text::PACKET, crate::READER, len),
         ),
         Advanced::Refused(refusal) => refused(leaves, refusal),
     }
 }
 
+fn waiting(leaves: Leaves, next: Buffered, bytes: &[u8]) -> Turned {
+    with(leaves, next, roomed(text::NONE, room(next, bytes)))
+}
+
 // What some bytes came to: how many were used, and the reader to go on with; and a packet of so
 // many bytes at the start of its buffer, where they made one whole.
 pub enum Fed {
-    NotYet(usize, PacketReader),
-    Packet(usize, usize, PacketReader),
+    NotYet(usize, Buffered),
+    Packet(usize, usize, Buffered),
     Refused(Refusal),
 }
 
 // The bytes from one index to another, as many of them as the reader's part takes.
-pub fn feed(reader: PacketReader, bytes: &mut [u8], from: usize, end: usize) -> Fed {
-    let n = least(room(reader, bytes), moves::count(from, end));
+pub fn feed(now: Buffered, bytes: &mut [u8], from: usize, end: usize) -> Fed {
+    let n = least(room(now, bytes), moves::count(from, end));
+    let reader = now.reader;
     put(reader, bytes, from, n);
-    happened(n, reader.advance(buffer(bytes), n))
+    happened(now, n, reader.advance(buffer(now.room, bytes), n))
 }
 
-fn happened(n: usize, answer: Advanced) -> Fed {
+fn happened(now: Buffered, n: usize, answer: Advanced) -> Fed {
     match answer {
-        Advanced::NotYet(next) => Fed::NotYet(n, next),
-        Advanced::Packet(len, next) => Fed::Packet(n, len, next),
+        Advanced::NotYet(next) => Fed::NotYet(n, on(now, next)),
+        Advanced::Packet(len, next) => Fed::Packet(n, len, on(now, next)),
         Advanced::Refused(refusal) => Fed::Refused(refusal),
     }
 }

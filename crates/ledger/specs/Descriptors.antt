@@ -13,7 +13,7 @@ use Rattle.model.specs.declared.Connection.{Connection}
 use Rattle.honest.specs.Run.{Entry}
 use Rattle.session.specs.Ask.{Ask, send-request, enqueue-packet, discard-reply, poll-for-reply-or-error, poll-check-for-reply-or-error, poll-for-reply, poll-for-event-with-sequence, take-closed-fds, prepare-check-for-reply-or-error, send-requests, enqueue-packets, poll-for-events, Value, Outputs}
 use Rattle.session.specs.Ask as Asked
-use Rattle.session.specs.Session.{Session, new, call}
+use Rattle.session.specs.Session.{Session, new, call, restored}
 
 -- ---- Of a state
 
@@ -151,11 +151,13 @@ unfoldable pub found : (x : Ask) → Answer (Value x × Connection) → Outputs 
 found x (gives y) o = finds x (y .0) o
 found x (refuses n) o = []
 
--- all that a session accepted, and all that it handed out
+-- all that a session accepted, and all that it handed out; none is inside where it is saved
 unfoldable pub sessionAccepted : {c : Connection} {r : Rooms} {l : List Entry} → Session c r l → List ℕ
 sessionAccepted (new o r c h) = []
 sessionAccepted (call x b ts a r' o h k) = brought x a ++ sessionAccepted k
+sessionAccepted (restored reader buffer ids out n out' s q b v q' b' t k) = sessionAccepted k
 
 unfoldable pub sessionHanded : {c : Connection} {r : Rooms} {l : List Entry} → Session c r l → List ℕ
 sessionHanded (new o r c h) = []
 sessionHanded (call x b ts a r' o h k) = found x a o ++ sessionHanded k
+sessionHanded (restored reader buffer ids out n out' s q b v q' b' t k) = sessionHanded k

@@ -31,13 +31,15 @@ use Rattle.model.specs.declared.Connection.{Connection}
 use Rattle.model.specs.declared.ReplyFdKind.{ReplyFdKind}
 use Rattle.batch.specs.Feed.{stopAt, enqueuePackets}
 use Rattle.batch.specs.Theorems.{Any, all-any}
+use Rattle.savepoint.specs.Calls.{laid}
+use Rattle.savepoint.specs.Theorems.{again-alike}
 use Rattle.connection.specs.Opening.{opens-fresh}
 use Rattle.honest.specs.Run.{Entry}
 use Rattle.honest.specs.Public.{stateOf}
 use Rattle.session.specs.Ask.{Ask, send-request, enqueue-packet, discard-reply, poll-for-reply-or-error, poll-check-for-reply-or-error, poll-for-reply, poll-for-event-with-sequence, take-closed-fds, prepare-check-for-reply-or-error, send-requests, enqueue-packets, poll-for-events, form, Value, Outputs, Answers}
 use Rattle.session.specs.Ask as Asked
 use Rattle.session.specs.AskLaws.{outputsOf, has-form}
-use Rattle.session.specs.Session.{Session, new, call}
+use Rattle.session.specs.Session.{Session, new, call, restored}
 use Rattle.ledger.specs.Descriptors.{within, accepted, unlessRefused, handedOut, tookWith, closedBy, brings, placesOf, finds, brought, found, sessionAccepted, sessionHanded}
 use Rattle.ledger.specs.Balance.{count-within, balances}
 use Rattle.ledger.specs.Many.{send-given, took-given, event-given, handed-gives}
@@ -135,6 +137,8 @@ unfolding sessionAccepted sessionHanded count
 session-balances (new o r c h) d = omega (arith, ap (λ (y : Client). count d (within y)) (opens-fresh o r c h), none-within d o (capacity (r .requests)) (length (r .store)))
 session-balances (call {c = c} {r = r} x b ts a r' o h k) d =
     omega (arith, session-balances k d, call-conserved d x c r a r' o h, count-append d (brought x a) (sessionAccepted k), count-append d (found x a o) (sessionHanded k))
+session-balances (restored {c = c} {r = r} reader buffer ids out n out' s q b v q' b' t k) d =
+    omega (arith, session-balances k d, ap (λ (y : Client). count d (within y)) (again-alike (laid c r reader buffer ids) out n out' s q b v q' b' t .same))
 
 -- in the slots of a sound state there stands what is inside
 pub within-slots : (c : Connection) (r : Rooms) → Sound c r → (d : ℕ) → count d (within (reads c r)) ≡ count d (Slots.inside (slotsOf c r))

@@ -3,9 +3,14 @@ use mathlib.Core.List.{List}
 use mathlib.Core.Path.{_≡_, refl, sym, ap, _∙_}
 use mathlib.Core.Bool.{not}
 use Prim.Native.Nat.{ℕ}
+use native.Mathlib.Omega.{arith}
 use lib.Dec.{eqb}
-use lib.ListN.{length}
+use lib.ListN.{length, take}
+use lib.Seq.{length-take-le}
 use Rattle.refusal.specs.Answer.{Answer, gives, refuses, refuse, pass}
+use Rattle.packet_reader.specs.Sound as Reader
+use Rattle.packet_reader.specs.Alike as Readers
+use Rattle.packet_reader.specs.declared.PacketReader.{PacketReader}
 use Rattle.requests.specs.Room.{capacity}
 use Rattle.descriptors.specs.Room.{mostDescriptors}
 use Rattle.model.specs.Client.{Client}
@@ -15,6 +20,9 @@ use Rattle.model.specs.Promise.{Done, answerOf, roomsOf, modelOf, guarded, guar
 use Rattle.model.specs.Reading.{Rooms, reads}
 use Rattle.model.specs.Sound.{Sound, is-sound}
 use Rattle.model.specs.declared.Connection.{Connection}
+use Rattle.savepoint.specs.Saved.{Partial, Saved}
+use Rattle.savepoint.specs.Calls.{Laid, Values, Saves, Restores, partialOf}
+use Rattle.savepoint.specs.Theorems.{bytes-given, saves-given, again-sound, again-read, again-alike}
 use Rattle.connection.specs.Calls.{openExact, opened, Opens}
 use Rattle.connection.specs.Opening.{opens-sound, opens-fresh}
 use Rattle.honest.specs.Public.{stateOf}
@@ -91,3 +99,33 @@ module _ (o : ℕ) (r q : Rooms) (k : capacity (r .requests) ≡ capacity (q .re
         other-sound = opens-sound o q d i;
         same = opens-fresh o r c h ∙ (λ j. fresh o (k j) (s j)) ∙ sym (opens-fresh o q d i);
       }
+
+-- ---- saved, and restored in other rooms
+
+-- what is filled of a sound reader's buffer is as long as it says
+filled-long : (p : PacketReader) (b : List ℕ) → Reader.Sound p b → length (take (p .filled) b) ≡ p .filled
+filled-long p b S = length-take-le (p .filled) b (omega (arith, S .target-fits, S .not-reached))
+
+partial-alike : (p : PacketReader) (b : List ℕ) (q : PacketReader) (d : List ℕ) → Reader.Sound p b → Reader.Sound q d → partialOf p b ≡ partialOf q d → Readers.Alike p b q d
+partial-alike p b q d S T e =
+    let f : take (p .filled) b ≡ take (q .filled) d = ap (λ (y : Partial). y .filled) e in
+    record {
+      sound = S;
+      other-sound = T;
+      order = ap (λ (y : Partial). y .order) e;
+      long = ap (λ (y : Partial). y .room) e;
+      filled = sym (filled-long p b S) ∙ ap length f ∙ filled-long q d T;
+      bytes = f;
+    }
+
+module _ (x : Laid) (out : List ℕ) (n : ℕ) (out' : List ℕ) (s : Saves x out (gives n) out') (q : Rooms) (b : List ℕ) (v : Values) (q' : Rooms) (b' : List ℕ) (t : Restores (take n out') q b (gives v) q' b') where
+  pub restored-same : {xs : List Ask} {hs gs : AllHeard xs} {c' d' : Connection} {r' s' : Rooms} → Row xs (x .connection) (x .rooms) hs c' r' → Row xs (v .0) q' gs d' s' → (hs ≡ gs) × Alike c' r' d' s'
+  restored-same l m = rows-same (again-alike x out n out' s q b v q' b' t) l m
+
+  pub restored-ids : v .1 .1 ≡ x .ids
+  restored-ids = ap (λ (y : Saved). y .ids) (again-read x out n out' s q b v q' b' t)
+
+  pub restored-reader : Readers.Alike (x .reader) (x .buffer) (v .1 .0) b'
+  restored-reader =
+      partial-alike (x .reader) (x .buffer) (v .1 .0) b' (bytes-given x (length out) (take n out') (saves-given x out n out' s) .0 .reader) (again-sound x out n out' s q b v q' b' t .reader)
+      (sym (ap (λ (y : Saved). y .reader) (again-read x out n out' s q b v q' b' t)))

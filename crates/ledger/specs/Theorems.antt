@@ -4,8 +4,13 @@ use mathlib.Core.List.{List, _∷_, _++_}
 use mathlib.Core.Logic.{_↔_}
 use mathlib.Core.Path.{_≡_, sym, refl}
 use Prim.Native.Nat.{ℕ, _+_, _-_, _≤_}
-use lib.ListN.{length, drop}
+use lib.ListN.{length, take, drop}
+use Rattle.octets.specs.Put.{put}
 use Rattle.refusal.specs.Answer.{Answer, gives, refuses}
+use Rattle.packet_reader.specs.Alike as Readers
+use Rattle.packet_reader.specs.Reader as Reader
+use Rattle.packet_reader.specs.Stream.{Feeds}
+use Rattle.packet_reader.specs.declared.PacketReader.{PacketReader}
 use Rattle.requests.specs.Room.{capacity}
 use Rattle.sequence.specs.Sending.{syncSpan}
 use Rattle.descriptors.specs.Room.{count}
@@ -28,6 +33,7 @@ use Rattle.model.specs.declared.ReplyFdKind.{ReplyFdKind}
 use Rattle.model.specs.declared.ReplyFdKind.the-variants as ReplyFdKind
 use Rattle.model.specs.declared.Next.{Next}
 use Rattle.batch.specs.Feed.{enqueuePackets}
+use Rattle.savepoint.specs.Calls.{Laid, Values, Saves, Restores}
 use Rattle.connection.specs.Calls.{Opens, Discards, PollsReply, SendsMany, PollsEvents}
 use Rattle.connection.specs.Opening as Opening
 use Rattle.connection.specs.Promises.{opens-one}
@@ -245,6 +251,32 @@ rows-same xs c r d q k hs gs c' r' d' q' l m = StateLaws.rows-same k l m
 pub sessions-same : (o : ℕ) (r q : Rooms) → capacity (r .requests) ≡ capacity (q .requests) → length (r .store) ≡ length (q .store) → (c d : Connection) → Opens o r (gives (tt, c)) → Opens o q (gives (tt, d))
     → (xs : List Ask) (hs gs : AllHeard xs) (c' : Connection) (r' : Rooms) (d' : Connection) (q' : Rooms) → Row xs c r hs c' r' → Row xs d q gs d' q' → hs ≡ gs
 sessions-same o r q k s c d h i xs hs gs c' r' d' q' l m = StateLaws.rows-same (StateLaws.new-alike o r q k s c d h i) l m .0
+
+-- SAVED, AND RESTORED IN OTHER ROOMS. The rig's save code forgot next reply expected: restored runs asked for a sync where the originals had not, and 412 sound matches were filed as desyncs. Here every part of the state is in the file.
+module _ (x : Laid) (out : List ℕ) (n : ℕ) (out' : List ℕ) (s : Saves x out (gives n) out') (q : Rooms) (b : List ℕ) (v : Values) (q' : Rooms) (b' : List ℕ) (t : Restores (take n out') q b (gives v) q' b') where
+  -- A RESTORED RUN ANSWERS AS THE ORIGINAL: of the same public calls, however many, the one that was restored hears what the one that was saved hears, answers and outputs, and they are left alike.
+  pub restored-same : (xs : List Ask) (hs gs : AllHeard xs) (c' : Connection) (r' : Rooms) (d' : Connection) (s' : Rooms) → Row xs (x .connection) (x .rooms) hs c' r' → Row xs (v .0) q' gs d' s' → (hs ≡ gs) × Alike c' r' d' s'
+  restored-same xs hs gs c' r' d' s' l m = StateLaws.restored-same x out n out' s q b v q' b' t l m
+
+  -- The allocator is the one that was saved.
+  pub restored-ids : v .1 .1 ≡ x .ids
+  restored-ids = StateLaws.restored-ids x out n out' s q b v q' b' t
+
+  -- The reader is alike with the one that was saved:
+  pub restored-reader : Readers.Alike (x .reader) (x .buffer) (v .1 .0) b'
+  restored-reader = StateLaws.restored-reader x out n out' s q b v q' b' t
+
+  -- `remaining_capacity` answers the same,
+  pub restored-capacity : Reader.capacity (x .reader) (x .buffer) ≡ Reader.capacity (v .1 .0) b'
+  restored-capacity = Readers.alike-capacity (x .reader) (x .buffer) (v .1 .0) b' restored-reader
+
+  -- and so does `advance` by k bytes of a piece that was put into the lent part;
+  pub restored-advanced : (piece : List ℕ) (k : ℕ) → k ≤ length piece → Reader.advanced (x .reader) (put (x .buffer) (x .reader .filled) piece) k ≡ Reader.advanced (v .1 .0) (put b' (v .1 .0 .filled) piece) k
+  restored-advanced = Readers.alike-advanced (x .reader) (x .buffer) (v .1 .0) b' restored-reader
+
+  -- fed the same pieces, however many, both give the same packets and are left alike.
+  pub restored-feeds : (pieces ps ps' : List (List ℕ)) (f g : PacketReader) (d e : List ℕ) → Feeds (x .reader) (x .buffer) pieces ps f d → Feeds (v .1 .0) b' pieces ps' g e → (ps ≡ ps') × Readers.Alike f d g e
+  restored-feeds pieces ps ps' f g d e h i = Readers.alike-feeds restored-reader h i
 
 -- NOTHING SUPERFLUOUS: of each part there are two values in range, all else the same, and calls that answer differently: byte order, K, S, the last number written, the next reply expected, the last read, the outstanding requests, of one whether it has descriptors, whether it has a mode and which, replies, events, of a held record its number, its packet and a reply's descriptors, of two their order, the descriptors that wait, and those to be closed.
 pub each-needed :

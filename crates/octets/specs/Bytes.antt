@@ -1,5 +1,5 @@
 -- Numbers as bytes, in either order. Assumes nothing.
-use mathlib.Core.Path.{_≡_, refl, sym, ap, _∙_}
+use mathlib.Core.Path.{_≡_, refl, sym, ap, _∙_, subst}
 use Prim.Native.Nat.{ℕ, zero, suc, _+_, _*_, _/_, _%_, _<_, _^_}
 use native.Mathlib.Nat.{mul-assoc, zero-add, suc-add}
 use native.Mathlib.Omega.{arith}
@@ -144,6 +144,20 @@ low-read (b ∷ bs) h =
 pub word-number : (bs : List ℕ) (n : ℕ) → length bs ≡ n → Octets bs → word n (numberIn littleOrder bs) ≡ bs
 unfolding bytesOf numberIn turned choose
 word-number bs n e h = ap (λ (m : ℕ). lowBytes m (lowNumber bs)) (sym e) ∙ low-read bs h
+
+low-below : (bs : List ℕ) → Octets bs → lowNumber bs < 2 ^ (8 * length bs)
+unfolding lowNumber
+low-below [] h = omega arith
+low-below (b ∷ bs) h =
+    let p : b < 256 = h 0 in
+    let e : 8 * suc (length bs) ≡ 8 + 8 * length bs = omega arith in
+    let q : 2 ^ (8 * suc (length bs)) ≡ 256 * 2 ^ (8 * length bs) = rw (e, pow-add 2 8 (8 * length bs)) in
+    omega (arith, q, low-below bs (λ i. h (suc i)))
+
+-- the number of n bytes fits n bytes
+pub number-below : (bs : List ℕ) (n : ℕ) → length bs ≡ n → Octets bs → numberIn littleOrder bs < 2 ^ (8 * n)
+unfolding numberIn turned choose
+number-below bs n e h = subst (λ (m : ℕ). lowNumber bs < 2 ^ (8 * m)) e (low-below bs h)
 
 -- A field is its two halves, in either order and for each width: as it is written,
 pub bytes-halves : (o n x : ℕ) → bytesOf o n (ordered o (x % 2 ^ (8 * n)) (x / 2 ^ (8 * n))) ++ bytesOf o n (ordered o (x / 2 ^ (8 * n)) (x % 2 ^ (8 * n))) ≡ bytesOf o (n + n) x

@@ -1,13 +1,14 @@
 -- A field of n bytes at a place of a list, in either order. Assumes nothing.
-use mathlib.Core.Path.{_≡_, refl, sym, ap, _∙_}
+use mathlib.Core.Path.{_≡_, refl, sym, ap, _∙_, subst}
 use Prim.Native.Nat.{ℕ, zero, suc, _+_, _*_, _/_, _%_, _≤_, _<_, _^_}
 use native.Mathlib.Nat.{suc-add, mul-suc}
 use native.Mathlib.Omega.{arith}
 use mathlib.Core.List.{List, [], _∷_, _++_}
 use native.Mathlib.Decide.{decLt}
-use lib.ListN.{length, drop, getD, set, length-append, length-take, List·getD-eq-default}
+use lib.ListN.{length, take, drop, getD, set, length-append, length-take, List·getD-eq-default}
+use lib.Seq.{drop-drop, getD-drop}
 use Rattle.octets.specs.Bytes.{littleOrder, word, Octets, word-number, bytesOf, numberIn, ordered, length-bytesOf, number-bytes, bytes-halves, number-halves, number-one, bytes-one}
-use Rattle.octets.specs.Put.{put, cut, put-put, put-next, getD-cut, cut-put, cut-put-before, cut-put-after, cut-add, cut-one, length-cut, set-one}
+use Rattle.octets.specs.Put.{put, cut, cut-first, cut-skip, put-put, put-next, getD-cut, cut-put, cut-put-before, cut-put-after, cut-add, cut-one, length-cut, set-one}
 
 -- the number in the n bytes of s from index at on
 unfoldable pub field : ℕ → ℕ → ℕ → List ℕ → ℕ
@@ -80,6 +81,20 @@ fields-behind o w at (suc n) s =
     let e : at + w + w * n ≡ at + w * suc n = omega (arith, mul-suc w n) in
     rw suc-add (ap (λ (l : List ℕ). field o at w s ∷ l) (fields-behind o w (at + w) n s ∙ ap (λ (k : ℕ). fields o w (at + w) n s ++ (field o k w s ∷ [])) e))
 
+-- ---- a field behind an index, of a number at the front, and past one
+
+pub field-drop : (o : ℕ) (s : List ℕ) (at k n : ℕ) → field o k n (drop at s) ≡ field o (at + k) n s
+unfolding field cut
+field-drop o s at k n = ap (λ (l : List ℕ). numberIn o (take n l)) (drop-drop k at s)
+
+pub field-first : (n x : ℕ) (b : List ℕ) → x < 2 ^ (8 * n) → field littleOrder 0 n (word n x ++ b) ≡ x
+unfolding field
+field-first n x b h = ap (numberIn littleOrder) (cut-first (word n x) b n (length-bytesOf littleOrder n x)) ∙ number-bytes littleOrder n x h
+
+pub field-skip : (n x k m : ℕ) (b : List ℕ) → field littleOrder (n + k) m (word n x ++ b) ≡ field littleOrder k m b
+unfolding field
+field-skip n x k m b = ap (numberIn littleOrder) (cut-skip (word n x) b n k m (length-bytesOf littleOrder n x))
+
 pub octets-cut : (at n : ℕ) (s : List ℕ) → Octets s → Octets (cut at n s)
 unfolding cut
 octets-cut at n s h i = elim (decLt i n) [ yes p ↦ rw (getD-cut s at n i p) (h (at + i)) | no q ↦ past q ]
@@ -88,6 +103,9 @@ octets-cut at n s h i = elim (decLt i n) [ yes p ↦ rw (getD-cut s at n i p) (h
     past q =
         let e : getD (cut at n s) i 0 ≡ 0 = List·getD-eq-default (cut at n s) 0 (omega (arith, length-take n (drop at s))) in
         omega arith
+
+pub octets-drop : (n : ℕ) (s : List ℕ) → Octets s → Octets (drop n s)
+octets-drop n s h i = subst (λ (x : ℕ). x < 256) (sym (getD-drop n s i 0)) (h (n + i))
 
 -- four numbers of eight bytes each, least significant first, side by side
 unfoldable pub four : ℕ → ℕ → ℕ → ℕ → List ℕ

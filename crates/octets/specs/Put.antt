@@ -199,6 +199,16 @@ pub cut-parts : (a x c : List ℕ) (at n : ℕ) → length a ≡ at → length x
 unfolding cut
 cut-parts a x c at n e f = ap (λ (l : List ℕ). take n l) (drop-at a (x ++ c) at e) ∙ take-at x c n f
 
+-- of two lists side by side
+pub cut-first : (a b : List ℕ) (n : ℕ) → length a ≡ n → cut 0 n (a ++ b) ≡ a
+unfolding cut
+cut-first a b n e = take-at a b n e
+
+pub cut-skip : (a b : List ℕ) (n k m : ℕ) → length a ≡ n → cut (n + k) m (a ++ b) ≡ cut k m b
+unfolding cut
+cut-skip a b n k m e =
+    ap (λ (l : List ℕ). take m l) (sym (drop-drop k n (a ++ b)) ∙ ap (λ (l : List ℕ). drop k l) (drop-at a b n e))
+
 -- a part between two ends
 pub part-cut : (s : List ℕ) (a n : ℕ) → take (a + n - a) (drop a s) ≡ cut a n s
 unfolding cut

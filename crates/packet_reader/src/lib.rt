@@ -42,6 +42,17 @@ fn aim_of(order: u8, bytes: &[u8], filled: usize) -> usize
     packet_length(code, octets::get_u32(order, bytes, packet::LENGTH))
 }
 
+// Inside, for savepoints: how many bytes a packet will have of which these are there. An order other
+// than `l` counts as `B`.
+pub fn wanted(order: u8, bytes: &[u8]) -> usize
+    ensures { λ r. ⌜ r ≡ aim order (now (bytes .entry)) (length (now (bytes .entry))) ⌝ }
+{
+    if bytes.len() < packet::LEAST_PACKET {
+        return packet::LEAST_PACKET;
+    }
+    aim_of(order, bytes, bytes.len())
+}
+
 // What a run of bytes begins with: it has none, or begins with a part of a packet, with a packet
 // that is longer than any may be, or with a whole one of so many bytes.
 pub enum Begins {
@@ -194,7 +205,8 @@ fn fresh(order: u8) -> PacketReader
     }
 }
 
-fn is_sound(reader: PacketReader, buf: &[u8]) -> bool
+// Inside, for savepoints too: whether a reader is sound beside its buffer (01, Rooms).
+pub fn is_sound(reader: PacketReader, buf: &[u8]) -> bool
     ensures { λ r. ⌜ r ≡ soundb reader (now (buf .entry)) ⌝ }
 {
     if buf.len() < packet::LEAST_PACKET {

@@ -1,10 +1,10 @@
--- 01, Refusal numbers: the table. Assumes nothing.
+-- 01, Refusal numbers: the table, with those of 02, M-100. Assumes nothing.
 use mathlib.Core.Path.{_≡_, refl}
 use mathlib.Core.List.{List, [], _∷_}
 use Prim.Native.Nat.{ℕ, _-_}
 use lib.ListN.{getD}
 use Rattle.refusal.specs.declared.Refusal.{Refusal}
-use Rattle.refusal.specs.declared.Refusal.the-variants.{ShortPacket, LongPacket, NumberEnd, FewDescriptors, NoRoom, SyncFirst, OverAdvance, OutShort, BadRoom, ZeroMask, IdsExhausted, BadRange, BadOrder, BadContent, Incomplete, LongAuth}
+use Rattle.refusal.specs.declared.Refusal.the-variants.{ShortPacket, LongPacket, NumberEnd, FewDescriptors, NoRoom, SyncFirst, OverAdvance, OutShort, BadRoom, ZeroMask, IdsExhausted, BadRange, BadOrder, BadContent, Incomplete, LongAuth, HasDescriptors, BadSavepoint}
 
 -- the number that the table gives a refusal
 abbrev pub numberOf : Refusal → ℕ
@@ -24,12 +24,14 @@ numberOf BadOrder = 13
 numberOf BadContent = 14
 numberOf Incomplete = 15
 numberOf LongAuth = 16
+numberOf HasDescriptors = 18
+numberOf BadSavepoint = 19
 
--- the refusals in the order of the table
+-- the refusals in the order of the table; the place of 17, which is no refusal's, is filled by another
 unfoldable pub table : List Refusal
 table =
     ShortPacket ∷ LongPacket ∷ NumberEnd ∷ FewDescriptors ∷ NoRoom ∷ SyncFirst ∷ OverAdvance ∷ OutShort ∷ BadRoom ∷ ZeroMask ∷ IdsExhausted ∷ BadRange ∷ BadOrder ∷ BadContent ∷ Incomplete
-    ∷ LongAuth ∷ []
+    ∷ LongAuth ∷ BadRoom ∷ HasDescriptors ∷ BadSavepoint ∷ []
 
 -- the refusal of a number
 unfoldable pub refusalOf : ℕ → Refusal
@@ -54,3 +56,5 @@ listed BadOrder = refl
 listed BadContent = refl
 listed Incomplete = refl
 listed LongAuth = refl
+listed HasDescriptors = refl
+listed BadSavepoint = refl

@@ -41,6 +41,10 @@ pub enum Refusal {
     Incomplete,
     // 16: an authorization name or data over 65,535 bytes.
     LongAuth,
+    // 18: a savepoint asked for while a descriptor is inside. No refusal has the number 17.
+    HasDescriptors,
+    // 19: bytes that are no savepoint.
+    BadSavepoint,
 }
 
 impl Refusal {
@@ -65,6 +69,8 @@ impl Refusal {
             Refusal::BadContent => 14,
             Refusal::Incomplete => 15,
             Refusal::LongAuth => 16,
+            Refusal::HasDescriptors => 18,
+            Refusal::BadSavepoint => 19,
         }
     }
 }

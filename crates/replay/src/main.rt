@@ -9,11 +9,11 @@ ghost use lib.ListN.{length};
 use model::Next;
 use run::State;
 
-// The packet store; and the packets handed out, the buffers of reader and handshake, the input, and
-// the text that is not written yet.
+// The packet store; and the packets handed out, the buffers of reader and handshake, a savepoint, the
+// input, and the text that is not written yet.
 const STORE: usize = 4194304;
 
-const BYTES: usize = 1049604;
+const BYTES: usize = 3277828;
 
 // Descriptors inside at most.
 const SLOTS: usize = 256;
@@ -32,7 +32,7 @@ fn with_bytes(store: &mut [u8]) {
 
 // By a call, so that no proof counts them.
 fn zeros() -> [u8; BYTES]
-    ensures { λ r. ⌜ 1049604 ≡ length r ⌝ }
+    ensures { λ r. ⌜ 3277828 ≡ length r ⌝ }
 {
     [0; BYTES]
 }

@@ -1,9 +1,12 @@
 // A line of a script, carried out and answered.
 use calls::Done;
+use calls::Point;
+use leaves::Buffered;
 use leaves::Leaves;
 use model::Connection;
 use model::Next;
 use refusal::Refusal;
+use saving::Client;
 use script::Input;
 use script::Op;
 
@@ -182,11 +185,24 @@ fn command(
     slots: &mut [u32],
     bytes: &mut [u8],
 ) -> State {
-    if script::is_leaf(op.code) {
+    let code = op.code;
+    if script::is_leaf(code) {
         return leafed(state, op, bytes);
     }
-    let done = calls::line(started(state), op, requests, store, slots, bytes);
-    finished(state, done, bytes)
+    match code {
+        script::SAVE => {
+            let next = calls::save(point(state), requests, store, slots, bytes);
+            return pointed(state, next, bytes);
+        }
+        script::RESTORE => {
+            let next = calls::restore(point(state), op, requests, store, slots, bytes);
+            return pointed(state, next, bytes);
+        }
+        _ => {
+            let done = calls::line(started(state), op, requests, store, slots, bytes);
+            return finished(state, done, bytes);
+        }
+    }
 }
 
 fn leafed(state: State, op: Op, bytes: &mut [u8]) -> State {
@@ -221,6 +237,47 @@ fn done_to(state: State, done: Done) -> State {
     let reader = done.reader;
     let mut leaves = state.leaves;
     leaves.reader = reader;
+    let mut next = state;
+    next.connection = c;
+    next.leaves = leaves;
+    next
+}
+
+// ---- savepoints: what they hold of what a script works on
+
+fn point(state: State) -> Point {
+    let c = state.connection;
+    let leaves = state.leaves;
+    let now = leaves.reader;
+    let reader = now.reader;
+    let ids = leaves.ids;
+    Point {
+        client: Client {
+            connection: c,
+            reader: reader,
+            ids: ids,
+        },
+        room: now.room,
+        waiting: state.waiting,
+    }
+}
+
+fn pointed(state: State, point: Point, bytes: &mut [u8]) -> State {
+    ended(point_to(state, point), point.waiting, bytes)
+}
+
+fn point_to(state: State, point: Point) -> State {
+    let client = point.client;
+    let c = client.connection;
+    let reader = client.reader;
+    let ids = client.ids;
+    let buffered = Buffered {
+        reader: reader,
+        room: point.room,
+    };
+    let mut leaves = state.leaves;
+    leaves.reader = buffered;
+    leaves.ids = ids;
     let mut next = state;
     next.connection = c;
     next.leaves = leaves;

@@ -6,7 +6,7 @@ use mathlib.Core.Bool.{true}
 use mathlib.Core.List.{List, [], _∷_, _++_, map}
 use Prim.Native.Nat.{ℕ, suc, _+_, _-_, _≤_, _<_, _%_}
 use native.Mathlib.Omega.{arith}
-use lib.ListN.{length, drop, getD, set, length-set}
+use lib.ListN.{length, drop, getD, set, length-set, replicate, length-replicate}
 use lib.Dec.{leb, eqb}
 use borrow.Author.Tests.{leb-true, le-leb, eqb-true, eq-eqb}
 use Rattle.octets.specs.Logic.{both, both-left, both-right, both-yes}
@@ -39,10 +39,15 @@ sized-is k room = (there, λ s. both-yes _ _ (le-leb 1 k (s .least)) (both-yes _
         let t : both (leb k mostRequests) (eqb (length room) k) ≡ true = both-right _ _ h in
         record { least = leb-true 1 k (both-left _ _ h); most = leb-true k mostRequests (both-left _ _ t); holds = eqb-true (length room) k (both-right _ _ t) }
 
--- A room has the bytes for as many requests as it is one for.
+-- A room has the bytes for as many requests as it is one for,
 pub bytes-capacity : (room : List ℕ) → length room ≡ bytesFor (capacity room)
 unfolding capacity bytesFor
 bytes-capacity room = refl
+
+-- and so many bytes are a room for k requests.
+pub capacity-bytes : (k b : ℕ) → capacity (replicate (bytesFor k) b) ≡ k
+unfolding capacity bytesFor
+capacity-bytes k b = length-replicate k b
 
 -- Setting a mode is to set the request under that mode, so what follows holds of it too.
 pub mode-put : (room : List ℕ) (n : ℕ) (m : Mode) → putMode room n m ≡ putRequest room n (underMode m (requestAt room n))
@@ -50,7 +55,16 @@ unfolding putMode
 mode-put room n m = refl
 
 module _ (room : List ℕ) (n : ℕ) (r : Request) where
-  -- Setting a request leaves for how many requests the room is one.
+  -- Setting a request leaves the room's length, how many it has bytes for,
+  pub length-put : length (putRequest room n r) ≡ length room
+  unfolding putRequest
+  length-put = length-set room (n % length room) (byteOf r)
+
+  pub capacity-put : capacity (putRequest room n r) ≡ capacity room
+  unfolding capacity putRequest
+  capacity-put = length-set room (n % length room) (byteOf r)
+
+  -- and for how many requests it is one.
   pub sized-put : (k : ℕ) → sized k (putRequest room n r) ≡ sized k room
   unfolding sized putRequest
   sized-put k = ap (λ (l : ℕ). both (leb 1 k) (both (leb k mostRequests) (eqb l k))) (length-set room (n % length room) (byteOf r))

@@ -4,7 +4,7 @@ use libc::STDIN_FILENO;
 const NEWLINE: u8 = 10;
 
 // Where the input begins in the run of bytes.
-const INPUT: usize = 393220;
+pub const INPUT: usize = 1179652;
 
 // Where a run is.
 pub struct Input {

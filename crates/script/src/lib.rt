@@ -10,6 +10,7 @@ mod names;
 mod number;
 mod words;
 
+pub use input::INPUT;
 pub use input::Input;
 pub use input::next;
 pub use input::start;
@@ -36,7 +37,9 @@ pub use names::POLL_REPLY_OR_ERROR;
 pub use names::PREPARE;
 pub use names::RANGE;
 pub use names::READER;
+pub use names::RESTORE;
 pub use names::ROOM;
+pub use names::SAVE;
 pub use names::SEND;
 pub use names::SENDALL;
 pub use names::SENDMANY;
@@ -75,9 +78,15 @@ pub fn parse(input: &mut [u8], from: usize, end: usize) -> Op {
     if named.alone {
         return line::bare(code);
     }
+    if is_long(code, from, end) {
+        return bad();
+    }
     let start = words::after(from, named.at, end);
     match names::rest_of(code) {
         names::DIGITS => {
+            return made(code, start, number::unhex_short(input, start, end));
+        }
+        names::SAVEPOINT => {
             return made(code, start, number::unhex(input, start, end));
         }
         names::KINDS => {
@@ -96,6 +105,19 @@ pub fn parse(input: &mut [u8], from: usize, end: usize) -> Op {
             return bad();
         }
     }
+}
+
+// The most bytes of a line, newline included, that has no savepoint.
+const LINE: usize = 132096;
+
+fn is_long(code: u8, from: usize, end: usize) -> bool {
+    if code == RESTORE {
+        return false;
+    }
+    if end < from {
+        return false;
+    }
+    LINE <= end - from
 }
 
 fn made(code: u8, start: usize, bytes: Bytes) -> Op {

@@ -34,33 +34,37 @@ pub const STATE: u8 = 14;
 
 pub const NEW: u8 = 15;
 
+pub const SAVE: u8 = 16;
+
+pub const RESTORE: u8 = 17;
+
 // From here on the commands of the reader, the handshake and the ids.
-pub const READER: u8 = 16;
+pub const READER: u8 = 18;
 
-pub const ROOM: u8 = 17;
+pub const ROOM: u8 = 19;
 
-pub const FILL: u8 = 18;
+pub const FILL: u8 = 20;
 
-pub const ADVANCE: u8 = 19;
+pub const ADVANCE: u8 = 21;
 
-pub const HELLO: u8 = 20;
+pub const HELLO: u8 = 22;
 
-pub const HFILL: u8 = 21;
+pub const HFILL: u8 = 23;
 
-pub const HADVANCE: u8 = 22;
+pub const HADVANCE: u8 = 24;
 
-pub const IDS: u8 = 23;
+pub const IDS: u8 = 25;
 
-pub const GEN: u8 = 24;
+pub const GEN: u8 = 26;
 
-pub const RANGE: u8 = 25;
+pub const RANGE: u8 = 27;
 
 // A line that cannot be read; an empty line or a remark; and `send` with a count.
-pub const BAD: u8 = 26;
+pub const BAD: u8 = 28;
 
-pub const NOTHING: u8 = 27;
+pub const NOTHING: u8 = 29;
 
-pub const SENDMANY: u8 = 28;
+pub const SENDMANY: u8 = 30;
 
 // Whether it is one of the reader, the handshake and the ids.
 pub fn is_leaf(code: u8) -> bool {
@@ -103,14 +107,14 @@ fn is_nothing(line: &[u8]) -> bool {
 
 fn of(name: &[u8]) -> u8 {
     words::find(
-        b"send intake poll_event poll_reply poll_check poll_reply_or_error prepare fds discard sendall feedall feed feedin drain state new reader room fill advance hello hfill hadvance ids gen range",
+        b"send intake poll_event poll_reply poll_check poll_reply_or_error prepare fds discard sendall feedall feed feedin drain state new save restore reader room fill advance hello hfill hadvance ids gen range",
         name,
         BAD,
     )
 }
 
 // How what stands behind a name is read: as hex digits, as kinds of requests, as descriptors, as a
-// number, or as words of several kinds; or there is nothing.
+// number, or as words of several kinds; there is nothing; or it is a savepoint in hex digits.
 pub(crate) const DIGITS: u8 = 0;
 
 pub(crate) const KINDS: u8 = 1;
@@ -123,6 +127,8 @@ pub(crate) const WORDS: u8 = 4;
 
 pub(crate) const EMPTY: u8 = 5;
 
+pub(crate) const SAVEPOINT: u8 = 6;
+
 pub(crate) fn rest_of(code: u8) -> u8 {
     match code {
         INTAKE | FILL | FEED | FEEDIN | HFILL | FEEDALL => DIGITS,
@@ -130,6 +136,7 @@ pub(crate) fn rest_of(code: u8) -> u8 {
         FDS => LIST,
         POLL_REPLY | POLL_CHECK | POLL_REPLY_OR_ERROR | PREPARE | ADVANCE | HADVANCE => NUMBER,
         SEND | DISCARD | NEW | IDS | RANGE => WORDS,
+        RESTORE => SAVEPOINT,
         _ => EMPTY,
     }
 }

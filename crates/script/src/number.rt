@@ -2,8 +2,10 @@
 ghost use Prim.Native.Nat.{_≤_, _<_};
 ghost use lib.ListN.{length};
 
-// The most digits that bytes may have.
-const MOST_DIGITS: usize = 131072;
+// The most digits that bytes may have, and those of anything but a savepoint.
+const MOST_DIGITS: usize = 1572864;
+
+const SHORT_DIGITS: usize = 131072;
 
 pub enum Number {
     Value(u64),
@@ -127,6 +129,17 @@ pub(crate) fn unhex(input: &mut [u8], start: usize, end: usize) -> Bytes {
         at += 2;
     }
     Bytes::End(to)
+}
+
+// The same for anything but a savepoint.
+pub(crate) fn unhex_short(input: &mut [u8], start: usize, end: usize) -> Bytes {
+    if end < start {
+        return Bytes::Bad;
+    }
+    if SHORT_DIGITS < end - start {
+        return Bytes::Bad;
+    }
+    unhex(input, start, end)
 }
 
 fn put(input: &mut [u8], at: usize, byte: u8)

@@ -3,10 +3,12 @@ use mathlib.Core.Bool.{false}
 use mathlib.Core.List.{List, [], _∷_, _++_}
 use mathlib.Core.Path.{_≡_}
 use Prim.Native.Nat.{ℕ}
-use lib.ListN.{drop}
+use lib.ListN.{take, drop}
 use Rattle.refusal.specs.Answer.{Answer, gives, refuses}
 use Rattle.packet.specs.Packet.{codeOf, unnumbered}
 use Rattle.packet_reader.specs.Frame.{cutPackets}
+use Rattle.packet_reader.specs.declared.PacketReader.{PacketReader}
+use Rattle.id_allocator.specs.declared.IdAllocator.{IdAllocator}
 use Rattle.model.specs.Client.{Held, Client}
 use Rattle.model.specs.Model as Model
 use Rattle.model.specs.Model.{Filing, enqueuePacket, Taken, PollReply}
@@ -14,6 +16,7 @@ use Rattle.model.specs.Batch.{Each}
 use Rattle.model.specs.Feed.{ShownFed}
 use Rattle.model.specs.Reading.{Rooms, reads}
 use Rattle.model.specs.declared.Connection.{Connection}
+use Rattle.savepoint.specs.Calls.{laid, Values, Saves, Restores}
 use Rattle.connection.specs.Calls.{Opens}
 use Rattle.honest.specs.Run.{Entry, Filed}
 use Rattle.honest.specs.Public.{stateOf}
@@ -71,11 +74,13 @@ bytesIn = each (λ (p : Packet). p .bytes)
 abbrev pub numbersIn : List Packet → List ℕ
 numbersIn = each (λ (p : Packet). p .true-number)
 
--- A session with a server that has these packets, and those that are left of them. The packets that a call brings are the next ones, and those that it took are gone: one that it refused is still to be brought, before all behind it.
+-- A session with a server that has these packets, and those that are left of them. The packets that a call brings are the next ones, and those that it took are gone: one that it refused is still to be brought, before all behind it. Over a savepoint they go on.
 pub data Serves (all : List Packet) : List Packet → Connection → Rooms → List Entry → Type 1 where
   new : (o : ℕ) (r : Rooms) (c : Connection) → Opens o r (gives (tt, c)) → Serves all all c r []
   call : {c : Connection} {r : Rooms} {l : List Entry} (ahead rest : List Packet) (x : Ask) → OfBytes x → bytesIn ahead ≡ brought (c .order) x → (a : Answer (Value x × Connection)) (r' : Rooms) (o : Outputs x)
       → Answers x c r a r' o → Serves all (ahead ++ rest) c r l → Serves all (drop (taken x a) ahead ++ rest) (stateOf a c) r' (logged x (numbersIn ahead) (reads c r) a l)
+  restored : {left : List Packet} {c : Connection} {r : Rooms} {l : List Entry} (reader : PacketReader) (buffer : List ℕ) (ids : IdAllocator) (out : List ℕ) (n : ℕ) (out' : List ℕ) → Saves (laid c r reader buffer ids) out (gives n) out'
+      → (q : Rooms) (b : List ℕ) (v : Values) (q' : Rooms) (b' : List ℕ) → Restores (take n out') q b (gives v) q' b' → Serves all left c r l → Serves all left (v .0) q' l
 
 -- ---- What is to be shown
 

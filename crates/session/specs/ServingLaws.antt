@@ -22,11 +22,12 @@ use Rattle.session.specs.Ask.{Ask, send-request, enqueue-fds, enqueue-pa
 use Rattle.session.specs.Noting.{noting, next, notePacket, tookOf, noteFed}
 use Rattle.session.specs.Session as Session
 use Rattle.session.specs.Session.{Session, sentAll, noteSends, logged}
-use Rattle.session.specs.Serving.{brought, tookOne, tookMany, taken, bytesIn, numbersIn, Serves, new, call}
+use Rattle.session.specs.Serving.{brought, tookOne, tookMany, taken, bytesIn, numbersIn, Serves, new, call, restored}
 
 pub serves-session : {all left : List Packet} {c : Connection} {r : Rooms} {l : List Entry} → Serves all left c r l → Session c r l
 serves-session (new o r c h) = Session.new o r c h
 serves-session (call ahead rest x b e a r' o h k) = Session.call x b (numbersIn ahead) a r' o h (serves-session k)
+serves-session (restored reader buffer ids out n out' s q b v q' b' t k) = Session.restored reader buffer ids out n out' s q b v q' b' t (serves-session k)
 
 -- ---- IN ORDER
 
@@ -101,6 +102,7 @@ pub serves-in-order : {all rest : List Packet} {c : Connection} {r : Rooms} {l :
 unfolding packetsIn
 serves-in-order (new o r c h) = refl
 serves-in-order (call {c = c} {r = r} {l = l} ahead rest x b e a r' o h k) = call-order ahead rest x c r e a r' o h l ∙ serves-in-order k
+serves-in-order (restored reader buffer ids out n out' s q b v q' b' t k) = serves-in-order k
 
 -- So the log is honest where the server is.
 pub serves-honest : {all rest : List Packet} {c : Connection} {r : Rooms} {l : List Entry} (o : ℕ) → Serves all rest c r l → HonestServer o all l → Honest o l

@@ -1,13 +1,16 @@
--- DEMAND 3: what a session is. `new`, then public calls by their promises, whichever they are, with any arguments, refused or not, each on the whole state and rooms as the call before left them. Assumes nothing.
+-- DEMAND 3: what a session is. `new`, then public calls by their promises, whichever they are, with any arguments, refused or not, each on the whole state and rooms as the call before left them; and savepoints. Assumes nothing.
 use mathlib.Core.List.{List, [], _∷_}
 use Prim.Native.Nat.{ℕ}
 use lib.ListN.{take}
 use Rattle.refusal.specs.Answer.{Answer, gives, refuses}
+use Rattle.packet_reader.specs.declared.PacketReader.{PacketReader}
+use Rattle.id_allocator.specs.declared.IdAllocator.{IdAllocator}
 use Rattle.model.specs.Client.{Client}
 use Rattle.model.specs.Model.{hasReply}
 use Rattle.model.specs.Reading.{Rooms, reads}
 use Rattle.model.specs.SendRequests.{kindOf, ShownSendings}
 use Rattle.model.specs.declared.Connection.{Connection}
+use Rattle.savepoint.specs.Calls.{laid, Values, Saves, Restores}
 use Rattle.connection.specs.Calls.{Opens}
 use Rattle.honest.specs.Run.{Entry, sent, noteSent, noteTook}
 use Rattle.honest.specs.Public.{stateOf}
@@ -39,8 +42,10 @@ logged (send-requests bytes) ts m a l = noteSends bytes a l
 logged (enqueue-packets bytes) ts m a l = noteFed ts m bytes a l
 logged (poll-for-events out marks) ts m a l = l
 
--- A SESSION: state and rooms that it came to, and its log. Packets are of bytes.
+-- A SESSION: state and rooms that it came to, and its log. Packets are of bytes. 02, M-100: saved with any reader, buffer and allocator beside it, and restored in other rooms, "the history up to the save stands, and packets and sends go on from there".
 pub data Session : Connection → Rooms → List Entry → Type 1 where
   new : (o : ℕ) (r : Rooms) (c : Connection) → Opens o r (gives (tt, c)) → Session c r []
   call : {c : Connection} {r : Rooms} {l : List Entry} (x : Ask) → OfBytes x → (ts : List ℕ) (a : Answer (Value x × Connection)) (r' : Rooms) (o : Outputs x) → Answers x c r a r' o → Session c r l
       → Session (stateOf a c) r' (logged x ts (reads c r) a l)
+  restored : {c : Connection} {r : Rooms} {l : List Entry} (reader : PacketReader) (buffer : List ℕ) (ids : IdAllocator) (out : List ℕ) (n : ℕ) (out' : List ℕ) → Saves (laid c r reader buffer ids) out (gives n) out'
+      → (q : Rooms) (b : List ℕ) (v : Values) (q' : Rooms) (b' : List ℕ) → Restores (take n out') q b (gives v) q' b' → Session c r l → Session (v .0) q' l

@@ -2,7 +2,7 @@
 use mathlib.Core.Bool.{false}
 use mathlib.Core.List.{List, _∷_}
 use mathlib.Core.Logic.{_⊎_}
-use mathlib.Core.Path.{_≡_}
+use mathlib.Core.Path.{_≡_, sym}
 use Prim.Native.Nat.{ℕ}
 use lib.ListN.{length}
 use Rattle.refusal.specs.Answer.{Answer, gives, refuses}
@@ -18,15 +18,17 @@ use Rattle.model.specs.SendRequests.{kindOf}
 use Rattle.model.specs.declared.Connection.{Connection}
 use Rattle.intake.specs.Exact.{enqueueExact}
 use Rattle.polling.specs.Exact.{eventExact}
+use Rattle.savepoint.specs.Calls.{laid}
+use Rattle.savepoint.specs.Theorems.{again-sound, again-alike}
 use Rattle.connection.specs.Calls.{Sends, Enqueues}
 use Rattle.connection.specs.Opening.{opens-fresh, opens-sound}
 use Rattle.honest.specs.Run.{Entry, sent, noteSent, noteTook, Fair, Honest, Right, Filed}
-use Rattle.honest.specs.Public.{stateOf, Public, opens, sends, takes, others}
+use Rattle.honest.specs.Public.{stateOf, Public, opens, sends, takes, others, again}
 use Rattle.honest.specs.Theorems as Any
 use Rattle.session.specs.Ask.{Ask, send-request, enqueue-fds, enqueue-packet, discard-reply, poll-for-reply-or-error, poll-check-for-reply-or-error, poll-for-reply, poll-for-event-with-sequence, take-closed-fds, prepare-check-for-reply-or-error, send-requests, enqueue-packets, poll-for-events, Value, Outputs, Answers, OfBytes}
 use Rattle.session.specs.AskLaws.{has-form, goes-sound}
 use Rattle.session.specs.Noting.{next}
-use Rattle.session.specs.Session.{logged, Session, new, call}
+use Rattle.session.specs.Session.{logged, Session, new, call, restored}
 use Rattle.session.specs.Rows.{sends-row, events-row}
 use Rattle.session.specs.FeedRow.{feed-row}
 
@@ -36,6 +38,7 @@ use Rattle.session.specs.FeedRow.{feed-row}
 pub session-sound : {c : Connection} {r : Rooms} {l : List Entry} → Session c r l → Sound c r
 session-sound (new o r c h) = opens-sound o r c h
 session-sound (call {c = c} {r = r} x b ts a r' o h k) = goes-sound x b c r (session-sound k) a r' o h
+session-sound (restored {c = c} {r = r} reader buffer ids out n out' s q b v q' b' t k) = again-sound (laid c r reader buffer ids) out n out' s q b v q' b' t .connection
 
 -- ---- True numbers
 
@@ -74,6 +77,7 @@ call-public {c = c} {r = r} {l = l} (poll-for-events out marks) b ts a r' o h S 
 pub session-public : {c : Connection} {r : Rooms} {l : List Entry} → Session c r l → Public c r l
 session-public (new o r c h) = opens o _ _ (opens-fresh o r c h)
 session-public (call x b ts a r' o h k) = call-public x b ts a r' o h (session-sound k) (session-public k)
+session-public (restored {c = c} {r = r} reader buffer ids out n out' s q b v q' b' t k) = again (v .0) q' (sym (again-alike (laid c r reader buffer ids) out n out' s q b v q' b' t .same)) (session-public k)
 
 -- TRUE NUMBERS: with an honest server the number of each packet taken in is its true one, however long the session is.
 pub session-true : {c : Connection} {r : Rooms} {l : List Entry} → Session c r l → Honest (c .order) l → Right l

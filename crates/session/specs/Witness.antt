@@ -1,19 +1,25 @@
 -- There are sessions with an honest server. What the model says of a call some public call does, so that a run that is worked out in the model is one of public calls. Assumes nothing.
-use mathlib.Core.Bool.{true, false}
+use mathlib.Core.Bool.{true, false, not}
 use mathlib.Core.List.{List, [], _∷_, _++_}
 use mathlib.Core.Logic.{inl, inr, ⊎-elim}
 use mathlib.Core.Path.{_≡_, refl, sym, ap, _∙_, subst}
-use Prim.Native.Nat.{ℕ, zero, suc, _<_}
+use Prim.Native.Nat.{ℕ, zero, suc, _≤_, _<_}
 use native.Mathlib.Omega.{arith}
-use lib.Dec.{ltb}
-use lib.ListN.{getD, replicate, drop}
-use borrow.Author.Tests.{ltb-true}
-use Rattle.octets.specs.Logic.{both, either, both-left, both-right}
+use lib.Dec.{ltb, eqb}
+use lib.ListN.{length, getD, replicate, take, drop}
+use borrow.Author.Tests.{ltb-true, le-ltb}
+use Rattle.octets.specs.Logic.{choose, both, either, both-left, both-right}
 use Rattle.octets.specs.Bytes.{legal}
+use Rattle.octets.specs.Put.{put}
 use Rattle.requests.specs.Room.{capacity}
-use Rattle.refusal.specs.Answer.{Answer, gives, refuses}
-use Rattle.model.specs.Client.{Client}
+use Rattle.refusal.specs.Answer.{Answer, gives, refuses, refuse, pass, gives-same, past-refusal}
+use Rattle.model.specs.Client.{Client, inside}
 use Rattle.packet.specs.Packet.{hasLength}
+use Rattle.id_allocator.specs.Ids as Ids
+use Rattle.id_allocator.specs.declared.IdAllocator.{IdAllocator}
+use Rattle.packet_reader.specs.Reader as Reader
+use Rattle.packet_reader.specs.Sound as ReaderSound
+use Rattle.packet_reader.specs.declared.PacketReader.{PacketReader}
 use Rattle.packet_reader.specs.Frame.{total, totalOf, aim, cuts, cutPackets}
 use Rattle.model.specs.Model.{roomy, fresh, Filing}
 use Rattle.model.specs.Batch.{many, onTurn, modelTurn, notes}
@@ -30,6 +36,11 @@ use Rattle.model.specs.Promise.{Done, answerOf, roomsOf, modelOf, guarded, guar
 use Rattle.model.specs.Reading.{Rooms, rooms, reads}
 use Rattle.model.specs.Sound.{is-sound}
 use Rattle.model.specs.declared.Connection.{Connection}
+use Rattle.savepoint.specs.Saved.{Saved, encode, decode}
+use Rattle.savepoint.specs.SavedLaws.{decode-encode}
+use Rattle.savepoint.specs.Calls.{Laid, laid, savedOf, holds, lengthOf, bytesOf, countOf, outputOf, fitting, placed, Values, valuesOf, roomsAfter, bufferAfter, Saves, Restores}
+use Rattle.savepoint.specs.Calls as Savepoint
+use Rattle.savepoint.specs.Theorems as Laid
 use Rattle.connection.specs.Calls.{freshState, Opens}
 use Rattle.connection.specs.Opening.{opens-fresh, opens-done}
 use Rattle.honest.specs.Run.{Entry, sent, took, noteSent, noteTook}
@@ -39,7 +50,7 @@ use Rattle.session.specs.Ask.{Ask, send-request, enqueue-fds, enqueue-pa
 use Rattle.session.specs.AskLaws.{has-form, some-answer}
 use Rattle.session.specs.Noting.{notePacket, tookOf, noteFed}
 use Rattle.session.specs.Session.{sentAll, noteSends, logged}
-use Rattle.session.specs.Serving.{tookOne, tookMany, brought, taken, bytesIn, numbersIn, Serves, new, call}
+use Rattle.session.specs.Serving.{tookOne, tookMany, brought, taken, bytesIn, numbersIn, Serves, new, call, restored}
 use Rattle.session.specs.ServingLaws.{serves-session}
 use Rattle.session.specs.Theorems.{session-sound}
 
@@ -141,6 +152,64 @@ pub begun : (all : List Packet) → Reached all all (fresh 108 4 100) []
 unfolding capacity
 begun all = record { state = freshState 108 4 100; left = empty; run = new 108 empty (freshState 108 4 100) opening; read = opens-fresh 108 empty (freshState 108 4 100) opening }
 
+-- ---- A SAVEPOINT MORE: where no descriptor is inside there is one, and it is restored
+
+-- A session that is saved and restored goes on, with the same packets to come and the same log.
+goes-over : {all rest : List Packet} {m : Client} {l : List Entry} (z : Reached all rest m l) (reader : PacketReader) (buffer : List ℕ) (ids : IdAllocator) (out : List ℕ) (n : ℕ) (out' : List ℕ) → Saves (laid (z .state) (z .left) reader buffer ids) out (gives n) out'
+    → (q : Rooms) (b : List ℕ) (v : Values) (q' : Rooms) (b' : List ℕ) → Restores (take n out') q b (gives v) q' b' → Reached all rest m l
+goes-over z reader buffer ids out n out' s q b v q' b' t =
+    record { state = v .0; left = q'; run = restored reader buffer ids out n out' s q b v q' b' t (z .run); read = sym (Laid.again-alike (laid (z .state) (z .left) reader buffer ids) out n out' s q b v q' b' t .same) ∙ z .read }
+
+-- What is saved of a sound client without descriptors, into an output that is long enough, comes back in rooms of the lengths saved.
+pub some-savepoint : (x : Laid) → Laid.Sound x → holds x ≡ false → (q : Rooms) (b : List ℕ) → fitting (savedOf x) q b ≡ true → (out : List ℕ) → length (encode (savedOf x)) ≤ length out
+    → (n : ℕ) × (out' : List ℕ) × Saves x out (gives n) out' × (v : Values) × (q' : Rooms) × (b' : List ℕ) × Restores (take n out') q b (gives v) q' b'
+unfolding lengthOf bytesOf countOf outputOf Savepoint.restored valuesOf roomsAfter bufferAfter pass
+some-savepoint x S h q b f out long =
+    let w : List ℕ = encode (savedOf x) in
+    let e : gives w ≡ bytesOf x (length out) =
+    past-refusal _ 8 _ (le-ltb _ _ long)
+    ∙ ap (λ (a : Answer ℕ). pass a (λ n. refuse (ltb (length out) n) 8 (gives w))) (past-refusal _ 18 (gives (length w)) h ∙ past-refusal _ 9 _ (ap not (Laid.is-sound x S))) in
+    let s : Saves x out (gives (length w)) (put out 0 w) = record { answers = ap countOf e; writes = ap (λ (a : Answer (List ℕ)). outputOf a out) e } in
+    let u : w ≡ take (length w) (put out 0 w) = gives-same (e ∙ sym (Laid.saves-given x out (length w) (put out 0 w) s)) in
+    let y : Laid = placed (savedOf x) q b in
+    let g : gives y ≡ Savepoint.restored (take (length w) (put out 0 w)) q b =
+    past-refusal _ 9 _ (ap not f)
+    ∙ ap (λ (a : Answer Saved). pass a (λ z. refuse (not (fitting z q b)) 9 (gives (placed z q b)))) (decode-encode (savedOf x) (Laid.saved-sound x S h) ∙ ap decode u) in (
+      length w,
+      put out 0 w,
+      s,
+      (y .connection, (y .reader, y .ids)),
+      y .rooms,
+      y .buffer,
+      record { answers = ap valuesOf g; leaves = ap (λ (a : Answer Laid). roomsAfter a q) g; fills = ap (λ (a : Answer Laid). bufferAfter a b) g },
+    )
+
+-- beside the connection: a reader with nothing filled, its buffer, and an allocator
+abbrev buffer : List ℕ
+buffer = replicate 32 0
+
+reader-sound : ReaderSound.Sound (Reader.fresh 108) buffer
+unfolding Reader.soundb Reader.room aim choose legal both either
+reader-sound = ReaderSound.sound-is (Reader.fresh 108) buffer refl
+
+abbrev someIds : IdAllocator
+someIds = record { next = 0; last = 255; step = 1 }
+
+ids-sound : Ids.sound someIds ≡ true
+unfolding Ids.sound Ids.powerBelow both either
+ids-sound = refl
+
+-- saved with these, and restored in the rooms that a session begins with
+pub over : (all rest : List Packet) (l : List Entry) (m : Client) → m .most-requests ≡ 4 → m .most-bytes ≡ 100 → inside m ≡ 0 → Reached all rest m l → Reached all rest m l
+unfolding holds fitting capacity both
+over all rest l m k s d z =
+    let x : Laid = laid (z .state) (z .left) (Reader.fresh 108) buffer someIds in
+    let S : Laid.Sound x = record { connection = session-sound (serves-session (z .run)); reader = reader-sound; ids = ids-sound } in
+    let h : holds x ≡ false = ap (λ (n : ℕ). not (eqb n 0)) (ap inside (z .read) ∙ d) in
+    let f : fitting (savedOf x) empty buffer ≡ true = λ i. both (eqb 4 ((ap (λ (c : Client). c .most-requests) (z .read) ∙ k) i)) (both (eqb 100 ((ap (λ (c : Client). c .most-bytes) (z .read) ∙ s) i)) true) in
+    let w = some-savepoint x S h empty buffer f (encode (savedOf x)) (omega arith) in
+    goes-over z (Reader.fresh 108) buffer someIds (encode (savedOf x)) (w .0) (w .1) (w .2) empty buffer (w .3) (w .4) (w .5) (w .6)
+
 -- ---- A SESSION with an honest server: an event, a KeymapNotify, a reply and an event. The store holds two packets, so that of the first three, brought at once, the reply is refused, and again when it is brought alone; the two that are held are handed out at
 -- once, and the last two are taken. Request 1, which has no reply, gets no packet before the reply to request 2; request 3 is pending at the end.
 
@@ -181,17 +250,26 @@ firstRun = anEvent .bytes ++ (aKeymap .bytes ++ aReply .bytes)
 abbrev lastRun : List ℕ
 lastRun = aReply .bytes ++ aLast .bytes
 
-pub witness : (m : Client) × Reached server [] m witnessLog
+-- the session, with a step more while those two are held: any that leaves it as it is read
+witness-with : ((l : List Entry) (m : Client) → m .most-requests ≡ 4 → m .most-bytes ≡ 100 → inside m ≡ 0 → Reached server (aReply ∷ aLast ∷ []) m l → Reached server (aReply ∷ aLast ∷ []) m l) → (m : Client) × Reached server [] m witnessLog
 unfolding computing shown next tookOne tookMany noteSends sentAll noteFed notes notePacket tookOf enqueuePackets cutPackets cuts aim totalOf total hasLength many onTurn modelTook stopAt sendTurn sendRequests pollForEvents handed orRefused eventTurn handing modelTurn roomFor turns every
-witness = (
+witness-with a-step = (
   _,
   on server [] [] _ (send-request ReplyWithoutFds) _ tt refl
       (on server (aReply ∷ aLast ∷ []) [] _ (enqueue-packets lastRun) _ (byte-of lastRun refl) refl
       (on server [] (aReply ∷ aLast ∷ []) _ (poll-for-events (zeros 64) (zeros 4)) _ tt refl
+      (a-step _ _ refl refl refl
       (on server (aReply ∷ []) (aLast ∷ []) _ (enqueue-packet (aReply .bytes)) _ (omega arith) refl
       (on server (anEvent ∷ aKeymap ∷ aReply ∷ []) (aLast ∷ []) _ (enqueue-packets firstRun) _ (byte-of firstRun refl) refl
-      (on server [] server _ (send-requests (0 ∷ 1 ∷ [])) _ tt refl (begun server)))))),
+      (on server [] server _ (send-requests (0 ∷ 1 ∷ [])) _ tt refl (begun server))))))),
 )
+
+pub witness : (m : Client) × Reached server [] m witnessLog
+witness = witness-with (λ l m k s d z. z)
+
+-- The same session, saved while those two are held, and restored.
+pub witness-restored : (m : Client) × Reached server [] m witnessLog
+witness-restored = witness-with (over server (aReply ∷ aLast ∷ []))
 
 -- the server is honest in it
 pub witness-honest : HonestServer 108 server witnessLog

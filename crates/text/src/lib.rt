@@ -38,7 +38,7 @@ pub use run::cut;
 pub use run::up;
 
 // Where the text begins.
-pub const START: usize = 525316;
+pub const START: usize = 2753540;
 
 pub fn word(out: &mut [u8], waiting: usize, text: &[u8]) -> usize {
     let end = out.len();

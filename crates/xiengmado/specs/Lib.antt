@@ -4,5 +4,6 @@ pub mod Exports
 pub mod ExportsLeaves
 pub mod ExportsReader
 pub mod ExportsHandshake
+pub mod ExportsSavepoint
 pub mod Worked
 pub mod Examples

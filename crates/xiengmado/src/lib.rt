@@ -19,3 +19,4 @@ mod numbers;
 mod packets;
 mod reader;
 mod rooms;
+mod savepoints;

@@ -27,6 +27,8 @@ mod rows;
 #[cfg(published)]
 mod sides;
 #[cfg(published)]
+mod spread;
+#[cfg(published)]
 mod work;
 
 #[cfg(published)]

@@ -4,32 +4,13 @@ use std::time::{Duration, Instant};
 
 use crate::exports;
 use crate::sides::{Blind, Client, Log};
+use crate::spread::Spread;
 use crate::work::{On, Work};
 
 /// For how long a row goes on, and in how many turns at least and at most.
 const SPAN: Duration = Duration::from_millis(700);
 const LEAST: usize = 5;
 const MOST: usize = 301;
-
-/// The median, the tenth and the ninetieth hundredth.
-#[derive(Clone, Copy)]
-pub struct Spread {
-    pub low: f64,
-    pub median: f64,
-    pub high: f64,
-}
-
-impl Spread {
-    pub fn of(mut samples: Vec<f64>) -> Spread {
-        samples.sort_by(f64::total_cmp);
-        let at = |part: usize| samples[(samples.len() - 1) * part / 100];
-        Spread {
-            low: at(10),
-            median: at(50),
-            high: at(90),
-        }
-    }
-}
 
 /// Our side of a row: its name, its time, and the Rust's time divided by it, turn by turn.
 pub struct Ours {

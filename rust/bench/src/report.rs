@@ -2,24 +2,8 @@
 
 use std::fmt::Write;
 
-use crate::measure::{Ours, Row, Spread};
-
-fn short(x: f64) -> String {
-    match x {
-        x if x >= 1000.0 => format!("{x:.0}"),
-        x if x >= 100.0 => format!("{x:.1}"),
-        _ => format!("{x:.2}"),
-    }
-}
-
-fn spread(s: &Spread) -> String {
-    format!(
-        "{} ({} to {})",
-        short(s.median),
-        short(s.low),
-        short(s.high)
-    )
-}
+use crate::measure::{Ours, Row};
+use crate::spread::{short, spread};
 
 fn met(row: &Row, ours: &Ours) -> &'static str {
     match row.goal {

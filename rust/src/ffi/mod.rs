@@ -8,6 +8,7 @@ mod packets;
 mod places;
 mod reader;
 mod rooms;
+mod savepoint;
 mod sequence;
 mod xc_misc;
 
@@ -22,6 +23,7 @@ pub(crate) use packets::*;
 pub(crate) use places::*;
 pub(crate) use reader::*;
 pub(crate) use rooms::*;
+pub(crate) use savepoint::*;
 pub(crate) use sequence::*;
 pub(crate) use xc_misc::*;
 
@@ -37,7 +39,7 @@ pub(crate) struct Rooms {
 fn answer(code: u32) -> Result<(), Refusal> {
     match code {
         0 => Ok(()),
-        n => Err(Refusal::from_number(n).expect("a refusal has a number from 1 to 16")),
+        n => Err(Refusal::from_number(n).expect("the number of a refusal")),
     }
 }
 

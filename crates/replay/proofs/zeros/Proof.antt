@@ -7,7 +7,7 @@ use Rattle.replay.proofs.zeros.Tie as tie
 
 -- by the law: the list itself is too long to count
 returns : tie.Need-returns
-returns c = sym {a = length {0} {A = ℕ} (replicate {0} {A = ℕ} 1049604 0)} {b = 1049604} (length-replicate {0} {A = ℕ} 1049604 0)
+returns c = sym {a = length {0} {A = ℕ} (replicate {0} {A = ℕ} 3277828 0)} {b = 3277828} (length-replicate {0} {A = ℕ} 3277828 0)
 
 pub zeros-spec : {M : Type 1} → statement M
 zeros-spec = tie.close (tie.spec returns)

@@ -1,7 +1,7 @@
 -- `held::head::zero_at` meets its contract. Assumes nothing.
 use mathlib.Core.Path.{sym, _∙_}
 use Rattle.held.specs.Head.{zeroOf}
-use Rattle.held.specs.General.{field-drop}
+use Rattle.octets.specs.Field.{field-drop}
 use native.Mathlib.Omega.{arith}
 use Rattle.held.proofs.head.zero_at.Statement.{statement}
 use Rattle.held.proofs.head.zero_at.Tie as tie

@@ -1,0 +1,4 @@
+pub mod Form
+pub mod FormLaws
+pub mod At
+pub mod Examples

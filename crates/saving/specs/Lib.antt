@@ -1,0 +1,13 @@
+pub mod Says
+pub mod Promises
+pub mod Writing
+pub mod WritingRows
+pub mod Lengths
+pub mod WritingFile
+pub mod Codes
+pub mod Records
+pub mod Planned
+pub mod Measuring
+pub mod Laying
+pub mod Laid
+pub mod Finding
