@@ -13,11 +13,11 @@ ghost use Rattle.octets.specs.Bytes.{word};
 ghost use Rattle.octets.specs.Put.{put};
 ghost use Rattle.form.specs.Form.{number, byte, counted, writes};
 ghost use Rattle.requests.specs.Room.{capacity, outstanding};
-ghost use Rattle.held.specs.Head.{headerSize, lenOf};
+ghost use Rattle.held.specs.Head.{headerSize, mostStore, reply, event, lenOf};
 ghost use Rattle.held.specs.Reading.{Readable, records, only, flat};
 ghost use Rattle.savepoint.specs.Saved.{request, modeCode, requestCode};
 ghost use Rattle.saving.specs.WritingFile.{Writable, Written};
-ghost use Rattle.saving.specs.WritingRows.{copied, hits, Copies};
+ghost use Rattle.saving.specs.WritingRows.{copied, hits, Copies, Counts};
 
 // The whole file, over the bytes of the output from its start on.
 pub(crate) fn write(client: Client, requests: &[u8], store: &[u8], buf: &[u8], out: &mut [u8])
@@ -43,7 +43,7 @@ pub(crate) fn write(client: Client, requests: &[u8], store: &[u8], buf: &[u8], o
     );
     let d = put_requests(out, b, requests, first, count);
     let e = put_records(out, d, store, window, held::IN_REPLIES);
-    let f = put_records(out, e, store, window, held::IN_EVENTS);
+    let f = put_events(out, e, store, window);
     let g = put_run(out, f, buf, reader.filled);
     put_three(out, g, ids.next, ids.last, ids.step);
 }
@@ -153,13 +153,21 @@ fn copy_one(out: &mut [u8], done: Copied, store: &[u8], at: usize, kind: u8) -> 
     }
 }
 
+// The same of a walk over a window, with how many records it passed in all.
+struct Passed {
+    end: usize,
+    count: usize,
+    all: usize,
+}
+
 // The records of a kind, each with the bytes that it has in the store.
-fn copy_kind(out: &mut [u8], start: usize, store: &[u8], window: Window, kind: u8) -> Copied
+fn copy_kind(out: &mut [u8], start: usize, store: &[u8], window: Window, kind: u8) -> Passed
     requires { ⌜ Readable window (now store) × (start + length (flat (only kind (records window (now store)))) ≤ length (now out)) ⌝ }
-    ensures { λ r. ⌜ Copies (only kind (records window (now (store .entry)))) start (now (out .entry)) (r .end) (r .count) (now (out .exit)) ⌝ }
+    ensures { λ r. ⌜ Copies (records window (now (store .entry))) kind start (now (out .entry)) r (now (out .exit)) ⌝ }
 {
     let end = window.end;
     let mut at = window.start;
+    let mut all: usize = 0;
     let mut done = Copied {
         end: start,
         count: 0,
@@ -167,16 +175,46 @@ fn copy_kind(out: &mut [u8], start: usize, store: &[u8], window: Window, kind: u
     while at < end {
         done = copy_one(out, done, store, at, kind);
         at += held::HEADER + held::length_at(store, at);
+        all += 1;
     }
-    done
+    Passed {
+        end: done.end,
+        count: done.count,
+        all: all,
+    }
 }
 
 // The held packets of a kind. Their count is known once they are copied, and then put before them.
-fn put_records(out: &mut [u8], to: usize, store: &[u8], window: Window, kind: u8) -> usize
+fn put_records(out: &mut [u8], to: usize, store: &[u8], window: Window, kind: u8) -> Passed
     requires { ⌜ Readable window (now store) × (to + (4 + length (flat (only kind (records window (now store))))) ≤ length (now out)) ⌝ }
-    ensures { λ r. ⌜ (r ≡ to + (4 + length (flat (only kind (records window (now (store .entry))))))) × (now (out .exit) ≡ put (now (out .entry)) to (word 4 (length (only kind (records window (now (store .entry))))) ++ flat (only kind (records window (now (store .entry)))))) ⌝ }
+    ensures { λ r. ⌜ (r .end ≡ to + (4 + length (flat (only kind (records window (now (store .entry))))))) × (now (out .exit) ≡ put (now (out .entry)) to (word 4 (length (only kind (records window (now (store .entry))))) ++ flat (only kind (records window (now (store .entry)))))) × Counts (records window (now (store .entry))) kind r ⌝ }
 {
     let copied = copy_kind(out, to + COUNT, store, window, kind);
     octets::put_u32(octets::LITTLE, out, to, copied.count as u32);
-    copied.end
+    copied
+}
+
+// All records of a window, in one go.
+fn put_window(out: &mut [u8], to: usize, store: &[u8], window: Window, count: usize) -> usize
+    requires { ⌜ Readable window (now store) × (count ≡ length (records window (now store))) × (count ≤ mostStore) × (to + (4 + length (flat (records window (now store)))) ≤ length (now out)) ⌝ }
+    ensures { λ r. ⌜ (r ≡ to + (4 + length (flat (records window (now (store .entry)))))) × (now (out .exit) ≡ put (now (out .entry)) to (word 4 (length (records window (now (store .entry)))) ++ flat (records window (now (store .entry))))) ⌝ }
+{
+    let start = window.start;
+    let end = window.end;
+    let size = end - start;
+    octets::put_u32(octets::LITTLE, out, to, count as u32);
+    octets::copy_in(out, to + COUNT, &store[start..end]);
+    to + (COUNT + size)
+}
+
+// The events, behind the replies: where there are none of these, they are the whole window.
+fn put_events(out: &mut [u8], replies: Passed, store: &[u8], window: Window) -> usize
+    requires { ⌜ Readable window (now store) × Counts (records window (now store)) reply replies × (replies .end + (4 + length (flat (only event (records window (now store))))) ≤ length (now out)) ⌝ }
+    ensures { λ r. ⌜ (r ≡ replies .end + (4 + length (flat (only event (records window (now (store .entry))))))) × (now (out .exit) ≡ put (now (out .entry)) (replies .end) (word 4 (length (only event (records window (now (store .entry))))) ++ flat (only event (records window (now (store .entry)))))) ⌝ }
+{
+    if replies.count == 0 {
+        return put_window(out, replies.end, store, window, replies.all);
+    }
+    let events = put_records(out, replies.end, store, window, held::IN_EVENTS);
+    events.end
 }

@@ -1,6 +1,6 @@
 -- `saving::writing::write` meets its contract. Assumes nothing.
-use Rattle.saving.specs.WritingFile.{file-put}
 use native.Mathlib.Omega.{arith}
+use Rattle.saving.specs.WritingFile.{file-put}
 use borrow.Author.Needs.{needs}
 use Rattle.saving.proofs.writing.write.Statement.{statement}
 use Rattle.saving.proofs.writing.write.Tie as tie
@@ -29,20 +29,20 @@ put-requests-requires c κs = search needs
 put-records-requires : tie.Need-put-records-requires
 put-records-requires c κs = (c .before .before .before .before .before .before .before .before .before .before .before .before .before .before .before .before .before .before .before .before .before .before .before .before .pre .readable, omega (arith, c .before .before .before .before .before .before .before .before .before .before .before .before .before .before .before .before .before .before .before .before .before .before .before .before .pre .room, c .before .before .before .put-requests .ensures .0, c .before .before .before .before .before .before .before .put-five .ensures .0, c .before .before .before .before .before .before .before .before .before .before .before .before .before .put-three .ensures .0))
 
-put-records-requires-2 : tie.Need-put-records-requires-2
-put-records-requires-2 c κs = (c .before .before .before .before .before .before .before .before .before .before .before .before .before .before .before .before .before .before .before .before .before .before .before .before .before .before .before .before .pre .readable, omega (arith, c .before .before .before .before .before .before .before .before .before .before .before .before .before .before .before .before .before .before .before .before .before .before .before .before .before .before .before .before .pre .room, c .before .before .before .put-records .ensures .0, c .before .before .before .before .before .before .before .put-requests .ensures .0, c .before .before .before .before .before .before .before .before .before .before .before .put-five .ensures .0, c .before .before .before .before .before .before .before .before .before .before .before .before .before .before .before .before .before .put-three .ensures .0))
+put-events-requires : tie.Need-put-events-requires
+put-events-requires c κs = (c .before .before .before .before .before .before .before .before .before .before .before .before .before .before .before .before .before .before .before .before .before .before .before .before .before .before .before .before .pre .readable, c .before .before .before .put-records .ensures .2, omega (arith, c .before .before .before .before .before .before .before .before .before .before .before .before .before .before .before .before .before .before .before .before .before .before .before .before .before .before .before .before .pre .room, c .before .before .before .put-records .ensures .0, c .before .before .before .before .before .before .before .put-requests .ensures .0, c .before .before .before .before .before .before .before .before .before .before .before .put-five .ensures .0, c .before .before .before .before .before .before .before .before .before .before .before .before .before .before .before .before .before .put-three .ensures .0))
 
 put-run-requires : tie.Need-put-run-requires
-put-run-requires c κs = (c .before .before .before .before .before .before .before .before .before .before .before .before .before .before .before .before .before .before .before .before .before .before .before .before .before .before .before .before .before .before .before .before .pre .filled, c .before .before .before .before .before .before .before .before .before .before .before .before .before .before .before .before .before .before .before .before .before .before .before .before .before .before .before .before .before .before .before .before .pre .short, omega (arith, c .before .before .before .before .before .before .before .before .before .before .before .before .before .before .before .before .before .before .before .before .before .before .before .before .before .before .before .before .before .before .before .before .pre .room, c .before .before .before .put-records2 .ensures .0, c .before .before .before .before .before .before .before .put-records .ensures .0, c .before .before .before .before .before .before .before .before .before .before .before .put-requests .ensures .0, c .before .before .before .before .before .before .before .before .before .before .before .before .before .before .before .put-five .ensures .0, c .before .before .before .before .before .before .before .before .before .before .before .before .before .before .before .before .before .before .before .before .before .put-three .ensures .0))
+put-run-requires c κs = (c .before .before .before .before .before .before .before .before .before .before .before .before .before .before .before .before .before .before .before .before .before .before .before .before .before .before .before .before .before .before .before .before .pre .filled, c .before .before .before .before .before .before .before .before .before .before .before .before .before .before .before .before .before .before .before .before .before .before .before .before .before .before .before .before .before .before .before .before .pre .short, omega (arith, c .before .before .before .before .before .before .before .before .before .before .before .before .before .before .before .before .before .before .before .before .before .before .before .before .before .before .before .before .before .before .before .before .pre .room, c .before .before .before .put-events .ensures .0, c .before .before .before .before .before .before .before .put-records .ensures .0, c .before .before .before .before .before .before .before .before .before .before .before .put-requests .ensures .0, c .before .before .before .before .before .before .before .before .before .before .before .before .before .before .before .put-five .ensures .0, c .before .before .before .before .before .before .before .before .before .before .before .before .before .before .before .before .before .before .before .before .before .put-three .ensures .0))
 
 put-three-requires-2 : tie.Need-put-three-requires-2
-put-three-requires-2 c κs = omega (arith, c .before .before .before .before .before .before .before .before .before .before .before .before .before .before .before .before .before .before .before .before .before .before .before .before .before .before .before .before .before .before .before .before .before .before .before .before .pre .room, c .before .before .before .put-run .ensures .0, c .before .before .before .before .before .before .before .put-records2 .ensures .0, c .before .before .before .before .before .before .before .before .before .before .before .put-records .ensures .0, c .before .before .before .before .before .before .before .before .before .before .before .before .before .before .before .put-requests .ensures .0, c .before .before .before .before .before .before .before .before .before .before .before .before .before .before .before .before .before .before .before .put-five .ensures .0, c .before .before .before .before .before .before .before .before .before .before .before .before .before .before .before .before .before .before .before .before .before .before .before .before .before .put-three .ensures .0)
+put-three-requires-2 c κs = omega (arith, c .before .before .before .before .before .before .before .before .before .before .before .before .before .before .before .before .before .before .before .before .before .before .before .before .out, c .before .before .before .before .before .before .before .before .before .before .before .before .before .before .before .before .before .before .out2, c .before .before .before .before .before .before .before .before .before .before .before .before .before .before .out3, c .before .before .before .before .before .before .before .before .before .before .out4, c .before .before .before .before .before .before .out5, c .before .before .out6, c .before .before .before .before .before .before .before .before .before .before .before .before .before .before .before .before .before .before .before .before .before .before .before .before .before .before .before .before .before .before .before .before .before .before .before .before .pre .room, c .before .before .before .put-run .ensures .0, c .before .before .before .before .before .before .before .put-events .ensures .0, c .before .before .before .before .before .before .before .before .before .before .before .put-records .ensures .0, c .before .before .before .before .before .before .before .before .before .before .before .before .before .before .before .put-requests .ensures .0, c .before .before .before .before .before .before .before .before .before .before .before .before .before .before .before .before .before .before .before .put-five .ensures .0, c .before .before .before .before .before .before .before .before .before .before .before .before .before .before .before .before .before .before .before .before .before .before .before .before .before .put-three .ensures .0)
 
 same-length : tie.Need-same-length
 same-length c = omega (arith, c .before .before .before .before .before .before .before .before .before .before .before .before .before .before .before .before .before .before .before .before .before .out2, c .before .before .before .before .before .before .before .before .before .before .before .before .before .before .before .before .before .before .before .before .before .before .before .before .before .before .before .out)
 
 returns : tie.Need-returns
-returns c = file-put _ _ _ _ _ _ _ _ _ _ _ _ _ _ _ _ _ _ _ _ _ (c .before .before .before .before .before .before .before .before .before .before .before .before .before .before .before .before .before .before .before .before .before .before .before .before .before .before .before .before .before .before .before .before .before .before .before .before .before .before .before .pre) (c .before .before .before .before .before .before .before .before .before .before .before .before .before .before .before .before .before .before .before .before .before .before .before .before .before .before .before .before .put-three .ensures) (c .before .before .before .before .before .before .before .before .before .before .before .before .before .before .before .before .before .before .before .before .before .before .put-five .ensures) (c .before .before .before .before .before .before .before .before .before .before .before .before .before .before .before .before .before .before .put-requests .ensures) (c .before .before .before .before .before .before .before .before .before .before .before .before .before .before .put-records .ensures) (c .before .before .before .before .before .before .before .before .before .before .put-records2 .ensures) (c .before .before .before .before .before .before .put-run .ensures) (c .before .before .put-three2 .ensures)
+returns c = file-put _ _ _ _ _ _ _ _ _ _ _ _ _ _ _ _ _ _ _ _ _ (c .before .before .before .before .before .before .before .before .before .before .before .before .before .before .before .before .before .before .before .before .before .before .before .before .before .before .before .before .before .before .before .before .before .before .before .before .before .before .before .pre) (c .before .before .before .before .before .before .before .before .before .before .before .before .before .before .before .before .before .before .before .before .before .before .before .before .before .before .before .before .put-three .ensures) (c .before .before .before .before .before .before .before .before .before .before .before .before .before .before .before .before .before .before .before .before .before .before .put-five .ensures) (c .before .before .before .before .before .before .before .before .before .before .before .before .before .before .before .before .before .before .put-requests .ensures) (c .before .before .before .before .before .before .before .before .before .before .before .before .before .before .put-records .ensures .0, c .before .before .before .before .before .before .before .before .before .before .before .before .before .before .put-records .ensures .1) (c .before .before .before .before .before .before .before .before .before .before .put-events .ensures) (c .before .before .before .before .before .before .put-run .ensures) (c .before .before .put-three2 .ensures)
 
 pub write-spec : {M : Type 1} → statement M
 write-spec =
@@ -56,7 +56,7 @@ write-spec =
     put-five-requires
     put-requests-requires
     put-records-requires
-    put-records-requires-2
+    put-events-requires
     put-run-requires
     put-three-requires-2
     same-length
