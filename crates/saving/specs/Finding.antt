@@ -1,9 +1,9 @@
 -- The sections of a savepoint, found one behind the other and tested: what each function of `finding` answers, and the laws for its returns. Assumes nothing.
 use mathlib.Core.Path.{_≡_, refl, sym, ap, _∙_, subst}
 use mathlib.Core.Bool.{Bool, true, false, not}
-use mathlib.Core.List.{List, [], _∷_, map}
+use mathlib.Core.List.{List, [], _∷_}
 use mathlib.Core.Option.{some}
-use Prim.Native.Nat.{ℕ, suc, _+_, _-_, _*_, _≤_, _<_}
+use Prim.Native.Nat.{ℕ, _+_, _-_, _*_, _≤_, _<_}
 use native.Mathlib.Omega.{arith}
 use lib.Dec.{leb, eqb}
 use lib.ListN.{length, take, drop, getD, length-drop}
@@ -17,22 +17,21 @@ use Rattle.refusal.specs.Answer.{refuses}
 use Rattle.packet.specs.Packet.{leastPacket, mostPacket}
 use Rattle.packet_reader.specs.Frame.{aim}
 use Rattle.id_allocator.specs.Ids as Ids
-use Rattle.requests.specs.declared.Request.{Request}
 use Rattle.held.specs.Head as Head
-use Rattle.held.specs.Rows.{length-flat}
-use Rattle.model.specs.Client.{Held, Client, costs, used}
-use Rattle.form.specs.Form.{Form, andThen, number, byte, each, writes, readSome}
+use Rattle.model.specs.Client.{Held, Client, used}
+use Rattle.form.specs.Form.{andThen, number, byte, each, readSome}
 use Rattle.form.specs.FormLaws.{some-same, none-some, when-yes, then-some, number-exact, byte-exact}
 use Rattle.form.specs.At.{At, Here, Not, long, any, fit2, stands, numbers-end, length-numbers, bytes-written, at-zero, not-first, not-then, not-last, counted-fields, numbers-are}
 use Rattle.savepoint.specs.Saved.{Partial, Saved, target, heldFits, neverFall, inNumbers, inRange, soundPartial, sound, Sections, request, rowOf, held, file, build, shaped, decode}
-use Rattle.savepoint.specs.Items.{request-exact, held-exact, writes-flat}
+use Rattle.savepoint.specs.Items.{request-exact, held-exact}
 use Rattle.savepoint.specs.Ranges.{Numbered, numbers-are as numbers-are-in, PartialFits, partial-is}
 use Rattle.savepoint.specs.SavedLaws.{decode-none}
-use Rattle.savepoint.specs.Placed.{costs-rows}
 use Rattle.saving.specs.declared.finding.Plan.{Plan}
 use Rattle.saving.specs.Codes.{anyRequests}
 use Rattle.saving.specs.Records.{okRows, checked, EndSays, checked-is, is-checked}
-use Rattle.saving.specs.Planned.{numbers, requests, helds, bytes, fromBytes, fromEvents, fromReplies, fromRequests, fromSettings, Found, sectionsOf, Planned, idsAt, found-read}
+use Rattle.saving.specs.Writing.{length-codes}
+use Rattle.saving.specs.Lengths.{length-helds}
+use Rattle.saving.specs.Planned.{numbers, requests, helds, bytes, fromBytes, fromEvents, fromReplies, fromRequests, fromSettings, Found, sectionsOf, Planned, idsAt, found-read, here-long}
 
 -- ---- numbers of a section
 
@@ -361,21 +360,9 @@ the-last a b c d x y z = rw (x, y, z)
 
 -- ---- what was found, by its fields
 
-length-codes : (l : List Request) → length (writes request l) ≡ length l
-unfolding writes
-length-codes [] = refl
-length-codes (r ∷ l) = ap suc (length-codes l)
-
-length-helds : (kind : ℕ) (l : List Held) → length (writes (held kind) l) ≡ costs l
-length-helds kind l = ap length (writes-flat kind l) ∙ length-flat (map (rowOf kind) l) ∙ costs-rows kind l
-
 module _ (s : List ℕ) (o : Octets s) (p : Plan) (f : Found s p) where
   abbrev whole : Saved
   whole = build (sectionsOf f)
-
-  -- how long a section's items are
-  section-long : {A : Type 0} (g : Form A) (at end : ℕ) (h : Here g s at end) → length (writes g (h .items)) ≡ end - (at + 4)
-  section-long g at end h = ap length (sym (h .bytes)) ∙ length-cut (at + 4) (end - (at + 4)) s (omega (arith, h .order, h .within))
 
   pub bounds : Bounds s p
   bounds = record {
@@ -383,7 +370,7 @@ module _ (s : List ℕ) (o : Octets s) (p : Plan) (f : Found s p) where
     replies = f .replies .order;
     events = f .events .order;
     partial = f .partial .order;
-    ids = omega (arith, section-long (number 8) (p .ids) (length s) (f .ids), length-numbers (f .ids .items), ap (λ (n : ℕ). 8 * n) (f .three-ids), f .ids .order);
+    ids = omega (arith, here-long (number 8) s (p .ids) (length s) (f .ids), length-numbers (f .ids .items), ap (λ (n : ℕ). 8 * n) (f .three-ids), f .ids .order);
   }
 
   numbers-found : f .numbers .items ≡ field littleOrder 4 8 s ∷ field littleOrder 12 8 s ∷ field littleOrder 20 8 s ∷ []
@@ -407,7 +394,7 @@ module _ (s : List ℕ) (o : Octets s) (p : Plan) (f : Found s p) where
     order = ap (nth 0) settings-found;
     requests = ap (nth 1) settings-found;
     bytes = ap (nth 2) settings-found;
-    run = sym (length-codes (f .requests .items)) ∙ section-long request 72 (p .replies) (f .requests);
+    run = sym (length-codes (f .requests .items)) ∙ here-long request s 72 (p .replies) (f .requests);
   }
 
   pub partial-at : PartialIs s (p .partial) (p .ids) (whole .reader)
@@ -422,7 +409,7 @@ module _ (s : List ℕ) (o : Octets s) (p : Plan) (f : Found s p) where
   unfolding build
   used-is =
       let B = bounds in
-      omega (arith, section-long (held Head.reply) (p .replies) (p .events) (f .replies), section-long (held Head.event) (p .events) (p .partial) (f .events), length-helds Head.reply (f .replies .items), length-helds Head.event (f .events .items), B .replies, B .events)
+      omega (arith, here-long (held Head.reply) s (p .replies) (p .events) (f .replies), here-long (held Head.event) s (p .events) (p .partial) (f .events), length-helds Head.reply (f .replies .items), length-helds Head.event (f .events .items), B .replies, B .events)
 
   module _ (K : Known s p f) where
     each-reply : each (heldFits (whole .client .numbers .read)) (whole .client .replies) ≡ true

@@ -22,8 +22,8 @@ use Rattle.held.specs.Rows.{flat-append}
 use Rattle.descriptors.specs.Room.{counted, mostDescriptors}
 use Rattle.model.specs.Client.{used, first}
 use Rattle.model.specs.Reading.{Rooms, rooms}
-use Rattle.form.specs.Form.{Form, number, each, writes}
-use Rattle.form.specs.At.{Here, bytes-written}
+use Rattle.form.specs.Form.{number, each, writes}
+use Rattle.form.specs.At.{Here, length-numbers as words, bytes-written}
 use Rattle.savepoint.specs.Saved.{Saved, target, request, codeRequest, rowOf, build, decode}
 use Rattle.savepoint.specs.Items.{request-code, writes-flat}
 use Rattle.savepoint.specs.SavedLaws.{client-range, partial-fits}
@@ -33,16 +33,12 @@ use Rattle.saving.specs.declared.Client.{Client}
 use Rattle.saving.specs.declared.finding.Plan.{Plan}
 use Rattle.saving.specs.Says.{valuesIn}
 use Rattle.saving.specs.Writing.{length-codes}
-use Rattle.saving.specs.Lengths.{words}
-use Rattle.saving.specs.Planned.{Found, sectionsOf, Good, idsAt, good-decodes}
+use Rattle.saving.specs.Planned.{Found, sectionsOf, Good, idsAt, good-decodes, here-long}
 use Rattle.saving.specs.Laying.{part, firstAt, readerAt, connectionAt, clientAt, fitsAt, Places}
 
 -- ---- a section that stands there
 
 -- it ends behind its bytes
-here-long : {A : Type 0} (f : Form A) (s : List ℕ) (at end : ℕ) (H : Here f s at end) → length (writes f (H .items)) ≡ end - (at + 4)
-here-long f s at end H = ap length (sym (H .bytes)) ∙ length-cut (at + 4) (end - (at + 4)) s (omega (arith, H .order, H .within))
-
 -- each of its numbers stands 8 bytes behind the one before
 word-at : (l : List ℕ) → each (number 8 .fits) l ≡ true → (i : ℕ) → i < length l → field littleOrder (8 * i) 8 (writes (number 8) l) ≡ getD l i 0
 unfolding each writes

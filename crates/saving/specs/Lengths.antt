@@ -1,7 +1,7 @@
 -- How many bytes a savepoint has. Assumes nothing.
-use mathlib.Core.Path.{_≡_, refl, ap, _∙_}
+use mathlib.Core.Path.{_≡_, ap, _∙_}
 use mathlib.Core.Bool.{true}
-use mathlib.Core.List.{List, [], _∷_, _++_, map}
+use mathlib.Core.List.{List, _++_, map}
 use Prim.Native.Nat.{ℕ, _+_, _*_}
 use native.Mathlib.Omega.{arith}
 use lib.ListN.{length, take, length-append}
@@ -21,17 +21,14 @@ use Rattle.form.specs.Form.{Form, number, byte, counted, writes}
 use Rattle.savepoint.specs.Saved.{Saved, request, rowOf, held, lay, encode}
 use Rattle.savepoint.specs.Items.{writes-flat}
 use Rattle.savepoint.specs.Calls.{Laid, savedOf, soundb}
-use Rattle.saving.specs.Writing.{length-codes, bytes-written}
+use Rattle.savepoint.specs.Placed.{costs-rows}
+use Rattle.form.specs.At.{length-numbers as words, bytes-written}
+use Rattle.saving.specs.Writing.{length-codes}
 
 -- ---- sections
 
 headed : {A : Type 0} (f : Form A) (l : List A) → length (counted 4 f .write l) ≡ 4 + length (writes f l)
 headed f l = length-append (word 4 (length l)) (writes f l) ∙ ap (λ (n : ℕ). n + length (writes f l)) (length-bytesOf littleOrder 4 (length l))
-
-pub words : (l : List ℕ) → length (writes (number 8) l) ≡ 8 * length l
-unfolding writes
-words [] = refl
-words (x ∷ l) = omega (arith, length-append (word 8 x) (writes (number 8) l), length-bytesOf littleOrder 8 x, words l)
 
 pub length-numbers : (l : List ℕ) → length (counted 4 (number 8) .write l) ≡ 4 + 8 * length l
 length-numbers l = headed (number 8) l ∙ ap (λ (n : ℕ). 4 + n) (words l)
@@ -42,13 +39,11 @@ length-requests l = headed request l ∙ ap (λ (n : ℕ). 4 + n) (length-codes 
 pub length-bytes : (l : List ℕ) → length (counted 4 byte .write l) ≡ 4 + length l
 length-bytes l = headed byte l ∙ ap (λ (m : List ℕ). 4 + length m) (bytes-written l)
 
-costs-rows : (kind : ℕ) (l : List Held) → Store.costs (map (rowOf kind) l) ≡ costs l
-unfolding costs Store.costs
-costs-rows kind [] = refl
-costs-rows kind (h ∷ l) = ap (λ (n : ℕ). Head.headerSize + length (h .packet) + n) (costs-rows kind l)
+pub length-helds : (kind : ℕ) (l : List Held) → length (writes (held kind) l) ≡ costs l
+length-helds kind l = ap length (writes-flat kind l) ∙ length-flat (map (rowOf kind) l) ∙ costs-rows kind l
 
 length-held : (kind : ℕ) (l : List Held) → length (counted 4 (held kind) .write l) ≡ 4 + costs l
-length-held kind l = headed (held kind) l ∙ ap (λ (n : ℕ). 4 + n) (ap length (writes-flat kind l) ∙ length-flat (map (rowOf kind) l) ∙ costs-rows kind l)
+length-held kind l = headed (held kind) l ∙ ap (λ (n : ℕ). 4 + n) (length-helds kind l)
 
 -- ---- the file
 

@@ -3,19 +3,21 @@ use mathlib.Core.Path.{_≡_, sym, ap, _∙_}
 use mathlib.Core.Bool.{true}
 use mathlib.Core.List.{List, []}
 use mathlib.Core.Option.{some}
-use Prim.Native.Nat.{ℕ, _+_}
+use Prim.Native.Nat.{ℕ, _+_, _-_}
+use native.Mathlib.Omega.{arith}
 use lib.ListN.{length}
 use lib.Seq.{drop-length}
 use borrow.Author.Tests.{eq-eqb}
 use Rattle.octets.specs.Logic.{both-yes}
 use Rattle.octets.specs.Bytes.{littleOrder}
+use Rattle.octets.specs.Put.{length-cut}
 use Rattle.octets.specs.Field.{field}
 use Rattle.refusal.specs.Answer.{gives, refuses}
 use Rattle.requests.specs.declared.Request.{Request}
 use Rattle.id_allocator.specs.declared.IdAllocator.{IdAllocator}
 use Rattle.held.specs.Head as Head
 use Rattle.model.specs.Client.{Held}
-use Rattle.form.specs.Form.{Form, number, byte, pair, counted}
+use Rattle.form.specs.Form.{Form, number, byte, pair, counted, writes}
 use Rattle.form.specs.At.{Here, pair-reads}
 use Rattle.savepoint.specs.Saved.{Sections, request, held, file, build, shaped, sound, decode}
 use Rattle.savepoint.specs.SavedLaws.{decode-some}
@@ -95,3 +97,7 @@ module _ {s : List ℕ} {p : Plan} (f : Found s p) where
 
 pub good-decodes : {s : List ℕ} {p : Plan} (g : Good s p) → gives (build (sectionsOf (g .found))) ≡ decode s
 good-decodes {s} g = decode-some s (sectionsOf (g .found)) (found-read (g .found)) (found-shaped (g .found)) (g .sound-is)
+
+-- how long the items of a section are
+pub here-long : {A : Type 0} (f : Form A) (s : List ℕ) (at end : ℕ) (H : Here f s at end) → length (writes f (H .items)) ≡ end - (at + 4)
+here-long f s at end H = ap length (sym (H .bytes)) ∙ length-cut (at + 4) (end - (at + 4)) s (omega (arith, H .order, H .within))

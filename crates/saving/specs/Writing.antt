@@ -16,6 +16,7 @@ use Rattle.requests.specs.declared.Request.{Request}
 use Rattle.requests.specs.Room.{requestAt, upto, outstanding}
 use Rattle.requests.specs.Upto.{length-upto, upto-behind}
 use Rattle.form.specs.Form.{Form, number, byte, counted, writes}
+use Rattle.form.specs.At.{bytes-written}
 use Rattle.savepoint.specs.Saved.{modeCode, requestCode, request}
 
 -- ---- numbers
@@ -63,11 +64,6 @@ pub counted-put : {A : Type 0} (f : Form A) (l : List A) (s s₁ s₂ : List ℕ
 counted-put f l s s₁ s₂ to n e p q h =
     let k = headed s s₁ to n p in
     put-next s s₁ s₂ to 4 (word 4 n) (writes f l) (k .0) (k .1) q (omega arith) ∙ ap (λ (m : ℕ). put s to (word 4 m ++ writes f l)) e
-
-pub bytes-written : (l : List ℕ) → writes byte l ≡ l
-unfolding writes
-bytes-written [] = refl
-bytes-written (b ∷ l) = ap (λ (x : List ℕ). b ∷ x) (bytes-written l)
 
 -- the first n bytes of a buffer
 pub run-put : (buf s s₁ s₂ : List ℕ) (to n : ℕ) → s₁ ≡ putField littleOrder s to 4 n → s₂ ≡ put s₁ (to + 4) (take (n - 0) (drop 0 buf)) → n ≤ length buf → to + (4 + n) ≤ length s
