@@ -13,6 +13,13 @@ fn main() {
     };
     let archive = folder.join("libxiengmado.a");
     println!("cargo:rerun-if-changed={}", archive.display());
+    if !archive.is_file() {
+        eprintln!(
+            "There is no {}: run `make library` in the project's folder, or set XIENGMADO_LIB to the folder of libxiengmado.a.",
+            archive.display()
+        );
+        std::process::exit(1);
+    }
     println!("cargo:rustc-link-search=native={}", folder.display());
     println!("cargo:rustc-link-lib=static=xiengmado");
 }

@@ -19,7 +19,7 @@ static uint64_t row[XM_SLOTS];
 
 static void say_number(uint64_t number) { printf(" %llu", (unsigned long long)number); }
 
-static void say_refused(uint32_t refusal) { printf(" refused %u", (unsigned)refusal); }
+static void say_refused(enum xm_refusal refusal) { printf(" refused %u", (unsigned)refusal); }
 
 /* The bytes in hex, in one word. */
 static void say_bytes(size_t start, size_t size) {
@@ -43,18 +43,18 @@ static char sign(void) {
 }
 
 /* The byte goes to the first place of the lent part, if it has one. */
-static uint32_t connect_byte(uint8_t byte) {
+static enum xm_refusal connect_byte(uint8_t byte) {
     size_t start = 0, size = 0;
     uint8_t complete = 0;
     if (xm_connect_buffer(LENT, &start, &size) == XM_DONE && size > 0) room[start] = byte;
     return xm_connect_advance(LENT, 1, &complete);
 }
 
-typedef uint32_t text(const uint64_t *, size_t, const uint8_t *, size_t, size_t *, size_t *);
+typedef enum xm_refusal text(const uint64_t *, size_t, const uint8_t *, size_t, size_t *, size_t *);
 
 static void say_text(text *which) {
     size_t start = 0, size = 0;
-    uint32_t refusal = which(LENT, &start, &size);
+    enum xm_refusal refusal = which(LENT, &start, &size);
     if (refusal != XM_DONE) say_refused(refusal);
     else say_bytes(start, size);
 }
@@ -65,7 +65,7 @@ static void say_fields(size_t first, size_t end) {
 
 static void say_setup(void) {
     uint8_t status = 0;
-    uint32_t refusal = xm_connect_setup(LENT, &status, fields, XM_SETUP_FIELDS);
+    enum xm_refusal refusal = xm_connect_setup(LENT, &status, fields, XM_SETUP_FIELDS);
     if (refusal != XM_DONE) {
         say_refused(refusal);
     } else if (status == XM_SETUP_SUCCESS) {
@@ -79,7 +79,7 @@ static void say_setup(void) {
 
 /* The bytes, as far as none is refused. */
 static void handshake(uint8_t order, const uint8_t *bytes, size_t count) {
-    uint32_t refusal = xm_connect_new(row, XM_SLOTS, order, room, room_len);
+    enum xm_refusal refusal = xm_connect_new(row, XM_SLOTS, order, room, room_len);
     printf("handshake ");
     if (refusal == XM_DONE) putchar(sign());
     for (size_t i = 0; refusal == XM_DONE && i < count; i++) {
@@ -94,15 +94,15 @@ static void handshake(uint8_t order, const uint8_t *bytes, size_t count) {
 
 static void say_room(void) {
     size_t size = 0;
-    uint32_t refusal = xm_reader_remaining_capacity(LENT, &size);
+    enum xm_refusal refusal = xm_reader_remaining_capacity(LENT, &size);
     if (refusal != XM_DONE) say_refused(refusal);
     else say_number(size);
 }
 
-static uint32_t reader_byte(uint8_t byte) {
+static enum xm_refusal reader_byte(uint8_t byte) {
     size_t start = 0, size = 0, whole = 0;
     if (xm_reader_buffer(LENT, &start, &size) == XM_DONE && size > 0) room[start] = byte;
-    uint32_t refusal = xm_reader_advance(LENT, 1, &whole);
+    enum xm_refusal refusal = xm_reader_advance(LENT, 1, &whole);
     if (refusal != XM_DONE) return refusal;
     if (whole > 0) {
         printf(" packet");
@@ -114,7 +114,7 @@ static uint32_t reader_byte(uint8_t byte) {
 }
 
 static void reader(uint8_t order, const uint8_t *bytes, size_t count) {
-    uint32_t refusal = xm_reader_new(row, XM_SLOTS, order, room, room_len);
+    enum xm_refusal refusal = xm_reader_new(row, XM_SLOTS, order, room, room_len);
     printf("reader");
     for (size_t i = 0; refusal == XM_DONE && i < count; i++) refusal = reader_byte(bytes[i]);
     if (refusal != XM_DONE) say_refused(refusal);

@@ -1,5 +1,5 @@
-/* The header and the static library from C: a request, its reply with a descriptor, many at once, a reader, a savepoint, an unsound state; and
- * the bytes of setup and XC-MISC, which no field of is like another, in both byte orders. */
+/* The header and the static library from C: names and version, a request, its reply with a descriptor, many at once, a reader, a savepoint, an
+ * unsound state, a full room, long packets; and the bytes of setup and XC-MISC, which no field of is like another, in both byte orders. */
 #include <stdio.h>
 #include <string.h>
 
@@ -20,15 +20,34 @@ static uint32_t slots[XM_DESCRIPTORS], fds[XM_DESCRIPTORS];
 
 static uint8_t packet[32] = {1, 1, 1};
 
-#define ROOMS requests, sizeof requests, store, sizeof store, slots, XM_DESCRIPTORS
-#define CONNECTION state, XM_CONNECTION_SLOTS, ROOMS
+static const struct xm_rooms rooms = {.state = state,
+                                      .requests = requests,
+                                      .requests_len = sizeof requests,
+                                      .store = store,
+                                      .store_len = sizeof store,
+                                      .slots = slots};
+
+#define CONNECTION XM_CONNECTION(&rooms)
+
+/* The archive is that of the header; each refusal has a text of its own, and other numbers have another. */
+static void named(void) {
+    const char *texts[20], *other = xm_refusal_text(20);
+    expect("version", xm_version(), XM_VERSION);
+    for (uint32_t i = 0; i < 20; i++) {
+        texts[i] = xm_refusal_text(i);
+        expect("a number without a refusal", strcmp(texts[i], other) == 0, i == 17);
+        for (uint32_t j = 0; j < i; j++) expect("a text that stands twice", strcmp(texts[i], texts[j]) == 0, 0);
+    }
+    expect("text", (unsigned)strcmp(xm_refusal_text(XM_SYNC_FIRST), "SyncFirst: a request with a reply must be sent first"), 0);
+    expect("text of a stop", (unsigned)strcmp(xm_refusal_text(XM_STOP_PART), other), 0);
+}
 
 /* A request, and its reply, which is refused until its descriptor is there. */
 static void asked(void) {
     uint64_t number = 0;
     uint8_t place = 9, with = 9, mode = 9;
     uint32_t seven = 7;
-    expect("new", xm_connection_new(state, XM_CONNECTION_SLOTS, XM_LITTLE, ROOMS), XM_DONE);
+    expect("new", xm_connection_new(XM_STATE(&rooms), XM_LITTLE, XM_ROOMS(&rooms)), XM_DONE);
     expect("send", xm_send_request(CONNECTION, XM_REPLY_WITH_FDS, &number), XM_DONE);
     expect("number", number, 1);
     expect("request", xm_request_at(requests, sizeof requests, 1, &with, &mode), XM_DONE);
@@ -84,41 +103,136 @@ static void at_once(void) {
     expect("stop", stop, XM_STOP_END);
 }
 
-/* A fresh reader. */
+/* A reader: fresh, and at a packet that is longer than its buffer, whose head stays at the start of that. */
 static void reader(void) {
     uint64_t row[XM_SLOTS];
+    const struct xm_reader r = {.row = row, .buf = out, .buf_len = 64};
+    const uint8_t head[32] = {1, 0, 0, 0, 0, 0, 0, 9};
     size_t start = 9, size = 9;
-    expect("reader", xm_reader_new(row, XM_SLOTS, XM_BIG, out, sizeof out), XM_DONE);
-    expect("buffer", xm_reader_buffer(row, XM_SLOTS, out, sizeof out, &start, &size), XM_DONE);
+    expect("reader", xm_reader_new(XM_ROW(&r), XM_BIG, XM_BUFFER(&r)), XM_DONE);
+    expect("buffer", xm_reader_buffer(XM_READER(&r), &start, &size), XM_DONE);
     expect("start", start, 0);
     expect("part", size, 32);
+    memcpy(out, head, 32);
+    expect("part of a head", xm_reader_advance(XM_READER(&r), 20, &size), XM_DONE);
+    expect("a long packet", xm_reader_advance(XM_READER(&r), 12, &size), XM_LONG_PACKET);
+    expect("filled as before", row[XM_READER_FILLED], 20);
+    expect("its length", xm_packet_length(out[0], out[7]), 68);
+    expect("its head", (unsigned)memcmp(out, head, 32), 0);
+}
+
+/* Another buffer within a packet: seen where it is too short, or its length field says another length. */
+static void another_buffer(void) {
+    uint8_t bytes[64] = {1, 0, 0, 0, 0, 0, 0, 1};
+    uint64_t row[XM_SLOTS];
+    const struct xm_reader r = {row, bytes, sizeof bytes}, shorter = {row, bytes, 35};
+    size_t size = 9;
+    expect("reader", xm_reader_new(XM_ROW(&r), XM_BIG, XM_BUFFER(&r)), XM_DONE);
+    expect("head", xm_reader_advance(XM_READER(&r), 32, &size), XM_DONE);
+    expect("not whole", size, 0);
+    expect("too short", xm_reader_advance(XM_READER(&shorter), 4, &size), XM_BAD_ROOM);
+    bytes[7] = 2;
+    expect("another length", xm_reader_advance(XM_READER(&r), 4, &size), XM_BAD_ROOM);
+    bytes[7] = 1;
+    bytes[20] = 1;
+    expect("another byte", xm_reader_advance(XM_READER(&r), 4, &size), XM_DONE);
+    expect("whole", size, 36);
+}
+
+/* A request room without a request that has a reply fills up, unless one is sent while a place is left. */
+static void filled(void) {
+    const struct xm_rooms two = {state, requests, 2, store, sizeof store, slots};
+    uint64_t number = 0;
+    expect("new", xm_connection_new(XM_STATE(&two), XM_LITTLE, XM_ROOMS(&two)), XM_DONE);
+    expect("one", xm_send_request(XM_CONNECTION(&two), XM_NO_REPLY, &number), XM_DONE);
+    expect("outstanding", state[XM_STATE_WRITTEN] + 1 - state[XM_STATE_FIRST], 1);
+    expect("two", xm_send_request(XM_CONNECTION(&two), XM_NO_REPLY, &number), XM_DONE);
+    expect("full", xm_send_request(XM_CONNECTION(&two), XM_REPLY_WITHOUT_FDS, &number), XM_NO_ROOM);
+    expect("another length", xm_send_request(CONNECTION, XM_NO_REPLY, &number), XM_BAD_ROOM);
+    expect("as it was", number, 2);
+}
+
+/* A packet of 65,572 bytes is refused, its head taken in: number and order are those of the packet, and a discard drops it. */
+static void long_packets(void) {
+    uint8_t head[32] = {1, 0, 1, 0, 0, 1, 1}, place = 9, result = 9, whole[65572] = {1, 0, 1, 0, 0, 1, 1};
+    uint64_t number = 0;
+    size_t size = 9, count = 9;
+    uint32_t stop = 9;
+    expect("new", xm_connection_new(XM_STATE(&rooms), XM_LITTLE, XM_ROOMS(&rooms)), XM_DONE);
+    for (int i = 0; i < 3; i++) expect("send", xm_send_request(CONNECTION, XM_REPLY_WITHOUT_FDS, &number), XM_DONE);
+    expect("discard", xm_discard_reply(CONNECTION, 2, XM_DISCARD_REPLY), XM_DONE);
+    expect("whole", xm_enqueue_packet(CONNECTION, whole, sizeof whole, &place, &number), XM_LONG_PACKET);
+    expect("a run with it", xm_enqueue_packets(CONNECTION, whole, sizeof whole, &size, &count, &stop), XM_DONE);
+    expect("stop", stop, XM_LONG_PACKET);
+    for (uint8_t i = 1; i < 4; i++) {
+        head[2] = i;
+        expect("head", xm_enqueue_packet(CONNECTION, head, 32, &place, &number), XM_DONE);
+        expect("its number", number, i);
+        expect("its place", place, i == 2 ? XM_DROPPED : XM_REPLIES);
+    }
+    expect("poll", xm_poll_for_reply(CONNECTION, 3, out, 32, &result, &size), XM_DONE);
+    expect("reply", result, XM_REPLY);
+    expect("no more than the head", xm_packet_length(out[0], 257 * 256) > size, 1);
+    expect("dropped", xm_poll_check_for_reply_or_error(CONNECTION, 2, out, 32, &result, &size), XM_DONE);
+    expect("nothing", result, XM_NO_REPLY_COMES);
 }
 
 /* The connection with a fresh reader and allocator, saved and restored in other rooms. */
 static uint64_t row[XM_SLOTS], ids[XM_SLOTS], state2[XM_CONNECTION_SLOTS], row2[XM_SLOTS], ids2[XM_SLOTS];
 static uint8_t buf[64], requests2[16], store2[1024], buf2[64], file[256], again[256];
 
-#define CLIENT CONNECTION, row, XM_SLOTS, buf, sizeof buf, ids, XM_SLOTS
-#define RESTORED(store_size) state2, XM_CONNECTION_SLOTS, requests2, sizeof requests2, store2, store_size, slots, \
-    XM_DESCRIPTORS, row2, XM_SLOTS, buf2, sizeof buf2, ids2, XM_SLOTS
+static const struct xm_reader partial = {row, buf, sizeof buf}, partial2 = {row2, buf2, sizeof buf2};
+static const struct xm_rooms rooms2 = {state2, requests2, sizeof requests2, store2, sizeof store2, slots};
+static const struct xm_rooms shorter = {state2, requests2, sizeof requests2, store2, sizeof store2 - 1, slots};
+
+#define CLIENT CONNECTION, XM_READER(&partial), ids, XM_SLOTS
+#define RESTORED(rooms) XM_CONNECTION(&rooms), XM_READER(&partial2), ids2, XM_SLOTS
 
 static void saved(void) {
     size_t length = 9, size = 9;
     uint32_t seven = 7;
-    expect("reader", xm_reader_new(row, XM_SLOTS, XM_BIG, buf, sizeof buf), XM_DONE);
+    expect("reader", xm_reader_new(XM_ROW(&partial), XM_BIG, XM_BUFFER(&partial)), XM_DONE);
     expect("ids", xm_ids_new(ids, XM_SLOTS, 0x100, 0xff), XM_DONE);
     expect("savepoint", xm_savepoint_length(CLIENT, &length), XM_DONE);
     expect("its length: three requests are outstanding", length, 119);
     expect("a byte less", xm_save(CLIENT, file, length - 1, &size), XM_OUT_SHORT);
     expect("save", xm_save(CLIENT, file, sizeof file, &size), XM_DONE);
     expect("saved", size, length);
-    expect("cut", xm_restore(file, size - 1, RESTORED(sizeof store2)), XM_BAD_SAVEPOINT);
-    expect("another room", xm_restore(file, size, RESTORED(sizeof store2 - 1)), XM_BAD_ROOM);
-    expect("restore", xm_restore(file, size, RESTORED(sizeof store2)), XM_DONE);
-    expect("save again", xm_save(RESTORED(sizeof store2), again, sizeof again, &size), XM_DONE);
+    expect("cut", xm_restore(file, size - 1, RESTORED(rooms2)), XM_BAD_SAVEPOINT);
+    expect("another room", xm_restore(file, size, RESTORED(shorter)), XM_BAD_ROOM);
+    expect("restore", xm_restore(file, size, RESTORED(rooms2)), XM_DONE);
+    expect("save again", xm_save(RESTORED(rooms2), again, sizeof again, &size), XM_DONE);
     expect("the same bytes", size == length ? (unsigned)memcmp(file, again, size) : 9, 0);
     expect("fds", xm_enqueue_fds(CONNECTION, &seven, 1), XM_DONE);
     expect("a descriptor waits", xm_save(CLIENT, file, sizeof file, &size), XM_HAS_DESCRIPTORS);
+}
+
+/* The calls by which descriptors are to be closed; while they are inside there is no savepoint. */
+static void closed(void) {
+    const uint32_t came[4] = {11, 12, 13, 14};
+    uint64_t number = 0;
+    uint8_t place = 9, result = 9;
+    size_t size = 9, count = 9;
+    expect("new", xm_connection_new(XM_STATE(&rooms), XM_LITTLE, XM_ROOMS(&rooms)), XM_DONE);
+    for (int i = 0; i < 4; i++) expect("send", xm_send_request(CONNECTION, XM_REPLY_WITH_FDS, &number), XM_DONE);
+    expect("fds", xm_enqueue_fds(CONNECTION, came, 4), XM_DONE);
+    expect("discard, to come", xm_discard_reply(CONNECTION, 1, XM_DISCARD_REPLY), XM_DONE);
+    for (uint8_t i = 1; i < 5; i++) {
+        const uint8_t reply[32] = {1, 1, i};
+        expect("packet", xm_enqueue_packet(CONNECTION, reply, 32, &place, &number), XM_DONE);
+    }
+    expect("by a dropped reply", state[XM_STATE_CLOSED], 1);
+    expect("discard, held", xm_discard_reply(CONNECTION, 2, XM_DISCARD_REPLY), XM_DONE);
+    expect("by a discard", state[XM_STATE_CLOSED], 2);
+    expect("poll", xm_poll_for_reply(CONNECTION, 3, out, sizeof out, &result, &size), XM_DONE);
+    expect("by a poll", state[XM_STATE_CLOSED], 3);
+    expect("check", xm_poll_check_for_reply_or_error(CONNECTION, 4, out, sizeof out, &result, &size), XM_DONE);
+    expect("no savepoint", xm_savepoint_length(CLIENT, &size), XM_HAS_DESCRIPTORS);
+    expect("take", xm_take_closed_fds(CONNECTION, fds, XM_DESCRIPTORS, &count), XM_DONE);
+    expect("all of them", count, 4);
+    expect("in their order", (unsigned)memcmp(fds, came, sizeof came), 0);
+    expect("none is left", state[XM_STATE_CLOSED], 0);
+    expect("a savepoint", xm_savepoint_length(CLIENT, &size), XM_DONE);
 }
 
 /* More descriptors than there is room for. */
@@ -209,12 +323,17 @@ static void given_ids(void) {
 }
 
 int main(void) {
+    named();
     asked();
     answered();
     at_once();
     reader();
+    another_buffer();
     saved();
+    closed();
     unsound();
+    filled();
+    long_packets();
     opened();
     asked_for_ids();
     given_ids();

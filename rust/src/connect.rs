@@ -1,4 +1,32 @@
 //! The handshake that opens a connection.
+//!
+//! ```
+//! use std::io::{self, Read, Write};
+//! use xiengmado::connect::Connect;
+//! use xiengmado::errors::ConnectError;
+//! use xiengmado::protocol::xproto::Setup;
+//!
+//! fn shake_hands(stream: &mut (impl Read + Write)) -> Result<Setup, ConnectError> {
+//!     let (mut connect, request) = Connect::with_authorization(Vec::new(), Vec::new());
+//!     stream.write_all(&request)?;
+//!     loop {
+//!         let bytes = stream.read(connect.buffer())?;
+//!         if bytes == 0 || connect.advance(bytes) {
+//!             return connect.into_setup();
+//!         }
+//!     }
+//! }
+//!
+//! // A server that takes any request and refuses the connection.
+//! let mut refusal = vec![0, 4, 11, 0, 0, 0];
+//! refusal.extend(1u16.to_ne_bytes());
+//! refusal.extend(b"away");
+//! let mut server = io::Cursor::new([&[0; 12], &refusal[..]].concat());
+//! match shake_hands(&mut server) {
+//!     Err(ConnectError::SetupFailed(failed)) => assert_eq!(failed.reason, b"away"),
+//!     other => panic!("{other:?}"),
+//! }
+//! ```
 
 use crate::errors::{ConnectError, ParseError, Refusal};
 use crate::protocol::xproto::{Setup, SetupAuthenticate, SetupFailed};
@@ -114,7 +142,8 @@ impl Connect {
                     received: self.state[ffi::READER_FILLED] as usize,
                 })
             }
-            Err(refusal) => return Err(ParseError(refusal).into()),
+            // 0, 1 and 2 are the replies that there are; of such a one, bytes are missing.
+            Err(refusal) => return Err(ParseError::new(refusal, self.buffer[0] <= 2).into()),
         };
         match status {
             0 => Err(ConnectError::SetupFailed(SetupFailed {
@@ -244,12 +273,19 @@ mod test {
             other => panic!("{other:?}"),
         }
         bytes[0] = 3;
-        let refused = ConnectError::ParseError(ParseError(Refusal::BadContent));
-        assert_eq!(feed(&bytes).into_setup(), Err(refused));
+        let unknown = ConnectError::ParseError(ParseError::InvalidValue);
+        assert_eq!(said(feed(&bytes)), format!("{unknown:?}"));
+        bytes[0] = 1;
+        let short = ConnectError::ParseError(ParseError::InsufficientData);
+        assert_eq!(said(feed(&bytes)), format!("{short:?}"));
         let incomplete = ConnectError::Incomplete {
             expected: 12,
             received: 9,
         };
-        assert_eq!(feed(&bytes[..9]).into_setup(), Err(incomplete));
+        assert_eq!(said(feed(&bytes[..9])), format!("{incomplete:?}"));
+    }
+
+    fn said(connect: Connect) -> String {
+        format!("{:?}", Setup::try_from(connect).unwrap_err())
     }
 }

@@ -48,6 +48,20 @@ const MARKS: usize = 2 * OUT / 32;
 ///
 /// Descriptors that the connection is not asked for again are closed at once, in the calls that have
 /// the original's names; the `try_` calls leave them for [`Connection::take_closed_fds`].
+///
+/// A packet may be longer than the engine takes:
+///
+/// ```
+/// use xiengmado::connection::{Connection, PollReply, ReplyFdKind};
+///
+/// let mut connection = Connection::new();
+/// let number = connection.send_request(ReplyFdKind::ReplyWithoutFDs).expect("no sync is due");
+/// let mut reply = vec![7; 1_920_032];
+/// reply[..4].copy_from_slice(&[1, 0, 0, 0]);
+/// reply[2..4].copy_from_slice(&(number as u16).to_ne_bytes());
+/// connection.enqueue_packet(reply.clone());
+/// assert!(connection.poll_for_reply(number) == PollReply::Reply(reply));
+/// ```
 #[derive(Debug)]
 pub struct Connection {
     pub(crate) engine: Engine,
@@ -77,8 +91,14 @@ impl Connection {
         &self.engine
     }
 
-    /// Send a request. `None` says that a sync is necessary before; panics where the requests' room
-    /// is full.
+    /// Send a request. `None` says that a sync is necessary before: send a request with a reply, read
+    /// until that came, and take it.
+    ///
+    /// # Panics
+    ///
+    /// Where the requests' room is full (5), and past the last number, 2^63 - 1 (3). `try_send_request`
+    /// answers the refusal. Requests without a reply never fill a room of 65,536 where that is done at `None`;
+    /// requests with a reply do, where nothing is read.
     #[inline]
     pub fn send_request(&mut self, kind: ReplyFdKind) -> Option<SequenceNumber> {
         match self.try_send_request(kind) {
@@ -88,7 +108,7 @@ impl Connection {
         }
     }
 
-    /// The same. Refused by 3, 6, 5.
+    /// The same. Refused by 3, 6, 5. At 5 read, take packets in and poll, then try again.
     #[inline]
     pub fn try_send_request(&mut self, kind: ReplyFdKind) -> Result<SequenceNumber, Refusal> {
         self.engine.send_request(kind)
@@ -108,7 +128,7 @@ impl Connection {
         self.close();
     }
 
-    /// The same. Never refused while the connection is whole.
+    /// The same, and descriptors stay for `take_closed_fds`. Never refused while the connection is whole.
     #[inline]
     pub fn try_discard_reply(
         &mut self,
@@ -118,8 +138,11 @@ impl Connection {
         self.engine.discard_reply(seqno, mode)
     }
 
-    /// Descriptors were received, before the packets that they belong to. Panics where over 256 would
-    /// be inside.
+    /// Descriptors were received, before the packets that they belong to.
+    ///
+    /// # Panics
+    ///
+    /// Where over 256 would be inside (5). `try_enqueue_fds` answers the refusal.
     pub fn enqueue_fds(&mut self, fds: Vec<RawFdContainer>) {
         if let Err((refusal, _)) = self.try_enqueue_fds(fds) {
             panic!("enqueue_fds: {refusal}");
@@ -141,18 +164,34 @@ impl Connection {
         }
     }
 
-    /// A packet was received. Panics where it is no packet, claims more descriptors than wait or
-    /// finds no room.
+    /// A packet was received, of any length.
+    ///
+    /// Of one over 65,536 bytes the engine takes the first 32. The packet is kept beside the engine until these
+    /// are handed out, discarded or dropped.
+    ///
+    /// # Panics
+    ///
+    /// For under 32 bytes (1), where it claims more descriptors than wait (4), where the store has no
+    /// room for it (5) and past the last number (3). `try_enqueue_packet` and `try_enqueue_long_packet` answer
+    /// the refusal. The original panics at 4 as well.
     #[inline]
     pub fn enqueue_packet(&mut self, packet: Vec<u8>) {
-        if let Err(refusal) = self.try_enqueue_packet(&packet) {
-            panic!("enqueue_packet: {refusal}");
+        match self.try_enqueue_packet(&packet) {
+            Ok(_) => self.engine.spare(packet),
+            Err(refusal) => self.enqueue_refused(refusal, packet),
         }
-        self.engine.spare(packet);
         self.close();
     }
 
-    /// The same: where it was filed, and under which number. Refused by 1, 2, 3, 4, 5.
+    #[cold]
+    fn enqueue_refused(&mut self, refusal: Refusal, packet: Vec<u8>) {
+        if let Err((refusal, _)) = self.engine.enqueue_head(refusal, packet) {
+            panic!("enqueue_packet: {refusal}");
+        }
+    }
+
+    /// The same for at most 65,536 bytes: where it was filed, and under which number. Refused by 1, 2, 3,
+    /// 4, 5. At 5 poll, then try again.
     #[inline]
     pub fn try_enqueue_packet(
         &mut self,
@@ -161,9 +200,19 @@ impl Connection {
         self.engine.enqueue_packet(packet)
     }
 
+    /// The same for any length; a refusal, by 1, 3, 4, 5, hands the packet back.
+    #[inline]
+    pub fn try_enqueue_long_packet(
+        &mut self,
+        packet: Vec<u8>,
+    ) -> Result<(Place, SequenceNumber), (Refusal, Vec<u8>)> {
+        self.engine.enqueue_long_packet(packet)
+    }
+
     /// Bytes were received: each whole packet that they begin with is taken in, up to the first that is
     /// refused by 2, 3, 4, 5. What is left behind the bytes taken is to be offered again, with more behind
-    /// it or once there is room. The original has no such call; this one looks at the rooms once.
+    /// it or once there is room; at 2 by [`crate::packet_reader::PacketReader::advance`] and
+    /// [`Connection::enqueue_packet`]. The original has no such call; this one looks at the rooms once.
     pub fn enqueue_packets(&mut self, bytes: &[u8]) -> Fed {
         let fed = whole(self.engine.enqueue_packets(bytes));
         self.close();
@@ -206,10 +255,22 @@ impl Connection {
     }
 
     /// All events, oldest first. The original has no such call; this one looks at the rooms once for
-    /// as many events as 65,536 bytes take.
+    /// as many events as 65,536 bytes take, where no long packet is held.
     pub fn poll_for_events(&mut self) -> Vec<RawEventAndSeqNumber> {
-        let (mut out, mut marks) = (vec![0; OUT], vec![0; MARKS]);
         let mut events = Vec::new();
+        while !self.engine.rests.is_empty() {
+            match self.poll_for_event_with_sequence() {
+                Some(event) => events.push(event),
+                None => return events,
+            }
+        }
+        self.poll_for_short_events(&mut events);
+        events
+    }
+
+    /// The same where each event fits into the output.
+    fn poll_for_short_events(&mut self, events: &mut Vec<RawEventAndSeqNumber>) {
+        let (mut out, mut marks) = (vec![0; OUT], vec![0; MARKS]);
         loop {
             let handed = whole(self.engine.poll_for_events(&mut out, &mut marks));
             let mut rest = &out[..handed.bytes];
@@ -219,7 +280,7 @@ impl Connection {
                 rest = behind;
             }
             if handed.stop == Stop::End {
-                return events;
+                return;
             }
         }
     }

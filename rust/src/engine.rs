@@ -4,10 +4,12 @@
 use crate::connection::{PollReply, ReplyFdKind};
 use crate::errors::Refusal;
 use crate::ffi::{self, Rooms};
+use crate::rests::Rests;
 use crate::{ByteOrder, DiscardMode, SequenceNumber};
 
-/// The most bytes of a packet.
+/// The most bytes of a packet, and the least: by these it is numbered and filed.
 const MOST_PACKET: usize = 65_536;
+pub(crate) const HEAD: usize = 32;
 
 /// The bytes of a held record in front of its packet.
 pub const RECORD_HEADER: usize = 16;
@@ -24,6 +26,17 @@ pub enum Place {
     Events,
     /// It was dropped, as its request asked.
     Dropped,
+}
+
+impl Place {
+    #[inline]
+    fn from_number(number: u8) -> Place {
+        match number {
+            0 => Place::Replies,
+            1 => Place::Events,
+            _ => Place::Dropped,
+        }
+    }
 }
 
 /// What stopped a call that makes many steps.
@@ -103,7 +116,7 @@ pub struct Record<'a> {
     pub place: Place,
     /// The number that it was filed under.
     pub number: SequenceNumber,
-    /// Its bytes.
+    /// Its bytes, also those of a long one that are kept beside the engine.
     pub packet: &'a [u8],
     /// A reply's descriptors.
     pub fds: &'a [u32],
@@ -117,6 +130,9 @@ fn byte(kind: ReplyFdKind) -> u8 {
     }
 }
 
+/// A poll's answer where there will be no reply.
+const NO_REPLY: u8 = 1;
+
 /// How many emptied buffers are kept for packets that will be handed out, and of how many bytes.
 const SPARES: usize = 16;
 const SPARE_BYTES: usize = 4096;
@@ -129,6 +145,7 @@ pub struct Engine {
     out: Box<[u8]>,
     fds: Box<[u32]>,
     spares: Vec<Vec<u8>>,
+    pub(crate) rests: Rests,
 }
 
 impl Engine {
@@ -153,6 +170,7 @@ impl Engine {
             out: vec![0; MOST_PACKET].into(),
             fds: vec![0; ffi::DESCRIPTORS].into(),
             spares: Vec::with_capacity(SPARES),
+            rests: Rests::default(),
         }
     }
 
@@ -170,14 +188,14 @@ impl Engine {
         Ok(engine)
     }
 
-    /// A request was written: its number. Refused by 3, 6, 5.
+    /// The number of the next request, to be asked for before it is written. Refused by 3, 6, 5.
     #[inline]
     pub fn send_request(&mut self, kind: ReplyFdKind) -> Result<SequenceNumber, Refusal> {
         ffi::send_request(&mut self.state, &mut self.rooms, byte(kind))
     }
 
-    /// Requests were written, one after the other up to the first that is refused by 3, 6, 5: how
-    /// many, and what stopped it. Far quicker than as many calls of `send_request`.
+    /// Numbers for requests before they are written, up to the first that is refused by 3, 6, 5: how
+    /// many may be written, and what stopped it. Far quicker than as many calls of `send_request`.
     pub fn send_requests(&mut self, kinds: &[ReplyFdKind]) -> Result<(usize, Stop), Refusal> {
         let bytes: Vec<u8> = kinds.iter().map(|&kind| byte(kind)).collect();
         let (count, _, stop) = ffi::send_requests(&mut self.state, &mut self.rooms, &bytes)?;
@@ -191,11 +209,16 @@ impl Engine {
         number: SequenceNumber,
         mode: DiscardMode,
     ) -> Result<(), Refusal> {
-        let mode = match mode {
+        let byte = match mode {
             DiscardMode::DiscardReply => 1,
             DiscardMode::DiscardReplyAndError => 2,
         };
-        ffi::discard_reply(&mut self.state, &mut self.rooms, number, mode)
+        ffi::discard_reply(&mut self.state, &mut self.rooms, number, byte)?;
+        if !self.rests.is_empty() {
+            self.rests.discarded(number, mode);
+            debug_assert!(self.rests_fit());
+        }
+        Ok(())
     }
 
     /// Descriptors came: they wait for the replies that they belong to. Refused by 5.
@@ -207,18 +230,79 @@ impl Engine {
     #[inline]
     pub fn enqueue_packet(&mut self, packet: &[u8]) -> Result<(Place, SequenceNumber), Refusal> {
         let (place, number) = ffi::enqueue_packet(&mut self.state, &mut self.rooms, packet)?;
-        let place = match place {
-            0 => Place::Replies,
-            1 => Place::Events,
-            _ => Place::Dropped,
+        if !self.rests.is_empty() {
+            self.filed(place, number, packet);
+        }
+        Ok((Place::from_number(place), number))
+    }
+
+    /// A packet goes on the lists beside the records.
+    #[cold]
+    fn filed(&mut self, place: u8, number: SequenceNumber, packet: &[u8]) {
+        let place = Place::from_number(place);
+        self.rests.filed(place, number, packet[0] == 0);
+        debug_assert!(self.rests_fit());
+    }
+
+    /// The same for a packet of any length; a refusal, by 1, 3, 4, 5, hands it back.
+    ///
+    /// Of one over 65,536 bytes the engine takes the first 32, by which it is numbered and filed. It is
+    /// kept whole beside the engine until these are handed out, discarded or dropped. So it takes 48 bytes
+    /// of the store, and memory for its length.
+    #[inline]
+    pub fn enqueue_long_packet(
+        &mut self,
+        packet: Vec<u8>,
+    ) -> Result<(Place, SequenceNumber), (Refusal, Vec<u8>)> {
+        match self.enqueue_packet(&packet) {
+            Ok(filed) => {
+                self.spare(packet);
+                Ok(filed)
+            }
+            Err(refusal) => self.enqueue_head(refusal, packet),
+        }
+    }
+
+    /// The same for a packet that was refused: by its first bytes, if it is too long.
+    #[cold]
+    pub(crate) fn enqueue_head(
+        &mut self,
+        refusal: Refusal,
+        packet: Vec<u8>,
+    ) -> Result<(Place, SequenceNumber), (Refusal, Vec<u8>)> {
+        if refusal != Refusal::LongPacket {
+            return Err((refusal, packet));
+        }
+        let filed = match self.enqueue_packet(&packet[..HEAD]) {
+            Ok(filed) => filed,
+            Err(refusal) => return Err((refusal, packet)),
         };
-        Ok((place, number))
+        if filed.0 != Place::Dropped {
+            self.catch_up();
+            self.rests.keep(filed.0, packet);
+        }
+        Ok(filed)
+    }
+
+    /// Lists what the engine holds and no list has yet.
+    fn catch_up(&mut self) {
+        let mut rests = std::mem::take(&mut self.rests);
+        rests.catch_up(self.records());
+        self.rests = rests;
+    }
+
+    /// Whether the lists beside the records go with them, where a long packet is left.
+    fn rests_fit(&self) -> bool {
+        self.rests.is_empty() || self.rests.fit(self.records())
     }
 
     /// Bytes came from the server: each whole packet that they begin with is taken in, up to the first
     /// that is refused by 2, 3, 4, 5. Far quicker than as many calls of `enqueue_packet`.
     pub fn enqueue_packets(&mut self, bytes: &[u8]) -> Result<Fed, Refusal> {
         let (bytes, packets, stop) = ffi::enqueue_packets(&mut self.state, &mut self.rooms, bytes)?;
+        if !self.rests.is_empty() {
+            self.catch_up();
+        }
         Ok(Fed {
             bytes,
             packets,
@@ -242,7 +326,8 @@ impl Engine {
         if found == 0 {
             return Ok(None);
         }
-        Ok(Some((self.handed(size), self.fds[..count].to_vec())))
+        let packet = self.reply(number, size);
+        Ok(Some((packet, self.fds[..count].to_vec())))
     }
 
     /// Whether a sync must be sent before `poll_check_for_reply_or_error` can tell.
@@ -267,23 +352,48 @@ impl Engine {
             number,
             &mut self.out,
         )?;
-        Ok(self.polled(answer))
+        Ok(self.polled(number, answer))
     }
 
     /// The oldest reply of a request; its descriptors are to be closed. An error becomes an event.
     #[inline]
     pub fn poll_for_reply(&mut self, number: SequenceNumber) -> Result<PollReply, Refusal> {
         let answer = ffi::poll_for_reply(&mut self.state, &mut self.rooms, number, &mut self.out)?;
-        Ok(self.polled(answer))
+        if answer.0 == NO_REPLY && !self.rests.is_empty() {
+            self.rests.became_event(number);
+            debug_assert!(self.rests_fit());
+        }
+        Ok(self.polled(number, answer))
     }
 
     #[inline]
-    fn polled(&mut self, (result, size): (u8, usize)) -> PollReply {
+    fn polled(&mut self, number: SequenceNumber, (result, size): (u8, usize)) -> PollReply {
         match result {
             0 => PollReply::TryAgain,
-            1 => PollReply::NoReply,
-            _ => PollReply::Reply(self.handed(size)),
+            NO_REPLY => PollReply::NoReply,
+            _ => PollReply::Reply(self.reply(number, size)),
         }
+    }
+
+    /// The oldest reply or error of a number, of which so many bytes are in the output.
+    #[inline]
+    fn reply(&mut self, number: SequenceNumber, size: usize) -> Vec<u8> {
+        if self.rests.is_empty() {
+            return self.handed(size);
+        }
+        let long = self.rests.reply(number);
+        self.joined(long, size)
+    }
+
+    /// A long packet, or what is in the output.
+    #[cold]
+    fn joined(&mut self, long: Option<Vec<u8>>, size: usize) -> Vec<u8> {
+        debug_assert!(self.rests_fit());
+        let Some(packet) = long else {
+            return self.handed(size);
+        };
+        debug_assert_eq!(packet[..HEAD], self.out[..size]);
+        packet
     }
 
     /// So many bytes of the output as a packet of its own.
@@ -313,7 +423,11 @@ impl Engine {
         if found == 0 {
             return Ok(None);
         }
-        Ok(Some((self.handed(size), number)))
+        if self.rests.is_empty() {
+            return Ok(Some((self.handed(size), number)));
+        }
+        let long = self.rests.event();
+        Ok(Some((self.joined(long, size), number)))
     }
 
     /// As many events as fit, oldest first: packets into `out`, and number and length of each into
@@ -323,6 +437,9 @@ impl Engine {
         out: &mut [u8],
         marks: &mut [u64],
     ) -> Result<Handed, Refusal> {
+        if !self.rests.is_empty() {
+            return self.poll_for_long_events(out, marks);
+        }
         let (count, bytes, stop) =
             ffi::poll_for_events(&mut self.state, &mut self.rooms, out, marks)?;
         Ok(Handed {
@@ -330,6 +447,35 @@ impl Engine {
             bytes,
             stop: Stop::from_number(stop),
         })
+    }
+
+    /// The same one by one, since the engine knows only the first bytes of a long event.
+    fn poll_for_long_events(
+        &mut self,
+        out: &mut [u8],
+        marks: &mut [u64],
+    ) -> Result<Handed, Refusal> {
+        let (mut count, mut bytes) = (0, 0);
+        while let Some(size) = self.oldest_event() {
+            if out.len() - bytes < size || marks.len() - 2 * count < 2 {
+                let stop = Stop::Refused(Refusal::OutShort);
+                let handed = Handed { count, bytes, stop };
+                return (count > 0).then_some(handed).ok_or(Refusal::OutShort);
+            }
+            let event = self.poll_for_event_with_sequence()?;
+            let (packet, number) = event.expect("there is an event");
+            out[bytes..bytes + size].copy_from_slice(&packet);
+            marks[2 * count..2 * count + 2].copy_from_slice(&[number, size as u64]);
+            (count, bytes) = (count + 1, bytes + size);
+        }
+        let stop = Stop::End;
+        Ok(Handed { count, bytes, stop })
+    }
+
+    /// How many bytes the oldest event has.
+    fn oldest_event(&self) -> Option<usize> {
+        let oldest = self.records().find(|r| r.place == Place::Events);
+        oldest.map(|event| event.packet.len())
     }
 
     /// The descriptors to be closed, whole and in their order.
@@ -380,16 +526,18 @@ impl Engine {
         let end = self.state[ffi::STATE_END] as usize;
         let mut at = self.state[ffi::STATE_START] as usize;
         let mut fd = self.closing().len();
+        let (mut replies, mut events) = (0.., 0..);
         std::iter::from_fn(move || {
             let (kind, number, size, count) = ffi::record_at(&self.rooms.store, at, end).ok()?;
+            let (place, nth) = match kind {
+                0 => (Place::Replies, replies.next()?),
+                _ => (Place::Events, events.next()?),
+            };
+            let held = &self.rooms.store[at + RECORD_HEADER..at + RECORD_HEADER + size];
             let record = Record {
-                place: if kind == 0 {
-                    Place::Replies
-                } else {
-                    Place::Events
-                },
+                place,
                 number,
-                packet: &self.rooms.store[at + RECORD_HEADER..at + RECORD_HEADER + size],
+                packet: self.rests.long(place, nth).unwrap_or(held),
                 fds: &self.rooms.slots[fd..fd + usize::from(count)],
             };
             at += RECORD_HEADER + size;

@@ -2,6 +2,7 @@
 //! A caller lends whole slices and numbers that overlap nothing.
 
 extern "C" {
+    pub fn xm_version() -> u32;
     pub fn xm_full_number(read: u64, wire: u16, number: &mut u64) -> u32;
     pub fn xm_send(
         written: u64,

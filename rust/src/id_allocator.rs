@@ -1,4 +1,20 @@
 //! Ids for the client's resources.
+//!
+//! ```
+//! use xiengmado::id_allocator::IdAllocator;
+//! use xiengmado::protocol::xc_misc::GetXIDRangeReply;
+//!
+//! // The base and the mask are the setup's.
+//! let mut ids = IdAllocator::new(0x20_0000, 0b11).unwrap();
+//! assert_eq!(ids.generate_id(), Some(0x20_0000));
+//! assert!((0..3).all(|_| ids.generate_id().is_some()));
+//!
+//! // None is left: XC-MISC gives a range of further ones.
+//! assert_eq!(ids.generate_id(), None);
+//! let range = GetXIDRangeReply { start_id: 0x20_0001, count: 2, ..Default::default() };
+//! ids.update_xid_range(&range).unwrap();
+//! assert_eq!(ids.generate_id(), Some(0x20_0001));
+//! ```
 
 use std::error::Error;
 use std::fmt;

@@ -2,18 +2,41 @@
 //!
 //! [`connection::Connection`], [`packet_reader::PacketReader`], [`connect::Connect`],
 //! [`id_allocator::IdAllocator`] and [`protocol::xc_misc`] have the names and arguments of the
-//! original, so a program written against it changes its `use` lines and little else. What differs:
+//! original, so a program written against it changes its `use` lines and little else. What differs,
+//! item by item, is in the project's `docs/DIFFERENCES.md`; in short:
 //!
 //! - Rooms have a length that is chosen at the start: `new` takes large ones, `with_..` any others.
-//! - Where the original panics or asks that the caller behave, the engine refuses by number
-//!   ([`Refusal`]) and changes nothing. A call whose signature has no place for that panics, as the
-//!   original would; the `try_` call beside it answers the refusal instead.
+//! - Where the original grows, panics or asks that the caller behave, the engine refuses by number
+//!   ([`Refusal`]) and changes nothing. A call whose signature has no place for that panics; the
+//!   `try_` call beside it answers the refusal instead.
 //!
 //! [`engine::Engine`] is the connection without those habits: every call answers its refusal,
 //! descriptors are opaque numbers, and everything that is held can be looked at.
 //!
 //! [`savepoint`] writes a connection, its reader and its ids to bytes and reads them back, which the
 //! original can't do.
+//!
+//! ```
+//! use xiengmado::connection::{Connection, PollReply, ReplyFdKind};
+//! use xiengmado::packet_reader::PacketReader;
+//!
+//! let (mut connection, mut reader) = (Connection::new(), PacketReader::new());
+//! // A number for the request, which is then written to the socket.
+//! let number = connection.send_request(ReplyFdKind::ReplyWithoutFDs).expect("no sync is due");
+//!
+//! // What the server answers: a reply (1) to that request.
+//! let mut bytes = vec![0; 32];
+//! bytes[0] = 1;
+//! bytes[2..4].copy_from_slice(&(number as u16).to_ne_bytes());
+//!
+//! let mut socket = &bytes[..];
+//! while let Ok(count @ 1..) = std::io::Read::read(&mut socket, reader.buffer()) {
+//!     if let Some(packet) = reader.advance(count) {
+//!         connection.enqueue_packet(packet);
+//!     }
+//! }
+//! assert_eq!(connection.poll_for_reply(number), PollReply::Reply(bytes));
+//! ```
 
 #![deny(missing_docs)]
 
@@ -21,17 +44,26 @@ pub mod connect;
 pub mod connection;
 pub mod engine;
 pub mod errors;
-#[allow(missing_docs)]
+// For who calls the library as C does; `include/xiengmado.h` says what each export does.
+#[doc(hidden)]
 pub mod exports;
 mod ffi;
 pub mod id_allocator;
 pub mod packet_reader;
 pub mod protocol;
+mod rests;
 pub mod savepoint;
 pub mod sequence;
+#[cfg(test)]
+mod surface;
 pub mod x11_utils;
 
 pub use errors::Refusal;
+
+/// The program of README.md is built with the examples.
+#[cfg(doctest)]
+#[doc = include_str!("../README.md")]
+struct Readme;
 
 /// A descriptor that is closed when it is dropped.
 pub type RawFdContainer = std::os::fd::OwnedFd;
@@ -76,5 +108,21 @@ impl ByteOrder {
             ByteOrder::Little => b'l',
             ByteOrder::Big => b'B',
         }
+    }
+}
+
+/// The version of the archive that this is linked with: 65,536 for each major, 256 for each minor, 1
+/// for each patch. It is that of this crate.
+pub fn version() -> u32 {
+    ffi::version()
+}
+
+#[cfg(test)]
+mod tests {
+    #[test]
+    fn archive_and_crate_have_one_version() {
+        let parts = env!("CARGO_PKG_VERSION").split('.');
+        let number = parts.fold(0, |n, part| 256 * n + part.parse::<u32>().unwrap());
+        assert_eq!(super::version(), number);
     }
 }

@@ -20,6 +20,8 @@
 //! assert_eq!(other.send_request(ReplyFdKind::NoReply), Some(2));
 //! ```
 
+use std::error::Error;
+use std::fmt;
 use std::ops::RangeInclusive;
 
 use crate::connection::Connection;
@@ -28,13 +30,49 @@ use crate::errors::Refusal;
 use crate::ffi;
 use crate::id_allocator::IdAllocator;
 use crate::packet_reader::PacketReader;
+use crate::rests::Rests;
 
-/// The savepoint of a client. Refused by 18 while the connection has a descriptor inside.
+/// Why a client can't be saved.
+#[derive(Debug, Clone, Copy, PartialEq, Eq)]
+#[non_exhaustive]
+pub enum SaveError {
+    /// The engine refused, by 18 or 8.
+    Refused(Refusal),
+    /// A packet over 65,536 bytes is held, or the reader gathers one that is longer than its buffer. Bytes
+    /// beside the engine are no part of its state. Take the packet or discard it, or read to its end, and
+    /// save then.
+    LongPacket,
+}
+
+impl fmt::Display for SaveError {
+    fn fmt(&self, f: &mut fmt::Formatter<'_>) -> fmt::Result {
+        match self {
+            SaveError::Refused(refusal) => refusal.fmt(f),
+            SaveError::LongPacket => {
+                write!(
+                    f,
+                    "Bytes of a long packet are kept beside the engine, and can't be saved"
+                )
+            }
+        }
+    }
+}
+
+impl Error for SaveError {}
+
+impl From<Refusal> for SaveError {
+    fn from(refusal: Refusal) -> Self {
+        SaveError::Refused(refusal)
+    }
+}
+
+/// The savepoint of a client. Refused by 18 while the connection has a descriptor inside; an error of its own
+/// while bytes of a long packet are kept beside the engine.
 pub fn save(
     connection: &Connection,
     reader: &PacketReader,
     ids: &IdAllocator,
-) -> Result<Vec<u8>, Refusal> {
+) -> Result<Vec<u8>, SaveError> {
     connection.engine.save(reader, ids)
 }
 
@@ -61,23 +99,32 @@ fn length(bytes: &[u8], (at, range): (usize, RangeInclusive<u64>)) -> Result<usi
 }
 
 impl Engine {
+    /// Nothing is kept beside the engine and beside the reader's buffer.
+    fn all_inside(&self, reader: &PacketReader) -> Result<(), SaveError> {
+        match self.rests.is_empty() && !reader.is_gathering() {
+            true => Ok(()),
+            false => Err(SaveError::LongPacket),
+        }
+    }
+
     /// How many bytes a savepoint takes. Refused by 18.
     pub fn savepoint_length(
         &self,
         reader: &PacketReader,
         ids: &IdAllocator,
-    ) -> Result<usize, Refusal> {
-        ffi::savepoint_length(
+    ) -> Result<usize, SaveError> {
+        self.all_inside(reader)?;
+        Ok(ffi::savepoint_length(
             &self.state,
             &self.rooms,
             &reader.state,
             &reader.buffer,
             &ids.state,
-        )
+        )?)
     }
 
     /// The savepoint of this connection with its reader and its ids. Refused by 18.
-    pub fn save(&self, reader: &PacketReader, ids: &IdAllocator) -> Result<Vec<u8>, Refusal> {
+    pub fn save(&self, reader: &PacketReader, ids: &IdAllocator) -> Result<Vec<u8>, SaveError> {
         let mut out = vec![0; self.savepoint_length(reader, ids)?];
         self.save_into(reader, ids, &mut out)?;
         Ok(out)
@@ -89,15 +136,16 @@ impl Engine {
         reader: &PacketReader,
         ids: &IdAllocator,
         out: &mut [u8],
-    ) -> Result<usize, Refusal> {
-        ffi::save(
+    ) -> Result<usize, SaveError> {
+        self.all_inside(reader)?;
+        Ok(ffi::save(
             &self.state,
             &self.rooms,
             &reader.state,
             &reader.buffer,
             &ids.state,
             out,
-        )
+        )?)
     }
 
     /// A savepoint read into rooms of the lengths that were saved. Refused by 19.
@@ -126,6 +174,9 @@ impl Engine {
             &mut reader.state,
             &mut reader.buffer,
             &mut ids.state,
-        )
+        )?;
+        self.rests = Rests::default();
+        reader.stop_gathering();
+        Ok(())
     }
 }

@@ -1,4 +1,15 @@
 //! Sequence numbers alone, for those who keep the three numbers of a connection themselves.
+//!
+//! ```
+//! use xiengmado::{sequence, Refusal};
+//!
+//! // 70,000 was read last: a packet that bears 4,470 is the answer to 70,006.
+//! assert_eq!(sequence::full_number(70_000, 4_470), Ok(70_006));
+//!
+//! // After 65,534 requests without a reply, one with a reply comes first.
+//! assert_eq!(sequence::send(65_534, 0, false), Err(Refusal::SyncFirst));
+//! assert_eq!(sequence::send(65_534, 0, true), Ok((65_535, 65_535)));
+//! ```
 
 use crate::errors::Refusal;
 use crate::{ffi, SequenceNumber};

@@ -22,6 +22,7 @@ use xiengmado::engine::Engine;
 use xiengmado::id_allocator::IdAllocator;
 use xiengmado::packet_reader::PacketReader;
 use xiengmado::protocol::xc_misc::GetXIDRangeReply;
+use xiengmado::savepoint::SaveError;
 use xiengmado::{savepoint, ByteOrder, DiscardMode, Refusal};
 
 const BOTH: DiscardMode = DiscardMode::DiscardReplyAndError;
@@ -130,8 +131,8 @@ impl Relay {
         } = &mut self.ours;
         let bytes = match engine.save(reader, ids) {
             Ok(bytes) => bytes,
-            Err(refusal) => {
-                assert_eq!(refusal, Refusal::HasDescriptors);
+            Err(error) => {
+                assert_eq!(error, Refusal::HasDescriptors.into());
                 return assert!(!engine.inside().is_empty());
             }
         };
@@ -296,7 +297,7 @@ fn generated(seed: u64, from: u64) -> usize {
             }
             restored += 1;
         }
-        let call = some_call(&mut chance, &client, seed % 5 == 0);
+        let call = some_call(&mut chance, &client, seed % 5 == 1);
         let due = answer(&mut client, &call);
         for copy in copies.iter_mut().flatten() {
             assert_eq!(answer(copy, &call), due, "seed {seed}, call {turn}");
@@ -483,13 +484,13 @@ fn refusals() {
     let mut out = [7; 200];
     assert_eq!(
         engine.save_into(&reader, &ids, &mut out[..115]),
-        Err(Refusal::OutShort)
+        Err(Refusal::OutShort.into())
     );
     assert_eq!(out, [7; 200]);
     assert_eq!(engine.save_into(&reader, &ids, &mut out), Ok(116));
     assert_eq!(out[116..], [7; 84]);
     // a descriptor waits, is held, and is to be closed
-    let has = Err(Refusal::HasDescriptors);
+    let has = Err(Refusal::HasDescriptors.into());
     engine.send_request(ReplyFdKind::ReplyWithFDs).unwrap();
     engine.enqueue_fds(&[3]).unwrap();
     assert_eq!(engine.savepoint_length(&reader, &ids), has);
@@ -545,4 +546,63 @@ fn a_connection() {
     assert_eq!(other.send_request(ReplyFdKind::NoReply), Some(4));
     assert_eq!(ids.generate_id(), Some(0x20_0000));
     assert_eq!(connection.engine().last_sequence_written(), 3);
+}
+
+/// While bytes of a long packet are beside the engine, or beside the reader's buffer, there is no savepoint.
+#[test]
+fn long_packets() {
+    let (mut engine, mut reader) = (
+        Engine::new(ByteOrder::Little, 8, 200).unwrap(),
+        PacketReader::with_buffer(ByteOrder::Little, 64).unwrap(),
+    );
+    let ids = IdAllocator::new(0, 0xff).unwrap();
+    let empty = engine.save(&reader, &ids).unwrap();
+    let (long, mut out) = (Err(SaveError::LongPacket), [0; 200]);
+    let (event, mut reply) = (vec![2; 70_000], vec![1; 100]);
+    reply[4..8].copy_from_slice(&17u32.to_le_bytes());
+
+    engine.enqueue_long_packet(event.clone()).unwrap();
+    assert_eq!(engine.savepoint_length(&reader, &ids), long);
+    assert_eq!(engine.save_into(&reader, &ids, &mut out), long);
+    assert!(
+        matches!(engine.poll_for_event_with_sequence(), Ok(Some((packet, _))) if packet == event)
+    );
+    let read = engine.save(&reader, &ids).unwrap();
+    assert_ne!(read, empty);
+
+    reader.buffer().copy_from_slice(&reply[..32]);
+    assert_eq!(reader.advance(32), None);
+    assert_eq!(engine.savepoint_length(&reader, &ids), long);
+    assert_eq!(engine.save_into(&reader, &ids, &mut out), long);
+    reader.buffer().copy_from_slice(&reply[32..]);
+    assert_eq!(reader.advance(68), Some(reply.clone()));
+    assert_eq!(engine.save(&reader, &ids), Ok(read));
+
+    // what is restored over them has no such bytes
+    engine.enqueue_long_packet(event).unwrap();
+    reader.buffer().copy_from_slice(&reply[..32]);
+    reader.advance(32);
+    let mut other = ids;
+    engine
+        .restore_into(&empty, &mut reader, &mut other)
+        .unwrap();
+    assert_eq!(engine.save(&reader, &other), Ok(empty));
+    assert_eq!(reader.remaining_capacity(), 32);
+}
+
+#[test]
+fn a_connection_with_a_long_packet() {
+    let (mut connection, reader) = (Connection::new(), PacketReader::new());
+    let ids = IdAllocator::new(0, 0xff).unwrap();
+    connection.enqueue_packet(vec![2; 65_536]);
+    assert!(savepoint::save(&connection, &reader, &ids).is_ok());
+    connection.enqueue_packet(vec![2; 65_537]);
+    let error = savepoint::save(&connection, &reader, &ids).unwrap_err();
+    assert_eq!(error, SaveError::LongPacket);
+    assert_eq!(
+        error.to_string(),
+        "Bytes of a long packet are kept beside the engine, and can't be saved"
+    );
+    assert_eq!(connection.poll_for_events().len(), 2);
+    assert!(savepoint::save(&connection, &reader, &ids).is_ok());
 }

@@ -137,8 +137,8 @@ void prepare_check(void) {
     report_outcome(answer, *sync);
 }
 
-typedef uint32_t poll(uint64_t *, size_t, const uint8_t *, size_t, uint8_t *, size_t, uint32_t *, size_t, uint64_t,
-                      uint8_t *, size_t, uint8_t *, size_t *);
+typedef enum xm_refusal poll(uint64_t *, size_t, const uint8_t *, size_t, uint8_t *, size_t, uint32_t *, size_t,
+                             uint64_t, uint8_t *, size_t, uint8_t *, size_t *);
 
 static void poll_by(poll *call) {
     bool sound = lend_some(W_STATE | W_STORE | W_SLOTS);

@@ -1,4 +1,4 @@
-/* Every export of the header: its call, how often it is called, and the refusals that it lists. */
+/* Every export of the header that is given something: its call, how often it is called, and the refusals that it lists. */
 #include "calls.h"
 #include "report.h"
 #include "source.h"

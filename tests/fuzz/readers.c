@@ -106,9 +106,9 @@ void reader_home(const struct part *p) {
 
 /* ---- the calls that both have ---- */
 
-typedef uint32_t new_call(uint64_t *, size_t, uint8_t, const uint8_t *, size_t);
-typedef uint32_t capacity_call(const uint64_t *, size_t, const uint8_t *, size_t, size_t *);
-typedef uint32_t place_call(const uint64_t *, size_t, const uint8_t *, size_t, size_t *, size_t *);
+typedef enum xm_refusal new_call(uint64_t *, size_t, uint8_t, const uint8_t *, size_t);
+typedef enum xm_refusal capacity_call(const uint64_t *, size_t, const uint8_t *, size_t, size_t *);
+typedef enum xm_refusal place_call(const uint64_t *, size_t, const uint8_t *, size_t, size_t *, size_t *);
 
 static void new_by(struct kind *kind, new_call *call) {
     size_t sizes[] = {0, kind->least - 1, kind->least, 36, 48, 64, 100, 100, 200, 200, 600};

@@ -2,7 +2,9 @@
 // and, for the second, taken in.
 //
 // How many packets there are stands before them in the answer: their text is put so far behind what
-// waits that the words before it fit in between, and is moved up to them at the end.
+// waits that the words before it fit in between, and is moved up to them at the end. An answer begins
+// with room for both (`text::begin`): a line has 65,536 bytes at most, and one less may be in the
+// reader.
 use crate::Done;
 use leaves::Buffered;
 use leaves::Fed;
@@ -13,10 +15,6 @@ use script::Op;
 
 // More than the words before the packets take.
 const WORDS: usize = 128;
-
-// More than the packets of a line take: a line has 65,536 bytes at most, and one less may be in the
-// reader.
-const PACKETS: usize = 270336;
 
 // Connection and reader after some bytes; where the next byte is; how many packets came, where
 // their text ends, and the number of the refusal that stopped it, or 0.
@@ -37,14 +35,13 @@ pub(crate) fn line(
     slots: &mut [u32],
     bytes: &mut [u8],
 ) -> Done {
-    let waiting = text::ready(bytes, start.waiting, WORDS + PACKETS);
-    let first = fresh(start, op.a as usize, waiting);
+    let first = fresh(start, op.a as usize);
     let take = op.code == script::FEEDIN;
     let shown = all(first, op.b as usize, take, requests, store, slots, bytes);
-    told(shown, waiting, bytes)
+    told(shown, start.waiting, bytes)
 }
 
-fn fresh(start: Done, from: usize, waiting: usize) -> Shown {
+fn fresh(start: Done, from: usize) -> Shown {
     let c = start.connection;
     let reader = start.reader;
     Shown {
@@ -52,7 +49,7 @@ fn fresh(start: Done, from: usize, waiting: usize) -> Shown {
         reader: reader,
         at: from,
         count: 0,
-        text: text::behind(waiting, WORDS),
+        text: text::behind(start.waiting, WORDS),
         stop: 0,
     }
 }

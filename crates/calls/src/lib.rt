@@ -8,6 +8,7 @@ mod many;
 mod polls;
 mod saves;
 mod sends;
+mod states;
 
 use leaves::Buffered;
 use model::Closed;
@@ -16,7 +17,7 @@ pub use saves::Point;
 pub use saves::restore;
 pub use saves::save;
 use script::Op;
-use shown::Told;
+pub use states::state;
 use text::Answer;
 
 // What a call answers: the connection to go on with, and what is written.
@@ -96,32 +97,9 @@ fn carried(
         script::POLL_REPLY_OR_ERROR => {
             return polls::reply_or_error(start, op.a, requests, store, slots, bytes);
         }
-        script::STATE => {
-            return told(start, requests, store, slots, bytes);
-        }
         _ => {
             return single(start, op, requests, store, slots, bytes);
         }
-    }
-}
-
-fn told(start: Done, requests: &[u8], store: &[u8], slots: &[u32], bytes: &mut [u8]) -> Done {
-    let c = start.connection;
-    let mut done = start;
-    done.waiting = shown::line(state_of(c), requests, store, slots, bytes, start.waiting);
-    done
-}
-
-fn state_of(c: Connection) -> Told {
-    let window = c.window;
-    let counts = c.counts;
-    Told {
-        written: c.written,
-        expected: c.expected,
-        read: c.read,
-        first: c.first,
-        window: window,
-        counts: counts,
     }
 }
 

@@ -109,7 +109,7 @@ fn join(
 fn count_of(read: Bytes) -> usize {
     match read {
         Bytes::End(count) => count,
-        Bytes::Bad => 0,
+        Bytes::Bad(_) => 0,
     }
 }
 

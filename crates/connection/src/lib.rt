@@ -52,8 +52,8 @@ pub fn new(order: u8, requests: &[u8], store: &[u8], slots: &[u32]) -> Next
     Next::State(c)
 }
 
-// A request was written. Answers its number; refused by 9, 3 at the end of the numbers, 6 where a
-// request with a reply must be sent first, 5 where the request room is full.
+// A request is about to be written. Answers its number; refused by 9, 3 at the end of the numbers, 6
+// where a request with a reply must be sent first, 5 where the request room is full.
 pub fn send_request(
     c: Connection,
     requests: &mut [u8],
@@ -69,8 +69,8 @@ pub fn send_request(
     sending::send_request(c, requests, kind)
 }
 
-// Requests were written, one for each byte: 0 without a reply, 1 with one, 2 with one that has
-// descriptors. Does as `send_request` for one after the other, up to the first that is refused or
+// Requests are about to be written, one for each byte: 0 without a reply, 1 with one, 2 with one that
+// has descriptors. Does as `send_request` for one after the other, up to the first that is refused or
 // to another byte, behind one test. Refused by 9 alone.
 pub fn send_requests(
     c: Connection,

@@ -2,12 +2,14 @@
 // run, of the Rust, of a restored client, of last week's build.
 //
 // The language is in docs/REPLAY.md. Scripts may be of any length; memory stays as it is.
+mod checks;
 mod run;
 
 ghost use mathlib.Core.Path.{_≡_};
 ghost use lib.ListN.{length};
 use model::Next;
 use run::State;
+use script::Input;
 
 // The packet store; and the packets handed out, the buffers of reader and handshake, a savepoint, the
 // input, and the text that is not written yet.
@@ -61,12 +63,41 @@ fn lines(fresh: State, requests: &mut [u8], store: &mut [u8], slots: &mut [u32],
     let mut turns = u64::MAX;
     while turns > 0 {
         turns -= 1;
-        place = script::next(place, bytes);
-        if !place.more {
-            end(state, place.number, bytes);
+        place = next(state, place, bytes);
+        if is_over(place, bytes) {
+            finish(state, place, bytes);
             return;
         }
         state = run::line(state, place, requests, store, slots, bytes);
+    }
+}
+
+// The next line, if the run goes on.
+fn next(state: State, place: Input, bytes: &mut [u8]) -> Input {
+    let checks = state.checks;
+    if checks.over {
+        return script::stop(place);
+    }
+    script::next(place, state.waiting, bytes)
+}
+
+// Behind a write that failed nothing is run.
+fn is_over(place: Input, bytes: &[u8]) -> bool {
+    if text::failed(bytes) {
+        return true;
+    }
+    !place.more
+}
+
+// A run that was cut short has no last line.
+fn finish(state: State, place: Input, bytes: &mut [u8]) {
+    if place.failed {
+        text::complain(b"replay: the input could not be read\n");
+        return;
+    }
+    end(state, place.number, bytes);
+    if text::failed(bytes) {
+        text::complain(b"replay: the output could not be written\n");
     }
 }
 
@@ -74,8 +105,9 @@ fn lines(fresh: State, requests: &mut [u8], store: &mut [u8], slots: &mut [u32],
 fn end(state: State, number: u64, bytes: &mut [u8]) {
     let a = text::counted(bytes, state.waiting, b"end ", before(number));
     let b = text::counted(bytes, a, b" ", state.ops);
-    let c = text::word(bytes, b, b"\n");
-    text::flush(bytes, c);
+    let c = checks::total(state.checks, b, bytes);
+    let d = text::word(bytes, c, b"\n");
+    text::flush(bytes, d);
 }
 
 fn before(n: u64) -> u64 {

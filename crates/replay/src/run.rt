@@ -1,4 +1,6 @@
 // A line of a script, carried out and answered.
+use super::checks;
+use super::checks::Checks;
 use calls::Done;
 use calls::Point;
 use leaves::Buffered;
@@ -10,12 +12,14 @@ use saving::Client;
 use script::Input;
 use script::Op;
 
-// What a script works on; where the text ends that waits; and how many commands there were.
+// What a script works on; where the text ends that waits; how many commands there were; and what is
+// expected of them.
 pub struct State {
     pub connection: Connection,
     pub leaves: Leaves,
     pub waiting: usize,
     pub ops: u64,
+    pub checks: Checks,
 }
 
 pub(crate) fn fresh(c: Connection) -> State {
@@ -24,6 +28,7 @@ pub(crate) fn fresh(c: Connection) -> State {
         leaves: leaves::fresh(octets::LITTLE),
         waiting: text::START,
         ops: 0,
+        checks: checks::fresh(),
     }
 }
 
@@ -35,56 +40,38 @@ pub(crate) fn line(
     slots: &mut [u32],
     bytes: &mut [u8],
 ) -> State {
-    if place.lost {
-        return lost(state, place, bytes);
-    }
-    let begun = begin(state.waiting, place, bytes);
-    let op = begun.op;
+    let op = script::parse(place, bytes);
     let code = op.code;
     match code {
         script::NOTHING => {
             return state;
         }
-        script::BAD => {
-            return bad(state, place.number, bytes);
-        }
-        script::NEW => {
-            return opened(state, place.number, op, requests, store, slots, bytes);
+        script::EXPECT => {
+            return expected(state, op, place.number, bytes);
         }
         _ => {
-            let next = at(state, begun.waiting);
-            return command(next, op, requests, store, slots, bytes);
+            return carried(state, place, op, requests, store, slots, bytes);
         }
     }
 }
 
-// What a line says, and where the text ends with its first word.
-pub struct Begun {
-    pub op: Op,
-    pub waiting: usize,
+fn carried(
+    state: State,
+    place: Input,
+    op: Op,
+    requests: &mut [u8],
+    store: &mut [u8],
+    slots: &mut [u32],
+    bytes: &mut [u8],
+) -> State {
+    let next = begun(state, bytes);
+    let done = command(next, place, op, requests, store, slots, bytes);
+    ended(done, bytes)
 }
 
-fn begin(waiting: usize, place: Input, bytes: &mut [u8]) -> Begun {
-    let op = script::parse(bytes, place.from, place.end);
-    if !is_named(op.code) {
-        return Begun {
-            op: op,
-            waiting: waiting,
-        };
-    }
-    let end = script::name_end(bytes, place.from, place.end);
-    Begun {
-        op: op,
-        waiting: text::copy(bytes, waiting, place.from, end),
-    }
-}
-
-// Whether the answer begins with the name whatever it is.
-fn is_named(code: u8) -> bool {
-    match code {
-        script::NOTHING | script::BAD | script::NEW => false,
-        _ => true,
-    }
+// An answer begins.
+fn begun(state: State, bytes: &mut [u8]) -> State {
+    at(state, text::begin(bytes, state.waiting))
 }
 
 fn at(state: State, waiting: usize) -> State {
@@ -93,27 +80,85 @@ fn at(state: State, waiting: usize) -> State {
     next
 }
 
-// A command more, answered up to an index: the end of its line.
-fn ended(state: State, waiting: usize, bytes: &mut [u8]) -> State {
+// A command more, which is answered: the end of its line.
+fn ended(state: State, bytes: &mut [u8]) -> State {
+    counted(state, text::close(bytes, state.waiting))
+}
+
+fn counted(state: State, waiting: usize) -> State {
     let mut next = state;
-    next.waiting = text::word(bytes, waiting, b"\n");
+    next.waiting = waiting;
     next.ops = text::up(state.ops);
     next
 }
 
-// ---- lines that cannot be read
-
-// A line that is too long, unless it is a remark.
-fn lost(state: State, place: Input, bytes: &mut [u8]) -> State {
-    if place.remark {
-        return state;
+fn command(
+    state: State,
+    place: Input,
+    op: Op,
+    requests: &mut [u8],
+    store: &mut [u8],
+    slots: &mut [u32],
+    bytes: &mut [u8],
+) -> State {
+    let code = op.code;
+    match code {
+        script::BAD => {
+            return bad(state, place.number, op.a, bytes);
+        }
+        script::NEW => {
+            return opened(state, place.number, op, requests, store, slots, bytes);
+        }
+        script::STOP => {
+            return stopping(state, bytes);
+        }
+        _ => {
+            let next = named(state, place, bytes);
+            return call(next, op, requests, store, slots, bytes);
+        }
     }
-    bad(state, place.number, bytes)
 }
 
-fn bad(state: State, number: u64, bytes: &mut [u8]) -> State {
+// The name of the command.
+fn named(state: State, place: Input, bytes: &mut [u8]) -> State {
+    let end = script::name_end(bytes, place.from, place.end);
+    at(state, text::copy(bytes, state.waiting, place.from, end))
+}
+
+// ---- lines that cannot be read
+
+fn bad(state: State, number: u64, word: u64, bytes: &mut [u8]) -> State {
     let a = text::counted(bytes, state.waiting, b"bad line ", number);
-    ended(state, a, bytes)
+    at(state, which(word, a, bytes))
+}
+
+fn which(word: u64, waiting: usize, bytes: &mut [u8]) -> usize {
+    if word == 0 {
+        return text::word(bytes, waiting, b" long");
+    }
+    text::counted(bytes, waiting, b" word ", word)
+}
+
+// ---- `expect` and `stop`
+
+fn expected(state: State, op: Op, number: u64, bytes: &mut [u8]) -> State {
+    let verdict = checks::judge(op.a as usize, op.b as usize, bytes);
+    let waiting = checks::write(verdict, number, state.waiting, bytes);
+    let checks = checks::counted(state.checks, verdict);
+    counted(with_checks(state, checks), waiting)
+}
+
+fn with_checks(state: State, checks: Checks) -> State {
+    let mut next = state;
+    next.checks = checks;
+    next
+}
+
+fn stopping(state: State, bytes: &mut [u8]) -> State {
+    let mut checks = state.checks;
+    checks.stop = true;
+    let a = text::word(bytes, state.waiting, b"stop ok");
+    at(with_checks(state, checks), a)
 }
 
 // ---- `new`
@@ -132,7 +177,7 @@ fn opened(
     let s = op.b as usize;
     if store.len() < s {
         if s <= held::MOST_STORE {
-            return bad(state, number, bytes);
+            return bad(state, number, 3, bytes);
         }
     }
     answered(state, open(op, requests, store, slots), bytes)
@@ -142,7 +187,7 @@ fn answered(state: State, answer: Next, bytes: &mut [u8]) -> State {
     match answer {
         Next::State(c) => {
             let a = text::word(bytes, state.waiting, b"new ok");
-            return ended(with(state, c), a, bytes);
+            return at(with(state, c), a);
         }
         Next::Refused(refusal) => {
             let a = text::counted(
@@ -151,7 +196,7 @@ fn answered(state: State, answer: Next, bytes: &mut [u8]) -> State {
                 b"new refused ",
                 refusal.number() as u64,
             );
-            return ended(state, a, bytes);
+            return at(state, a);
         }
     }
 }
@@ -175,9 +220,9 @@ fn open(op: Op, requests: &[u8], store: &[u8], slots: &[u32]) -> Next {
     connection::new((op.c % 256) as u8, &requests[..k], &store[..s], slots)
 }
 
-// ---- the other commands: the answer behind the name, and the end of the line
+// ---- the other commands: the answer behind the name
 
-fn command(
+fn call(
     state: State,
     op: Op,
     requests: &mut [u8],
@@ -190,17 +235,20 @@ fn command(
         return leafed(state, op, bytes);
     }
     match code {
+        script::STATE => {
+            return at(state, shown(state, op, requests, store, slots, bytes));
+        }
         script::SAVE => {
             let next = calls::save(point(state), requests, store, slots, bytes);
-            return pointed(state, next, bytes);
+            return pointed(state, next);
         }
         script::RESTORE => {
             let next = calls::restore(point(state), op, requests, store, slots, bytes);
-            return pointed(state, next, bytes);
+            return pointed(state, next);
         }
         _ => {
             let done = calls::line(started(state), op, requests, store, slots, bytes);
-            return finished(state, done, bytes);
+            return finished(state, done);
         }
     }
 }
@@ -210,7 +258,7 @@ fn leafed(state: State, op: Op, bytes: &mut [u8]) -> State {
     let turned = leaves::make(leaves, op, state.connection.order, bytes);
     let answer = turned.answer;
     let a = text::tell(bytes, state.waiting, answer);
-    ended(turned_to(state, turned), a, bytes)
+    at(turned_to(state, turned), a)
 }
 
 fn turned_to(state: State, turned: leaves::Turned) -> State {
@@ -218,6 +266,19 @@ fn turned_to(state: State, turned: leaves::Turned) -> State {
     let leaves = turned.leaves;
     next.leaves = leaves;
     next
+}
+
+fn shown(
+    state: State,
+    op: Op,
+    requests: &[u8],
+    store: &[u8],
+    slots: &[u32],
+    bytes: &mut [u8],
+) -> usize {
+    let c = state.connection;
+    let leaves = state.leaves;
+    calls::state(c, leaves, op, requests, store, slots, bytes, state.waiting)
 }
 
 // What a command of the connection works on.
@@ -228,11 +289,7 @@ fn started(state: State) -> Done {
     calls::left(c, reader, state.waiting)
 }
 
-fn finished(state: State, done: Done, bytes: &mut [u8]) -> State {
-    ended(done_to(state, done), done.waiting, bytes)
-}
-
-fn done_to(state: State, done: Done) -> State {
+fn finished(state: State, done: Done) -> State {
     let c = done.connection;
     let reader = done.reader;
     let mut leaves = state.leaves;
@@ -240,6 +297,7 @@ fn done_to(state: State, done: Done) -> State {
     let mut next = state;
     next.connection = c;
     next.leaves = leaves;
+    next.waiting = done.waiting;
     next
 }
 
@@ -262,11 +320,7 @@ fn point(state: State) -> Point {
     }
 }
 
-fn pointed(state: State, point: Point, bytes: &mut [u8]) -> State {
-    ended(point_to(state, point), point.waiting, bytes)
-}
-
-fn point_to(state: State, point: Point) -> State {
+fn pointed(state: State, point: Point) -> State {
     let client = point.client;
     let c = client.connection;
     let reader = client.reader;
@@ -281,5 +335,6 @@ fn point_to(state: State, point: Point) -> State {
     let mut next = state;
     next.connection = c;
     next.leaves = leaves;
+    next.waiting = point.waiting;
     next
 }

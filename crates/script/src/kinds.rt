@@ -9,10 +9,10 @@ pub(crate) const NONE: u8 = 3;
 // read some may be gone.
 pub(crate) fn read(input: &mut [u8], start: usize, end: usize) -> Bytes {
     if input.len() < end {
-        return Bytes::Bad;
+        return Bytes::Bad(2);
     }
     if end < start {
-        return Bytes::Bad;
+        return Bytes::Bad(2);
     }
     behind(start, end, all(&mut input[start..end]))
 }
@@ -21,7 +21,7 @@ pub(crate) fn read(input: &mut [u8], start: usize, end: usize) -> Bytes {
 fn behind(start: usize, end: usize, bytes: Bytes) -> Bytes {
     match bytes {
         Bytes::End(n) => Bytes::End(words::after(start, n, end)),
-        Bytes::Bad => Bytes::Bad,
+        Bytes::Bad(word) => Bytes::Bad(word),
     }
 }
 
@@ -32,7 +32,7 @@ fn all(rest: &mut [u8]) -> Bytes {
         let end = words::end(rest, start);
         let byte = byte_at(rest, start, end);
         if byte == NONE {
-            return Bytes::Bad;
+            return Bytes::Bad(text::behind(count, 2) as u64);
         }
         count = put(rest, count, byte);
         start = end + 1;

@@ -14,11 +14,13 @@ pub use input::INPUT;
 pub use input::Input;
 pub use input::next;
 pub use input::start;
+pub use input::stop;
 pub use line::fds;
 pub use names::ADVANCE;
 pub use names::BAD;
 pub use names::DISCARD;
 pub use names::DRAIN;
+pub use names::EXPECT;
 pub use names::FDS;
 pub use names::FEED;
 pub use names::FEEDALL;
@@ -44,9 +46,11 @@ pub use names::SEND;
 pub use names::SENDALL;
 pub use names::SENDMANY;
 pub use names::STATE;
+pub use names::STOP;
 pub use names::is_leaf;
 pub use number::Bytes;
 pub use words::name_end;
+pub use words::same;
 
 // What a line says: the number of a command, and up to three more. Bytes, and words that are read
 // where they are used, stand in the input from index a to b; kinds of requests are 0, 1 and 2 for
@@ -67,27 +71,48 @@ pub(crate) fn make(code: u8, a: u64, b: u64, c: u64) -> Op {
     }
 }
 
-pub(crate) fn bad() -> Op {
-    make(BAD, 0, 0, 0)
+// Which word can't be read: the name is the first. 0 stands for a line that is too long.
+pub(crate) fn bad(word: u64) -> Op {
+    make(BAD, word, 0, 0)
 }
 
-// What the line says that stands in the input from one index to another.
-pub fn parse(input: &mut [u8], from: usize, end: usize) -> Op {
+// What a line says.
+pub fn parse(place: Input, input: &mut [u8]) -> Op {
+    if place.lost {
+        return lost(place.remark);
+    }
+    let from = place.from;
+    let end = place.end;
     let named = names::read(text::cut(input, from, end));
     let code = named.code;
+    if is_long(code, from, end) {
+        return bad(0);
+    }
+    if code == BAD {
+        return bad(1);
+    }
     if named.alone {
         return line::bare(code);
     }
-    if is_long(code, from, end) {
-        return bad();
-    }
     let start = words::after(from, named.at, end);
+    rest(code, input, start, end)
+}
+
+// A line that is too long to be kept is bad, unless it is a remark.
+fn lost(remark: bool) -> Op {
+    if remark {
+        make(NOTHING, 0, 0, 0)
+    } else {
+        bad(0)
+    }
+}
+
+// What stands behind the name.
+fn rest(code: u8, input: &mut [u8], start: usize, end: usize) -> Op {
     match names::rest_of(code) {
         names::DIGITS => {
-            return made(code, start, number::unhex_short(input, start, end));
-        }
-        names::SAVEPOINT => {
-            return made(code, start, number::unhex(input, start, end));
+            let most = number::most_digits(code == RESTORE);
+            return made(code, start, number::digits(input, start, end, most));
         }
         names::KINDS => {
             return made(code, start, kinds::read(input, start, end));
@@ -96,24 +121,38 @@ pub fn parse(input: &mut [u8], from: usize, end: usize) -> Op {
             return line::listed(input, start, end);
         }
         names::NUMBER => {
-            return line::numbered(code, number::read(text::cut(input, start, end)));
+            return line::numbered(code, text::cut(input, start, end));
         }
         names::WORDS => {
             return line::read(code, text::cut(input, start, end));
         }
+        names::FULL => {
+            return line::full(code, text::cut(input, start, end));
+        }
+        names::LINE => {
+            return make(code, start as u64, end as u64, 0);
+        }
         _ => {
-            return bad();
+            return bad(2);
         }
     }
 }
 
-// The most bytes of a line, newline included, that has no savepoint.
+// The most bytes of a line, newline included, of any other command.
 const LINE: usize = 132096;
 
 fn is_long(code: u8, from: usize, end: usize) -> bool {
-    if code == RESTORE {
-        return false;
+    match code {
+        NOTHING | RESTORE | EXPECT => {
+            return false;
+        }
+        _ => {
+            return is_over(from, end);
+        }
     }
+}
+
+fn is_over(from: usize, end: usize) -> bool {
     if end < from {
         return false;
     }
@@ -123,6 +162,6 @@ fn is_long(code: u8, from: usize, end: usize) -> bool {
 fn made(code: u8, start: usize, bytes: Bytes) -> Op {
     match bytes {
         Bytes::End(last) => make(code, start as u64, last as u64, 0),
-        Bytes::Bad => bad(),
+        Bytes::Bad(word) => bad(word),
     }
 }

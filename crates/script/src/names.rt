@@ -1,77 +1,80 @@
 // The names of the commands.
 use super::words;
 
-// A command's number is its place among the names.
-pub const SEND: u8 = 0;
+// A command's number is its place among the names, the shorter ones first.
+pub const FDS: u8 = 0;
 
-pub const INTAKE: u8 = 1;
+pub const NEW: u8 = 1;
 
-pub const POLL_EVENT: u8 = 2;
+pub const IDS: u8 = 2;
 
-pub const POLL_REPLY: u8 = 3;
+pub const GEN: u8 = 3;
 
-pub const POLL_CHECK: u8 = 4;
+pub const SEND: u8 = 4;
 
-pub const POLL_REPLY_OR_ERROR: u8 = 5;
+pub const FEED: u8 = 5;
 
-pub const PREPARE: u8 = 6;
+pub const SAVE: u8 = 6;
 
-pub const FDS: u8 = 7;
+pub const ROOM: u8 = 7;
 
-pub const DISCARD: u8 = 8;
+pub const FILL: u8 = 8;
 
-pub const SENDALL: u8 = 9;
+pub const STOP: u8 = 9;
 
-pub const FEEDALL: u8 = 10;
+pub const STATE: u8 = 10;
 
-pub const FEED: u8 = 11;
+pub const DRAIN: u8 = 11;
 
-pub const FEEDIN: u8 = 12;
+pub const HELLO: u8 = 12;
 
-pub const DRAIN: u8 = 13;
+pub const HFILL: u8 = 13;
 
-pub const STATE: u8 = 14;
+pub const RANGE: u8 = 14;
 
-pub const NEW: u8 = 15;
+pub const INTAKE: u8 = 15;
 
-pub const SAVE: u8 = 16;
+pub const FEEDIN: u8 = 16;
 
-pub const RESTORE: u8 = 17;
+pub const READER: u8 = 17;
 
-// From here on the commands of the reader, the handshake and the ids.
-pub const READER: u8 = 18;
+pub const EXPECT: u8 = 18;
 
-pub const ROOM: u8 = 19;
+pub const PREPARE: u8 = 19;
 
-pub const FILL: u8 = 20;
+pub const DISCARD: u8 = 20;
 
-pub const ADVANCE: u8 = 21;
+pub const SENDALL: u8 = 21;
 
-pub const HELLO: u8 = 22;
+pub const FEEDALL: u8 = 22;
 
-pub const HFILL: u8 = 23;
+pub const RESTORE: u8 = 23;
 
-pub const HADVANCE: u8 = 24;
+pub const ADVANCE: u8 = 24;
 
-pub const IDS: u8 = 25;
+pub const HADVANCE: u8 = 25;
 
-pub const GEN: u8 = 26;
+pub const POLL_EVENT: u8 = 26;
 
-pub const RANGE: u8 = 27;
+pub const POLL_REPLY: u8 = 27;
+
+pub const POLL_CHECK: u8 = 28;
+
+pub const POLL_REPLY_OR_ERROR: u8 = 29;
 
 // A line that cannot be read; an empty line or a remark; and `send` with a count.
-pub const BAD: u8 = 28;
+pub const BAD: u8 = 30;
 
-pub const NOTHING: u8 = 29;
+pub const NOTHING: u8 = 31;
 
-pub const SENDMANY: u8 = 30;
+pub const SENDMANY: u8 = 32;
 
 // Whether it is one of the reader, the handshake and the ids.
 pub fn is_leaf(code: u8) -> bool {
-    if code < READER {
-        return false;
+    match code {
+        READER | ROOM | FILL | ADVANCE | HELLO | HFILL | HADVANCE | IDS | GEN | RANGE => true,
+        _ => false,
     }
-    code <= RANGE
 }
 
 // A line's command, whether its name is all of the line, and where the rest starts.
@@ -106,15 +109,56 @@ fn is_nothing(line: &[u8]) -> bool {
 }
 
 fn of(name: &[u8]) -> u8 {
-    words::find(
-        b"send intake poll_event poll_reply poll_check poll_reply_or_error prepare fds discard sendall feedall feed feedin drain state new save restore reader room fill advance hello hfill hadvance ids gen range",
-        name,
-        BAD,
-    )
+    match name.len() {
+        3 => {
+            return among(b"fds new ids gen", name, FDS);
+        }
+        4 => {
+            return among(b"send feed save room fill stop", name, SEND);
+        }
+        5 => {
+            return among(b"state drain hello hfill range", name, STATE);
+        }
+        6 => {
+            return among(b"intake feedin reader expect", name, INTAKE);
+        }
+        7 => {
+            return among(
+                b"prepare discard sendall feedall restore advance",
+                name,
+                PREPARE,
+            );
+        }
+        8 => {
+            return among(b"hadvance", name, HADVANCE);
+        }
+        10 => {
+            return among(b"poll_event poll_reply poll_check", name, POLL_EVENT);
+        }
+        19 => {
+            return among(b"poll_reply_or_error", name, POLL_REPLY_OR_ERROR);
+        }
+        _ => {
+            return BAD;
+        }
+    }
+}
+
+// The number of a name in a row whose first has a number.
+fn among(row: &[u8], name: &[u8], first: u8) -> u8 {
+    let place = words::find(row, name, BAD);
+    if BAD < first {
+        return BAD;
+    }
+    if place < BAD - first {
+        return first + place;
+    }
+    BAD
 }
 
 // How what stands behind a name is read: as hex digits, as kinds of requests, as descriptors, as a
-// number, or as words of several kinds; there is nothing; or it is a savepoint in hex digits.
+// number, or as words of several kinds; there is nothing; it is a line of any bytes; or the word
+// `full`, or nothing.
 pub(crate) const DIGITS: u8 = 0;
 
 pub(crate) const KINDS: u8 = 1;
@@ -127,16 +171,19 @@ pub(crate) const WORDS: u8 = 4;
 
 pub(crate) const EMPTY: u8 = 5;
 
-pub(crate) const SAVEPOINT: u8 = 6;
+pub(crate) const LINE: u8 = 6;
+
+pub(crate) const FULL: u8 = 7;
 
 pub(crate) fn rest_of(code: u8) -> u8 {
     match code {
-        INTAKE | FILL | FEED | FEEDIN | HFILL | FEEDALL => DIGITS,
+        INTAKE | FILL | FEED | FEEDIN | HFILL | FEEDALL | RESTORE => DIGITS,
         SENDALL => KINDS,
         FDS => LIST,
         POLL_REPLY | POLL_CHECK | POLL_REPLY_OR_ERROR | PREPARE | ADVANCE | HADVANCE => NUMBER,
         SEND | DISCARD | NEW | IDS | RANGE => WORDS,
-        RESTORE => SAVEPOINT,
+        STATE => FULL,
+        EXPECT => LINE,
         _ => EMPTY,
     }
 }

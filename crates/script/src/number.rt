@@ -2,20 +2,20 @@
 ghost use Prim.Native.Nat.{_≤_, _<_};
 ghost use lib.ListN.{length};
 
-// The most digits that bytes may have, and those of anything but a savepoint.
-const MOST_DIGITS: usize = 1572864;
-
-const SHORT_DIGITS: usize = 131072;
+// The most digits of a savepoint, or of other bytes.
+pub(crate) fn most_digits(savepoint: bool) -> usize {
+    if savepoint { 1572864 } else { 131072 }
+}
 
 pub enum Number {
     Value(u64),
     Bad,
 }
 
+// Where the bytes of a line end, or which of its words can't be read.
 pub enum Bytes {
-    // Where they end.
     End(usize),
-    Bad,
+    Bad(u64),
 }
 
 // A number in decimal digits, or behind 0x in hex.
@@ -31,6 +31,25 @@ pub(crate) fn read(word: &[u8]) -> Number {
         }
     }
     decimal(word)
+}
+
+// One that is at most another.
+pub(crate) fn up_to(most: u64, word: &[u8]) -> Number {
+    within(most, read(word))
+}
+
+fn within(most: u64, number: Number) -> Number {
+    match number {
+        Number::Value(n) => {
+            if most < n {
+                return Number::Bad;
+            }
+            return Number::Value(n);
+        }
+        Number::Bad => {
+            return Number::Bad;
+        }
+    }
 }
 
 fn decimal(word: &[u8]) -> Number {
@@ -98,48 +117,59 @@ fn digit(c: u8) -> u8 {
     16
 }
 
-// An even number of lower-case hex digits from one index to another: their bytes go to the start of
-// the digits. Where they can't be read some may be gone.
-pub(crate) fn unhex(input: &mut [u8], start: usize, end: usize) -> Bytes {
-    if input.len() < end {
-        return Bytes::Bad;
+// The last word of a line, which stands from one index to another: an even number of lower-case hex
+// digits, at most so many. Their bytes go to its start; where it can't be read some may be gone.
+pub(crate) fn digits(input: &mut [u8], start: usize, end: usize, most: usize) -> Bytes {
+    let taken = unhex(input, start, end);
+    let at = taken.at;
+    if text::behind(start, most) < at {
+        return Bytes::Bad(2);
     }
-    if end < start {
-        return Bytes::Bad;
+    if at == end {
+        return Bytes::End(taken.to);
     }
-    if MOST_DIGITS < end - start {
-        return Bytes::Bad;
+    if is_blank(input, at) {
+        return Bytes::Bad(3);
     }
+    Bytes::Bad(2)
+}
+
+fn is_blank(input: &[u8], at: usize) -> bool {
+    if input.len() <= at {
+        return false;
+    }
+    input[at] == b' '
+}
+
+// Up to where there are pairs of digits, and where their bytes end.
+struct Taken {
+    at: usize,
+    to: usize,
+}
+
+fn unhex(input: &mut [u8], start: usize, end: usize) -> Taken {
     let mut to = start;
     let mut at = start;
+    if input.len() < end {
+        return Taken { at: at, to: to };
+    }
     while at < end {
         if end - at < 2 {
-            return Bytes::Bad;
+            return Taken { at: at, to: to };
         }
         let high = digit(input[at]);
         let low = digit(input[at + 1]);
         if 15 < high {
-            return Bytes::Bad;
+            return Taken { at: at, to: to };
         }
         if 15 < low {
-            return Bytes::Bad;
+            return Taken { at: at, to: to };
         }
         put(input, to, high * 16 + low);
         to += 1;
         at += 2;
     }
-    Bytes::End(to)
-}
-
-// The same for anything but a savepoint.
-pub(crate) fn unhex_short(input: &mut [u8], start: usize, end: usize) -> Bytes {
-    if end < start {
-        return Bytes::Bad;
-    }
-    if SHORT_DIGITS < end - start {
-        return Bytes::Bad;
-    }
-    unhex(input, start, end)
+    Taken { at: at, to: to }
 }
 
 fn put(input: &mut [u8], at: usize, byte: u8)

@@ -42,7 +42,7 @@ fn next(n: u8) -> u8 {
     if n < u8::MAX { n + 1 } else { n }
 }
 
-pub(crate) fn same(a: &[u8], b: &[u8]) -> bool {
+pub fn same(a: &[u8], b: &[u8]) -> bool {
     if a.len() != b.len() {
         return false;
     }

@@ -1,8 +1,15 @@
-// Inside: a connection's state as text, for `replay`: all that counts as state, in the order of the
-// rooms.
+// Inside: what a script works on as text, for `replay`: all that counts as state. `line` has the
+// connection, in the order of the rooms, and `behind` the rest, behind a bar.
 //
 // Text goes behind what waits in a lent run of bytes, and where it ends then comes back (`text`).
 // Nothing here is promised but that it is safe and ends.
+mod bar;
+mod digest;
+mod packets;
+
+pub use bar::Beside;
+pub use bar::Partial;
+pub use bar::behind;
 use descriptors::Counts;
 use held::Window;
 use requests::Mode;
@@ -114,7 +121,7 @@ fn held_packets(c: Told, store: &[u8], slots: &[u32], out: &mut [u8], waiting: u
 }
 
 // The size of the record at an index, or 0 where there is none before the end.
-fn size(store: &[u8], at: usize, end: usize) -> usize
+pub(crate) fn size(store: &[u8], at: usize, end: usize) -> usize
     ensures { λ r. ⌜ r ≤ end - at ⌝ }
 {
     if store.len() < end {

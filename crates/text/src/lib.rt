@@ -1,12 +1,16 @@
 // Inside: what `replay` writes to standard output, gathered in the run of bytes that it works on.
 //
-// Text stands in the run from an index on, and what is before `waiting` is not written yet: each call
-// puts text behind it and answers where it ends then. Where a text would pass the run's end, what
-// waits is written first, and at the end of a run the caller writes the rest by `flush`. Packets that
-// are shown stand in the same run, somewhere before.
+// Text stands in the run from an index on: each call puts text behind `waiting`, where it ends, and
+// answers where it ends then. How much of it is written is noted in the run (`notes`). Where a text
+// would pass the run's end, what waits is written and the text starts anew; `flush` writes what
+// waits, and the text goes on behind it, so that the last answer still stands there. Behind a write
+// that failed nothing is written. Packets that are shown stand in the same run, somewhere before.
 mod answers;
+mod notes;
 mod run;
 
+ghost use Prim.Native.Nat.{_+_, _*_, _≤_, _<_};
+ghost use lib.ListN.{length};
 pub use answers::ACCEPTED;
 pub use answers::AGAIN;
 pub use answers::Answer;
@@ -32,13 +36,21 @@ pub use answers::say;
 pub use answers::shown;
 pub use answers::tell;
 pub use answers::whether;
+use libc::STDERR_FILENO;
 use libc::STDOUT_FILENO;
+pub use notes::NOTES;
+pub use notes::failed;
+pub use notes::parted;
 pub use run::behind;
 pub use run::cut;
 pub use run::up;
 
 // Where the text begins.
-pub const START: usize = 2753540;
+pub const START: usize = NOTES + 32;
+
+// Free bytes before an answer: more than the longest that is compared and a verdict take, and more
+// than a `feed` with all that its reader can hold, 270,464.
+const FREE: usize = 278528;
 
 pub fn word(out: &mut [u8], waiting: usize, text: &[u8]) -> usize {
     let end = out.len();
@@ -48,20 +60,78 @@ pub fn word(out: &mut [u8], waiting: usize, text: &[u8]) -> usize {
             return waiting + text.len();
         }
     }
+    let next = anew(out, waiting);
+    let went = write(failed(out), text);
+    notes::went(out, went);
+    next
+}
+
+// What waits is written.
+pub fn flush(out: &mut [u8], waiting: usize) {
+    let from = notes::place(out, notes::WRITTEN);
+    let went = write(failed(out), cut(out, from, waiting));
+    notes::went(out, went);
+    notes::put_place(out, notes::WRITTEN, waiting);
+}
+
+fn write(failed: bool, text: &[u8]) -> bool {
+    if failed {
+        return false;
+    }
+    io::write_all(STDOUT_FILENO, text)
+}
+
+// A line to the error output, at once.
+pub fn complain(line: &[u8]) {
+    io::write_all(STDERR_FILENO, line);
+}
+
+// What waits is written, and the text starts anew.
+fn anew(out: &mut [u8], waiting: usize) -> usize {
     flush(out, waiting);
-    io::write_all(STDOUT_FILENO, text);
+    notes::put_place(out, notes::WRITTEN, START);
+    notes::part(out, true);
     START
 }
 
-pub fn flush(out: &[u8], waiting: usize) {
-    if out.len() < waiting {
-        return;
+// An answer begins: it will stand in one piece, unless it is longer than what is free at least.
+pub fn begin(out: &mut [u8], waiting: usize) -> usize {
+    let next = ready(out, waiting, FREE);
+    notes::part(out, false);
+    notes::put_place(out, notes::FROM, next);
+    next
+}
+
+// It ends, and with it its line.
+pub fn close(out: &mut [u8], waiting: usize) -> usize {
+    notes::put_place(out, notes::END, waiting);
+    word(out, waiting, b"\n")
+}
+
+// The last answer, if it stands in one piece.
+pub fn answer<'a>(out: &'a [u8]) -> &'a [u8] {
+    cut(
+        out,
+        notes::place(out, notes::FROM),
+        notes::place(out, notes::END),
+    )
+}
+
+// More than a verdict takes.
+const VERDICT: usize = 64;
+
+// A verdict on the last answer begins: where there is no room behind what waits there is behind the
+// answer.
+pub fn verdict(out: &mut [u8], waiting: usize) -> usize {
+    if waiting <= out.len() {
+        if VERDICT <= out.len() - waiting {
+            return waiting;
+        }
     }
-    let start = START;
-    if waiting < start {
-        return;
-    }
-    io::write_all(STDOUT_FILENO, &out[start..waiting]);
+    flush(out, waiting);
+    let end = notes::place(out, notes::END);
+    notes::put_place(out, notes::WRITTEN, end);
+    end
 }
 
 // A number in decimal digits.
@@ -90,6 +160,41 @@ fn hex(out: &mut [u8], waiting: usize, from: usize, len: usize) -> usize {
     if out.len() - from < len {
         return waiting;
     }
+    if waiting <= out.len() {
+        if len <= (out.len() - waiting) / 2 {
+            return digits(out, waiting, from, len);
+        }
+    }
+    pairs(out, waiting, from, len)
+}
+
+// Where all of them fit behind what waits.
+fn digits(out: &mut [u8], waiting: usize, from: usize, len: usize) -> usize
+    requires { ⌜ from + len ≤ length (now out) ⌝ }
+    requires { ⌜ waiting + 2 * len ≤ length (now out) ⌝ }
+{
+    let mut next = waiting;
+    let mut i = 0;
+    while i < len {
+        let x = out[from + i];
+        put(out, next, digit(x / 16));
+        put(out, next + 1, digit(x % 16));
+        next += 2;
+        i += 1;
+    }
+    next
+}
+
+fn put(out: &mut [u8], at: usize, c: u8)
+    requires { ⌜ at < length (now out) ⌝ }
+{
+    out[at] = c;
+}
+
+// Where some of them do not.
+fn pairs(out: &mut [u8], waiting: usize, from: usize, len: usize) -> usize
+    requires { ⌜ from + len ≤ length (now out) ⌝ }
+{
     let mut next = waiting;
     let mut i = 0;
     while i < len {
@@ -100,7 +205,8 @@ fn hex(out: &mut [u8], waiting: usize, from: usize, len: usize) -> usize {
     next
 }
 
-fn byte(out: &mut [u8], waiting: usize, x: u8) -> usize {
+// A byte as two hex digits.
+pub fn byte(out: &mut [u8], waiting: usize, x: u8) -> usize {
     word(out, waiting, &[digit(x / 16), digit(x % 16)])
 }
 
@@ -138,14 +244,13 @@ fn narrow(out: &mut [u8], waiting: usize, n: u32) -> usize {
 }
 
 // At least n bytes free, where the run has so many: what waits is written if there are fewer.
-pub fn ready(out: &[u8], waiting: usize, n: usize) -> usize {
+pub fn ready(out: &mut [u8], waiting: usize, n: usize) -> usize {
     if waiting <= out.len() {
         if n <= out.len() - waiting {
             return waiting;
         }
     }
-    flush(out, waiting);
-    START
+    anew(out, waiting)
 }
 
 // Text that stands in the run from one index to another, moved up behind what waits.

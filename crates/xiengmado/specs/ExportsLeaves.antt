@@ -2,7 +2,7 @@
 use mathlib.Core.Path.{_≡_, sym, ap, _∙_}
 use mathlib.Core.Bool.{Bool}
 use mathlib.Core.List.{List, [], _∷_}
-use Prim.Native.Nat.{ℕ}
+use Prim.Native.Nat.{ℕ, _+_, _*_}
 use Rattle.octets.specs.Lent.{leaves}
 use Rattle.refusal.specs.Answer.{Answer}
 use Rattle.sequence.specs.Numbering.{FullNumber, inRange, least-one}
@@ -186,3 +186,14 @@ module _ (order : ℕ) (packet : List ℕ) (error sequence value minor major : �
   xm-error-one p q =
       let z = exported-one p q (λ a b x y. x ∙ sym y) in
       (shown-at 0 (z .1), shown-at 1 (z .1), shown-at 2 (z .1), shown-at 3 (z .1), shown-at 4 (z .1), z .0)
+
+-- a version in one number
+abbrev pub versionOf : (major minor patch : ℕ) → ℕ
+versionOf major minor patch = 65536 * major + (256 * minor + patch)
+
+-- `xm_version`: this is 0.1.0
+abbrev pub XmVersion : (r : ℕ) → Type 0
+XmVersion r = r ≡ versionOf 0 1 0
+
+pub xm-version-one : {r₁ r₂ : ℕ} → XmVersion r₁ → XmVersion r₂ → r₁ ≡ r₂
+xm-version-one p q = p ∙ sym q

@@ -20,3 +20,4 @@ mod packets;
 mod reader;
 mod rooms;
 mod savepoints;
+mod version;

@@ -53,13 +53,16 @@ fn row(name: &str, proved: &Path, stream: &[u8]) -> Row {
     )
 }
 
+/// What goes through the pipe.
+type Stream = fn() -> Vec<u8>;
+
 /// The two rows, if the proved program is there.
 pub fn rows(part: &str) -> Vec<Row> {
     let proved = PathBuf::from(concat!(
         env!("CARGO_MANIFEST_DIR"),
         "/../../target/bin/packets"
     ));
-    let kinds: [(&str, fn() -> Vec<u8>); 2] = [
+    let kinds: [(&str, Stream); 2] = [
         ("packets, 100 MB of events", || {
             work::packet(2, 1).repeat(STREAM / 32)
         }),

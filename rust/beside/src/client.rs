@@ -3,7 +3,7 @@
 use std::cell::RefCell;
 use std::panic::{catch_unwind, AssertUnwindSafe};
 
-use xiengmado::engine::{Engine, Place, RECORD_HEADER};
+use xiengmado::engine::{Engine, Halt, Place, Stop, RECORD_HEADER};
 use xiengmado::{ByteOrder, Refusal};
 
 use crate::connection::{self, Connection, PollReply, ReplyFdKind};
@@ -22,13 +22,28 @@ pub struct Met {
     pub panics: u64,
     pub refused: u64,
     pub most_held: usize,
+    pub long: Long,
+}
+
+/// Packets over 65,536 bytes among them.
+#[derive(Default)]
+pub struct Long {
+    pub replies: u64,
+    pub errors: u64,
+    pub events: u64,
+    pub dropped: u64,
+    pub became_events: u64,
+    pub discarded: u64,
+    pub handed_out: u64,
+    pub with_fds: u64,
+    pub gathered: u64,
 }
 
 thread_local! {
     pub static MET: RefCell<Met> = RefCell::default();
 }
 
-fn met(change: impl FnOnce(&mut Met)) {
+pub fn met(change: impl FnOnce(&mut Met)) {
     MET.with(|met| change(&mut met.borrow_mut()));
 }
 
@@ -51,6 +66,34 @@ pub fn report() -> String {
             met.most_held,
         )
     })
+}
+
+/// The same of long packets.
+pub fn report_long() -> String {
+    MET.with(|met| {
+        let long = &met.borrow().long;
+        format!(
+            "packets over 65,536 bytes: replies {}, errors {}, events {}, with descriptors {}, dropped {}, \
+             errors that became events {}, discarded {}, handed out {}, gathered by a reader {}",
+            long.replies,
+            long.errors,
+            long.events,
+            long.with_fds,
+            long.dropped,
+            long.became_events,
+            long.discarded,
+            long.handed_out,
+            long.gathered,
+        )
+    })
+}
+
+/// The most bytes of a packet that the engine takes, and how many it takes of a longer one.
+const MOST: usize = 65_536;
+const HEAD: usize = 32;
+
+fn is_long(packet: &[u8]) -> bool {
+    packet.len() > MOST
 }
 
 /// The two sides of a run, and how many calls they have agreed on.
@@ -89,6 +132,34 @@ fn poll_of(poll: PollReply) -> xiengmado::connection::PollReply {
         PollReply::TryAgain => Ours::TryAgain,
         PollReply::NoReply => Ours::NoReply,
         PollReply::Reply(packet) => Ours::Reply(packet),
+    }
+}
+
+/// A packet was filed.
+fn filed(place: Place, packet: &[u8]) {
+    met(|met| match place {
+        Place::Replies => met.replies += 1,
+        Place::Events => met.events += 1,
+        Place::Dropped => met.dropped += 1,
+    });
+    if is_long(packet) {
+        met(|met| match (place, packet[0]) {
+            (Place::Dropped, _) => met.long.dropped += 1,
+            (_, 0) => met.long.errors += 1,
+            (_, 1) => met.long.replies += 1,
+            _ => met.long.events += 1,
+        });
+    }
+}
+
+/// A packet was handed out.
+fn handed(packet: &[u8]) {
+    met(|met| met.long.handed_out += u64::from(is_long(packet)));
+}
+
+fn polled(poll: &xiengmado::connection::PollReply) {
+    if let xiengmado::connection::PollReply::Reply(packet) = poll {
+        handed(packet);
     }
 }
 
@@ -159,7 +230,7 @@ impl Both {
             let theirs = connection::held(&self.rust, place);
             cost += theirs
                 .iter()
-                .map(|held| RECORD_HEADER + held.1.len())
+                .map(|held| RECORD_HEADER + if is_long(held.1) { HEAD } else { held.1.len() })
                 .sum::<usize>();
             met(|met| met.most_held = met.most_held.max(ours.len()));
             same(what, "held", ours, theirs);
@@ -196,9 +267,22 @@ impl Both {
     }
 
     pub fn discard(&mut self, number: u64, mode: DiscardMode) {
+        let before = self.long();
         self.engine.discard_reply(number, mode_of(mode)).unwrap();
         self.rust.discard_reply(number, mode);
         self.compare("discard_reply");
+        let after = self.long();
+        met(|met| {
+            met.long.became_events += after.1 - before.1;
+            met.long.discarded += before.0 + before.1 - after.0 - after.1;
+        });
+    }
+
+    /// How many long packets are held with the replies, and with the events.
+    fn long(&self) -> (u64, u64) {
+        let long = self.engine.records().filter(|r| is_long(r.packet));
+        let (replies, events): (Vec<_>, Vec<_>) = long.partition(|r| r.place == Place::Replies);
+        (replies.len() as u64, events.len() as u64)
     }
 
     /// Descriptors, where there is room for them.
@@ -214,13 +298,13 @@ impl Both {
 
     /// A packet; false ends the run, since the Rust has panicked where the engine refused by 4.
     pub fn packet(&mut self, packet: &[u8]) -> bool {
-        match self.engine.enqueue_packet(packet) {
-            Ok((place, _)) => {
-                met(|met| match place {
-                    Place::Replies => met.replies += 1,
-                    Place::Events => met.events += 1,
-                    Place::Dropped => met.dropped += 1,
-                });
+        match self.enqueue(packet) {
+            Ok(place) => {
+                filed(place, packet);
+                if is_long(packet) && place == Place::Replies {
+                    let fds = self.engine.records().last().map_or(0, |r| r.fds.len());
+                    met(|met| met.long.with_fds += u64::from(fds > 0));
+                }
                 self.rust.enqueue_packet(packet.to_vec());
             }
             Err(Refusal::NoRoom) => met(|met| met.refused += 1),
@@ -241,10 +325,69 @@ impl Both {
         true
     }
 
+    /// A packet of any length to the engine: where it was filed.
+    fn enqueue(&mut self, packet: &[u8]) -> Result<Place, Refusal> {
+        let answer = self.engine.enqueue_packet(packet);
+        if !is_long(packet) {
+            return Ok(answer?.0);
+        }
+        same(
+            "enqueue_packet",
+            "refusal",
+            answer,
+            Err(Refusal::LongPacket),
+        );
+        match self.engine.enqueue_long_packet(packet.to_vec()) {
+            Ok((place, _)) => Ok(place),
+            Err((refusal, back)) => {
+                assert!(back == packet, "enqueue_long_packet: other bytes come back");
+                Err(refusal)
+            }
+        }
+    }
+
+    /// A row of packets as one run of bytes, up to the first that is refused.
+    pub fn packets(&mut self, packets: &[Vec<u8>]) {
+        let fed = self.engine.enqueue_packets(&packets.concat()).unwrap();
+        let whole = fed.packets == packets.len();
+        same("enqueue_packets", "end", fed.halt == Halt::End, whole);
+        for packet in &packets[..fed.packets] {
+            self.rust.enqueue_packet(packet.clone());
+        }
+        self.compare("enqueue_packets");
+    }
+
+    /// As many events as go into an output of so many bytes.
+    pub fn poll_events(&mut self, room: usize) {
+        let (mut out, mut marks) = (vec![0; room], [0; 16]);
+        let Ok(found) = self.engine.poll_for_events(&mut out, &mut marks) else {
+            let oldest = connection::held(&self.rust, Place::Events)[0].1.len();
+            assert!(oldest > room, "poll_for_events: an event fits");
+            return;
+        };
+        let mut rest = &out[..found.bytes];
+        for mark in marks[..2 * found.count].chunks(2) {
+            let (packet, behind) = rest.split_at(mark[1] as usize);
+            handed(packet);
+            let theirs = self.rust.poll_for_event_with_sequence();
+            same(
+                "poll_for_events",
+                "event",
+                Some((packet.to_vec(), mark[0])),
+                theirs,
+            );
+            rest = behind;
+        }
+        let left = connection::held(&self.rust, Place::Events).len();
+        same("poll_for_events", "end", found.stop == Stop::End, left == 0);
+        self.compare("poll_for_events");
+    }
+
     pub fn poll_reply_or_error(&mut self, sequence: u64) {
         let ours = self.engine.poll_for_reply_or_error(sequence).unwrap();
         let handed_out = ours.as_ref().map_or(0, |(_, fds)| fds.len());
         met(|met| met.handed_out += handed_out as u64);
+        ours.iter().for_each(|(packet, _)| handed(packet));
         let theirs = self
             .rust
             .poll_for_reply_or_error(sequence)
@@ -264,6 +407,7 @@ impl Both {
         self.compare("prepare_check_for_reply_or_error");
         let ours = self.engine.poll_check_for_reply_or_error(sequence).unwrap();
         let theirs = self.rust.poll_check_for_reply_or_error(sequence);
+        polled(&ours);
         same(
             "poll_check_for_reply_or_error",
             "answer",
@@ -274,7 +418,10 @@ impl Both {
     }
 
     pub fn poll_reply(&mut self, sequence: u64) {
+        let before = self.long().1;
         let ours = self.engine.poll_for_reply(sequence).unwrap();
+        polled(&ours);
+        met(|met| met.long.became_events += self.long().1 - before);
         same(
             "poll_for_reply",
             "answer",
@@ -286,6 +433,7 @@ impl Both {
 
     pub fn poll_event(&mut self) {
         let ours = self.engine.poll_for_event_with_sequence().unwrap();
+        ours.iter().for_each(|(packet, _)| handed(packet));
         let theirs = self.rust.poll_for_event_with_sequence();
         same("poll_for_event_with_sequence", "answer", ours, theirs);
         self.compare("poll_for_event_with_sequence");

@@ -5,13 +5,20 @@ use std::panic::{catch_unwind, AssertUnwindSafe};
 use xiengmado::{ByteOrder, Refusal};
 
 use crate::chance::Chance;
-use crate::client::Both;
+use crate::client::{met, Both};
 use crate::connection::ReplyFdKind;
+use crate::sessions::long_size;
 
-/// A packet as a server could send it, whole.
+/// The longest packet that is compared. A greater length that a damaged packet claims the Rust takes in memory.
+const MOST: usize = 500_000;
+
+/// A packet as a server could send it, whole; now and then one over 65,536 bytes.
 fn whole(chance: &mut Chance) -> Vec<u8> {
     let code = chance.pick(&[0, 1, 1, 2, 11, 35, 35, 128, 129, 163, 28]);
-    let units = chance.pick(&[0, 0, 1, 2, 7, 100]);
+    let units = match chance.once(40) {
+        true => (long_size(chance) - 32).div_ceil(4),
+        false => chance.pick(&[0, 0, 1, 2, 7, 100]),
+    };
     let long = code == 1 || code & 0x7f == 35;
     let mut bytes = chance.bytes(if long { 32 + 4 * units } else { 32 });
     bytes[0] = code;
@@ -41,21 +48,38 @@ impl Reader {
     fn compare(&mut self) {
         self.calls += 1;
         let capacity = self.ours.remaining_capacity();
-        assert_eq!(capacity, self.theirs.remaining_capacity(), "capacity");
         assert_eq!(self.ours.buffer().len(), capacity, "buffer");
-        let (read, _) = crate::packet_reader::view(&self.theirs);
-        assert_eq!(self.ours.filled(), read, "bytes read");
+        let (read, wanted) = crate::packet_reader::view(&self.theirs);
+        assert!(self.ours.filled() == read, "bytes read");
+        // The Rust lends all that a packet wants; here a long one is lent in parts.
+        let part = (read.len() + 1).next_power_of_two().max(65_536);
+        assert_eq!(capacity, wanted.min(part) - read.len(), "capacity");
     }
 
-    /// One piece; `Err` where the packet is longer than the buffer: there the run ends.
+    /// One piece; `Err` where the packet is longer than any that is compared: there the run ends.
     fn feed(&mut self, piece: &[u8]) -> Result<Option<Vec<u8>>, Refusal> {
         self.ours.buffer()[..piece.len()].copy_from_slice(piece);
-        let ours = self.ours.try_advance(piece.len())?;
+        let ours = match self.ours.try_advance(piece.len()) {
+            Err(Refusal::LongPacket) if self.wanted(piece) <= MOST => {
+                self.compare();
+                self.ours.advance(piece.len())
+            }
+            answer => answer?,
+        };
         self.theirs.buffer()[..piece.len()].copy_from_slice(piece);
         let theirs = self.theirs.advance(piece.len());
-        assert_eq!(ours, theirs, "advance");
+        assert!(ours == theirs, "advance");
+        let long = ours.as_ref().is_some_and(|packet| packet.len() > 65_536);
+        met(|met| met.long.gathered += u64::from(long));
         self.compare();
         Ok(ours)
+    }
+
+    /// How long the packet is that a piece makes 32 bytes long.
+    fn wanted(&self, piece: &[u8]) -> usize {
+        let head = [self.ours.filled(), piece].concat();
+        let field = u32::from_le_bytes([head[4], head[5], head[6], head[7]]);
+        xiengmado::packet_reader::packet_length(head[0], field)
     }
 }
 
@@ -74,7 +98,7 @@ pub fn readers(chance: &mut Chance) -> u64 {
     (0..20).map(|_| reader(chance)).sum()
 }
 
-/// One of them, to its end or to a packet that is longer than the buffer.
+/// One of them, to its end or to a packet that is longer than any that is compared.
 fn reader(chance: &mut Chance) -> u64 {
     let mut reader = Reader::new(chance.pick(&[32, 40, 432, 65_536]));
     let mut stream: Vec<u8> = (0..30).flat_map(|_| whole(chance)).collect();
@@ -170,7 +194,7 @@ fn through(
         let list: Vec<u32> = (*next_fd..*next_fd + u32::from(packet[1]).min(3)).collect();
         *next_fd += 3;
         both.fds(&list);
-        if packet.len() > 65_536 || !both.packet(&packet) {
+        if !both.packet(&packet) {
             return false;
         }
     }

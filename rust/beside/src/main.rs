@@ -65,6 +65,7 @@ fn main() {
         calls += count;
     }
     println!("{}", client::report());
+    println!("{}", client::report_long());
     println!("beside: {calls} calls compared, no difference");
 }
 

@@ -8,12 +8,13 @@ use crate::DiscardMode;
 
 type Kind = fn(&mut Chance) -> u64;
 
-pub const KINDS: [(&str, Kind); 9] = [
+pub const KINDS: [(&str, Kind); 10] = [
     ("mixed", mixed),
     ("descriptors", descriptors),
     ("same number", same_number),
     ("wraps", wraps),
     ("sync bursts", sync_bursts),
+    ("long packets", long_packets),
     ("streams", leaves::streams),
     ("readers", leaves::readers),
     ("handshakes", leaves::handshakes),
@@ -28,6 +29,8 @@ struct Weights {
     discard: u64,
     poll: u64,
     event: u64,
+    /// Of the packets one in so many is over 65,536 bytes.
+    long: u64,
 }
 
 const MIXED: Weights = Weights {
@@ -37,6 +40,13 @@ const MIXED: Weights = Weights {
     discard: 2,
     poll: 6,
     event: 3,
+    long: 400,
+};
+
+const LONG: Weights = Weights {
+    discard: 4,
+    long: 3,
+    ..MIXED
 };
 
 fn kind(chance: &mut Chance) -> ReplyFdKind {
@@ -72,8 +82,14 @@ fn number(both: &Both, chance: &mut Chance) -> u64 {
     }
 }
 
-/// A packet: mostly of a number that the server could send, at times of any.
-fn packet(both: &Both, chance: &mut Chance) -> Vec<u8> {
+/// More bytes than the engine takes: mostly a few.
+pub fn long_size(chance: &mut Chance) -> usize {
+    let more = chance.pick(&[4, 4, 4_000, 300_000]);
+    65_537 + chance.below(more) as usize
+}
+
+/// A packet: mostly of a number that the server could send, at times of any. One in so many is long.
+fn packet(both: &Both, chance: &mut Chance, long: u64) -> Vec<u8> {
     let code = match chance.below(10) {
         0..=3 => 1,
         4 | 5 => 0,
@@ -81,6 +97,7 @@ fn packet(both: &Both, chance: &mut Chance) -> Vec<u8> {
         _ => chance.next() as u8,
     };
     let size = match chance.below(12) {
+        _ if chance.once(long) => long_size(chance),
         0 => 32 + chance.below(200) as usize,
         1 => 36,
         _ => 32,
@@ -137,7 +154,7 @@ fn step(both: &mut Both, chance: &mut Chance, w: &Weights, next_fd: &mut u32) ->
             new_fds(both, next_fd, chance.below(most) as u32);
         }
         2 => {
-            let bytes = packet(both, chance);
+            let bytes = packet(both, chance, w.long);
             return both.packet(&bytes);
         }
         3 => {
@@ -185,9 +202,14 @@ fn ask(both: &mut Both, requests: u64) {
     }
 }
 
-/// A reply of a number, or an error. Byte 1, the descriptors of a reply, is any.
+/// A reply of a number, or an error; now and then a long one. Byte 1, the descriptors of a reply, is any.
 fn answer(chance: &mut Chance, number: u64) -> Vec<u8> {
-    let mut bytes = chance.bytes(32);
+    let size = if chance.once(300) {
+        long_size(chance)
+    } else {
+        32
+    };
+    let mut bytes = chance.bytes(size);
     bytes[0] = chance.pick(&[1, 1, 1, 0]);
     bytes[2..4].copy_from_slice(&(number as u16).to_le_bytes());
     bytes
@@ -330,6 +352,37 @@ fn sync_bursts(chance: &mut Chance) -> u64 {
         both.poll_reply(both.engine.last_sequence_read());
     }
     both.finish()
+}
+
+/// Many packets over 65,536 bytes, with runs of short ones among them, and events taken many at a time.
+fn long_packets(chance: &mut Chance) -> u64 {
+    (0..10).map(|_| long_session(chance)).sum()
+}
+
+fn long_session(chance: &mut Chance) -> u64 {
+    let (mut both, mut next_fd) = (Both::new(64, chance.pick(&[48, 200, 4096])), 1000);
+    for _ in 0..200 {
+        if chance.once(12) {
+            both.poll_events(chance.pick(&[31, 100, 70_000, 400_000]));
+        }
+        if chance.once(12) {
+            let row: Vec<_> = (0..chance.below(4)).map(|_| event(&both, chance)).collect();
+            both.packets(&row);
+        }
+        if !step(&mut both, chance, &LONG, &mut next_fd) {
+            return both.calls;
+        }
+    }
+    both.finish()
+}
+
+/// An error or an event of 32 bytes, with the number last read.
+fn event(both: &Both, chance: &mut Chance) -> Vec<u8> {
+    let mut bytes = chance.bytes(32);
+    bytes[0] = chance.pick(&[0, 2, 28, 129]);
+    let number = both.engine.last_sequence_read() as u16;
+    bytes[2..4].copy_from_slice(&number.to_le_bytes());
+    bytes
 }
 
 /// More than 2^32 requests from a fresh connection, in bulk; the state is compared now and then.

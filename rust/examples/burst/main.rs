@@ -1,7 +1,7 @@
 //! Many requests in either byte order, and errors of which the server itself says where they belong.
 //!
 //! ```text
-//! cargo run --example burst -- ORDER COUNT       l or B; to the display $DISPLAY
+//! cargo run --example burst -- ORDER COUNT       l or B, and how many; to the display $DISPLAY
 //! ```
 //!
 //! Every thousandth request maps a window that there is not, with an id that no other request has. The
@@ -16,8 +16,9 @@ mod display;
 mod wire;
 
 use std::io;
+use std::process::{exit, ExitCode};
 
-use display::{socket_path, Display};
+use display::{display_name, ended, socket_path, Display};
 use wire::get32;
 use xiengmado::id_allocator::IdAllocator;
 use xiengmado::{ByteOrder, SequenceNumber};
@@ -56,16 +57,9 @@ fn compare(display: &mut Display, failing: &[(u32, SequenceNumber)]) -> io::Resu
     Ok(())
 }
 
-fn main() -> io::Result<()> {
-    let words: Vec<String> = std::env::args().skip(1).collect();
-    let (order, count) = match words.as_slice() {
-        [order, count] if order == "l" => (ByteOrder::Little, count.parse()),
-        [order, count] if order == "B" => (ByteOrder::Big, count.parse()),
-        _ => return Err(io::Error::other("usage: burst l|B COUNT")),
-    };
-    let count = count.map_err(io::Error::other)?;
-    let name = std::env::var("DISPLAY").map_err(io::Error::other)?;
-    let (mut display, setup, _) = Display::open(&socket_path(&name), order, (b"", b""))?;
+fn run(order: ByteOrder, count: u64) -> io::Result<()> {
+    let path = socket_path(&display_name()?);
+    let (mut display, setup, _) = Display::open(&path, order, (b"", b""))?;
     let ids = IdAllocator::new(setup.resource_id_base, setup.resource_id_mask);
     let mut ids = ids.map_err(io::Error::other)?;
     let failing = send(&mut display, &mut ids, count)?;
@@ -77,4 +71,26 @@ fn main() -> io::Result<()> {
         "{requests} requests, {syncs} syncs; {errors} errors, each with the number of its request"
     );
     Ok(())
+}
+
+/// The byte order and the count.
+fn arguments() -> Option<(ByteOrder, u64)> {
+    let words: Vec<String> = std::env::args().skip(1).collect();
+    let [order, count] = words.as_slice() else {
+        return None;
+    };
+    let order = match order.as_str() {
+        "l" => ByteOrder::Little,
+        "B" => ByteOrder::Big,
+        _ => return None,
+    };
+    Some((order, count.parse().ok()?))
+}
+
+fn main() -> ExitCode {
+    let Some((order, count)) = arguments() else {
+        eprintln!("usage: burst ORDER COUNT, the order l or B, so many requests to $DISPLAY");
+        exit(2);
+    };
+    ended("burst", run(order, count))
 }

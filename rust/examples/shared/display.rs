@@ -2,6 +2,7 @@
 
 use std::io::{self, Read, Write};
 use std::os::unix::net::UnixStream;
+use std::process::ExitCode;
 
 use xiengmado::connect::Connect;
 use xiengmado::connection::{Connection, PollReply, ReplyFdKind};
@@ -54,6 +55,33 @@ pub fn socket_path(display: &str) -> String {
     }
 }
 
+/// The display that the environment names.
+pub fn display_name() -> io::Result<String> {
+    std::env::var("DISPLAY").map_err(|_| io::Error::other("DISPLAY is not set"))
+}
+
+/// Connects to a socket; a failure names it.
+pub fn open_socket(path: &str) -> io::Result<UnixStream> {
+    let named = |error: io::Error| io::Error::new(error.kind(), format!("{path}: {error}"));
+    UnixStream::connect(path).map_err(named)
+}
+
+fn closed() -> io::Error {
+    let text = "the server closed the connection";
+    io::Error::new(io::ErrorKind::UnexpectedEof, text)
+}
+
+/// Ends a program: a failure is said on the error output, behind the program's name.
+pub fn ended(name: &str, result: io::Result<()>) -> ExitCode {
+    match result {
+        Ok(()) => ExitCode::SUCCESS,
+        Err(error) => {
+            eprintln!("{name}: {error}");
+            ExitCode::FAILURE
+        }
+    }
+}
+
 impl Display {
     /// Connects: the display, its setup, and the setup's bytes. The authorization is a name and data,
     /// both empty for none.
@@ -62,14 +90,14 @@ impl Display {
         order: ByteOrder,
         (name, data): (&[u8], &[u8]),
     ) -> io::Result<(Display, Setup, Vec<u8>)> {
-        let mut stream = UnixStream::connect(path)?;
+        let mut stream = open_socket(path)?;
         let (mut connect, request) =
             Connect::with_buffer(order, name, data, SETUP).map_err(io::Error::other)?;
         stream.write_all(&request)?;
         loop {
             let count = stream.read(connect.buffer())?;
             if count == 0 {
-                return Err(io::ErrorKind::UnexpectedEof.into());
+                return Err(closed());
             }
             if connect.advance(count) {
                 break;
@@ -151,7 +179,7 @@ impl Display {
         self.flush()?;
         let count = self.stream.read(self.reader.buffer())?;
         if count == 0 {
-            return Err(io::ErrorKind::UnexpectedEof.into());
+            return Err(closed());
         }
         if let Some(packet) = self.reader.advance(count) {
             match packet[0] {

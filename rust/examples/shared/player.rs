@@ -7,6 +7,7 @@ use xiengmado::connection::ReplyFdKind;
 use xiengmado::engine::Engine;
 use xiengmado::id_allocator::IdAllocator;
 use xiengmado::packet_reader::PacketReader;
+use xiengmado::savepoint::SaveError;
 use xiengmado::{ByteOrder, DiscardMode, Refusal, SequenceNumber};
 
 /// Codes of the event that carries no number, as the server and as SendEvent makes it.
@@ -44,7 +45,7 @@ impl Player {
         })
     }
 
-    pub fn save(&self) -> Result<Vec<u8>, Refusal> {
+    pub fn save(&self) -> Result<Vec<u8>, SaveError> {
         self.engine.save(&self.reader, &self.ids)
     }
 

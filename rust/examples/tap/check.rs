@@ -17,7 +17,9 @@ use xiengmado::packet_reader::{packet_length, PacketReader};
 use xiengmado::{ByteOrder, Refusal};
 
 use crate::reckoning::{Reckoning, Truth};
+use crate::replay::Kind;
 use crate::requests::{answer, Answer, Requests, Step};
+use crate::script::{Part, Script};
 use crate::wire::{get16, get32};
 
 const OUTSTANDING: usize = 65_536;
@@ -81,6 +83,8 @@ pub struct Check {
     reckoning: Reckoning,
     server: Option<Server>,
     counts: Counts,
+    /// Where the session is written, if it is.
+    pub script: Option<Script>,
 }
 
 impl Server {
@@ -94,26 +98,26 @@ impl Server {
         })
     }
 
-    /// Takes some of the bytes, one at least: how many, and a packet that became whole (its first 32 bytes
-    /// where it is a long one).
-    fn take(&mut self, bytes: &[u8]) -> Result<(usize, Option<Vec<u8>>), Refusal> {
+    /// Takes some of the bytes, one at least: how many, and what they were.
+    fn take(&mut self, bytes: &[u8]) -> Result<(usize, Part), Refusal> {
         if self.skip > 0 {
             let count = self.skip.min(bytes.len());
             self.skip -= count;
-            return Ok((count, None));
+            return Ok((count, Part::Rest));
         }
         if let Some(setup) = &mut self.setup {
             let count = fill(setup.buffer(), bytes);
             if setup.try_advance(count)? {
                 self.setup = None;
             }
-            return Ok((count, None));
+            return Ok((count, Part::Setup));
         }
         let count = fill(self.reader.buffer(), bytes);
-        match self.reader.try_advance(count) {
-            Err(Refusal::LongPacket) => Ok((count, Some(self.long_packet(count)?))),
-            packet => Ok((count, packet?)),
-        }
+        let part = match self.reader.try_advance(count) {
+            Err(Refusal::LongPacket) => Part::Long(self.long_packet(count)?, self.skip),
+            packet => packet?.map_or(Part::Open, Part::Packet),
+        };
+        Ok((count, part))
     }
 
     /// The first 32 bytes of a packet that the reader refused, which left it as it was.
@@ -174,6 +178,7 @@ impl Check {
             };
             if let (None, Some(order)) = (&self.server, self.requests.order) {
                 self.server = Some(Server::new(order)?);
+                self.record(|script| script.start(order));
             }
         }
         Ok(taken)
@@ -184,25 +189,21 @@ impl Check {
         self.server.as_ref().is_some_and(full)
     }
 
+    /// Does something to the script, where the session is written.
+    fn record(&mut self, act: impl FnOnce(&mut Script)) {
+        if let Some(script) = &mut self.script {
+            act(script);
+        }
+    }
+
     fn request(&mut self, opcode: u8) -> Result<(), Refusal> {
         self.reckoning.request(opcode);
         self.counts.requests += 1;
-        let kind = match answer(opcode) {
-            Answer::None => ReplyFdKind::NoReply,
-            Answer::Reply => ReplyFdKind::ReplyWithoutFDs,
-            Answer::Unknown => {
-                self.counts.extensions += 1;
-                ReplyFdKind::ReplyWithoutFDs
-            }
-        };
-        let server = self.server.as_mut().expect("the order is known");
-        let number = match server.connection.try_send_request(kind) {
-            Err(Refusal::SyncFirst) => {
-                self.counts.late += 1;
-                let kind = ReplyFdKind::ReplyWithoutFDs;
-                server.connection.try_send_request(kind)?
-            }
-            number => number?,
+        let answer = answer(opcode);
+        self.counts.extensions += u64::from(answer == Answer::Unknown);
+        let number = match answer {
+            Answer::None => self.without_reply()?,
+            _ => self.with_reply()?,
         };
         if number != self.reckoning.sent {
             let sent = self.reckoning.sent;
@@ -211,18 +212,47 @@ impl Check {
         Ok(())
     }
 
+    fn with_reply(&mut self) -> Result<u64, Refusal> {
+        self.record(|script| script.request(Kind::Reply));
+        let server = self.server.as_mut().expect("the order is known");
+        let connection = &mut server.connection;
+        connection.try_send_request(ReplyFdKind::ReplyWithoutFDs)
+    }
+
+    /// Where a sync is due it is told as one with a reply.
+    fn without_reply(&mut self) -> Result<u64, Refusal> {
+        let server = self.server.as_mut().expect("the order is known");
+        match server.connection.try_send_request(ReplyFdKind::NoReply) {
+            Err(Refusal::SyncFirst) => {
+                self.counts.late += 1;
+                self.record(Script::late);
+                self.with_reply()
+            }
+            number => {
+                self.record(|script| script.request(Kind::None));
+                number
+            }
+        }
+    }
+
     /// Takes bytes of the server, before the client gets them.
     pub fn server(&mut self, bytes: &[u8]) -> Result<(), Refusal> {
         let mut rest = bytes;
         while !rest.is_empty() {
             let server = self.server.as_mut().ok_or(Refusal::Incomplete)?;
-            let (count, packet) = server.take(rest)?;
+            let (count, part) = server.take(rest)?;
+            self.record(|script| script.server(&rest[..count], &part));
             rest = &rest[count..];
-            if let Some(packet) = packet {
-                self.counts.long += u64::from(server.skip > 0);
-                self.packet(&packet)?;
+            match part {
+                Part::Packet(packet) => self.packet(&packet)?,
+                Part::Long(head, _) => {
+                    self.counts.long += 1;
+                    self.packet(&head)?;
+                }
+                _ => {}
             }
         }
+        self.record(Script::flush);
         Ok(())
     }
 

@@ -2,7 +2,7 @@
 //! that the engine files each packet under its true number.
 //!
 //! ```text
-//! cargo run --release --example tap -- COMMAND [ARGUMENT ..]
+//! cargo run --release --example tap -- [--script FILE] COMMAND [ARGUMENT ..]
 //! ```
 //!
 //! The server is that of `$DISPLAY`. The tap opens a display of its own, the first free number from 100 on, and
@@ -11,7 +11,9 @@
 //!
 //! - `requests.rs` cuts the client's bytes into requests;
 //! - `reckoning.rs` says which number a packet truly has, without the engine;
-//! - `check.rs` tells the engine the same traffic and compares.
+//! - `check.rs` tells the engine the same traffic and compares;
+//! - `script.rs` writes the session as a script of `replay` to FILE; of a command that opens several
+//!   connections each has its own: FILE, FILE.2, FILE.3, in the order in which they were opened.
 //!
 //! A client of a server that wants a cookie looks for it under the new display's number; copy it there with
 //! `xauth`. Descriptors are not passed: the standard library has no way to. Clients that share memory or
@@ -21,8 +23,15 @@ mod check;
 #[allow(dead_code)]
 #[path = "../shared/display.rs"]
 mod display;
+#[allow(dead_code)]
+#[path = "../../tests/ours/mod.rs"]
+mod ours;
 mod reckoning;
+#[allow(dead_code)]
+#[path = "../../tests/replay/mod.rs"]
+mod replay;
 mod requests;
+mod script;
 #[allow(dead_code)]
 #[path = "../shared/wire.rs"]
 mod wire;
@@ -30,14 +39,15 @@ mod wire;
 use std::io::{self, Read, Write};
 use std::net::Shutdown;
 use std::os::unix::net::{UnixListener, UnixStream};
-use std::path::Path;
+use std::path::{Path, PathBuf};
 use std::process::{exit, Command};
 use std::sync::mpsc::{channel, Receiver, Sender};
 use std::sync::{Arc, Condvar, Mutex, MutexGuard};
 use std::thread::{self, JoinHandle};
 
 use check::{Check, Counts};
-use display::socket_path;
+use display::{display_name, open_socket, socket_path};
+use script::Script;
 
 const CHUNK: usize = 65_536;
 const FIRST_DISPLAY: u32 = 100;
@@ -82,11 +92,9 @@ impl Shared {
         taken.is_ok()
     }
 
-    fn end(&self) -> Counts {
-        let mut state = self.lock();
-        state.1 = true;
+    fn end(&self) {
+        self.lock().1 = true;
         self.changed.notify_all();
-        state.0.counts()
     }
 }
 
@@ -129,9 +137,13 @@ fn hand_out(from: Receiver<Vec<u8>>, mut to: &UnixStream) -> io::Result<()> {
     Ok(())
 }
 
+/// What is said of a connection: its counts, and what was written to its script.
+type Said = (Counts, Option<String>);
+
 /// Serves one client until both sides are done. Streams that break off are no failure of the engine.
-fn serve(client: &UnixStream, server: &UnixStream) -> Counts {
+fn serve(client: &UnixStream, server: &UnixStream, script: Option<Script>) -> io::Result<Said> {
     let shared = Shared::default();
+    shared.lock().0.script = script;
     let (sender, receiver) = channel();
     thread::scope(|scope| {
         scope.spawn(|| {
@@ -146,21 +158,33 @@ fn serve(client: &UnixStream, server: &UnixStream) -> Counts {
         let _ = server.shutdown(Shutdown::Both);
         shared.end();
     });
-    shared.end()
+    let check = &mut shared.lock().0;
+    let written = check.script.take().map(Script::finish).transpose()?;
+    Ok((check.counts(), written))
 }
 
-type Served = Arc<Mutex<Vec<JoinHandle<io::Result<Counts>>>>>;
+type Served = Arc<Mutex<Vec<JoinHandle<io::Result<Said>>>>>;
 
 /// Lets clients in, as long as the tap runs.
-fn accept(door: UnixListener, server: String, served: Served) {
-    for client in door.incoming() {
+fn accept(door: UnixListener, server: String, file: Option<PathBuf>, served: Served) {
+    for (before, client) in door.incoming().enumerate() {
         let path = server.clone();
-        let thread = thread::spawn(move || Ok(serve(&client?, &UnixStream::connect(path)?)));
-        served
-            .lock()
-            .expect("no thread stopped midway")
-            .push(thread);
+        let file = file.as_deref().map(|file| numbered(file, before + 1));
+        let mut threads = served.lock().expect("no thread stopped midway");
+        threads.push(thread::spawn(move || {
+            let script = file.as_deref().map(Script::create).transpose()?;
+            serve(&client?, &open_socket(&path)?, script)
+        }));
     }
+}
+
+/// The file of the connection with this number: the first has the name as it was given.
+fn numbered(file: &Path, number: usize) -> PathBuf {
+    let mut name = file.as_os_str().to_owned();
+    if number > 1 {
+        name.push(format!(".{number}"));
+    }
+    name.into()
 }
 
 /// A display of its own: its number and its socket.
@@ -179,12 +203,12 @@ fn open_door() -> io::Result<(u32, String, UnixListener)> {
 }
 
 /// Runs the command with the tap's display; whether a number differed, and how the command ended.
-fn run(words: &[String]) -> io::Result<(bool, i32)> {
-    let display = std::env::var("DISPLAY").map_err(io::Error::other)?;
+fn run(file: Option<PathBuf>, words: &[String]) -> io::Result<(bool, i32)> {
+    let server = socket_path(&display_name()?);
     let (number, path, door) = open_door()?;
     let served = Served::default();
     let threads = served.clone();
-    thread::spawn(move || accept(door, socket_path(&display), threads));
+    thread::spawn(move || accept(door, server, file, threads));
     let mut command = Command::new(&words[0]);
     let status = command
         .args(&words[1..])
@@ -194,20 +218,28 @@ fn run(words: &[String]) -> io::Result<(bool, i32)> {
     let mut differs = false;
     let threads = std::mem::take(&mut *served.lock().expect("no thread stopped midway"));
     for thread in threads {
-        let counts = thread.join().expect("no thread stopped midway")?;
+        let (counts, written) = thread.join().expect("no thread stopped midway")?;
         differs |= counts.differences > 0;
         println!("tap: {counts}");
+        if let Some(text) = written {
+            println!("script: {text}");
+        }
     }
     Ok((differs, status?.code().unwrap_or(1)))
 }
 
 fn main() {
-    let words: Vec<String> = std::env::args().skip(1).collect();
-    if words.is_empty() {
-        eprintln!("usage: tap COMMAND [ARGUMENT ..]");
+    let mut words: Vec<String> = std::env::args().skip(1).collect();
+    let mut file = None;
+    if words.len() > 1 && words[0] == "--script" {
+        file = Some(words.remove(1).into());
+        words.remove(0);
+    }
+    if words.is_empty() || words[0].starts_with("--") {
+        eprintln!("usage: tap [--script FILE] COMMAND [ARGUMENT ..]");
         exit(2);
     }
-    match run(&words) {
+    match run(file, &words) {
         Ok((true, _)) => exit(1),
         Ok((false, status)) => exit(status),
         Err(error) => {

@@ -2,22 +2,29 @@
 //! waits for events, makes errors, and sends more requests than 16 bits can number.
 //!
 //! ```text
-//! cargo run --example window [-- [DISPLAY or SOCKET] [COOKIE]]
+//! cargo run --example window [-- [--stay] [DISPLAY or SOCKET] [COOKIE]]
+//! cargo run --example window -- --close WINDOW [DISPLAY or SOCKET] [COOKIE]
 //! ```
 //!
-//! Without arguments it connects to `$DISPLAY`. Authority data is not looked for: where the server wants
+//! With `--stay` a second window stays at the end. It is drawn again whenever a part of it comes to light, and
+//! ends the program once it is closed: by a window manager, or with `--close` and its number. When the program
+//! is ended (Ctrl-C) the server takes the window away; when the server ends, the program says so.
+//!
+//! Without a display it connects to `$DISPLAY`. Authority data is not looked for: where the server wants
 //! a cookie, give it as hex digits (the last word of `xauth list $DISPLAY`).
 //!
 //! It says what it did, one line a step, and stops with a failure where something is not as it must be.
 
 #[path = "../shared/display.rs"]
 mod display;
+mod stay;
 #[path = "../shared/wire.rs"]
 mod wire;
 
 use std::io;
+use std::process::ExitCode;
 
-use display::{socket_path, Display};
+use display::{display_name, ended, socket_path, Display};
 use wire::{get16, get32};
 use xiengmado::id_allocator::IdAllocator;
 use xiengmado::protocol::xc_misc::{
@@ -404,8 +411,7 @@ fn is_error(packet: &[u8], code: u8, opcode: u8, value: u32) {
     assert_eq!(fields, (code, opcode, value));
 }
 
-fn run(path: &str, cookie: &[u8]) -> io::Result<()> {
-    let mut client = connect(path, cookie)?;
+fn run(mut client: Client, stay: bool) -> io::Result<()> {
     client.more_ids()?;
     let window = client.window()?;
     client.draw(window)?;
@@ -415,6 +421,9 @@ fn run(path: &str, cookie: &[u8]) -> io::Result<()> {
     client.property(window, WM_NAME, b"Xiengmado, past 65,536")?;
     client.errors()?;
     client.end(window)?;
+    if stay {
+        client.stay()?;
+    }
     let counts = &client.display.counts;
     let answers = counts.replies + counts.errors + counts.events;
     let (requests, replies) = (counts.requests, counts.replies);
@@ -429,11 +438,30 @@ fn bytes_of_hex(digits: &str) -> Option<Vec<u8>> {
     (0..digits.len()).step_by(2).map(pair).collect()
 }
 
-fn main() -> io::Result<()> {
-    let mut words = std::env::args().skip(1);
-    let display = words.next().or_else(|| std::env::var("DISPLAY").ok());
-    let display = display.ok_or_else(|| io::Error::other("DISPLAY is not set"))?;
-    let cookie = bytes_of_hex(&words.next().unwrap_or_default());
+/// The number of a window, as it is printed.
+fn window_of(word: &str) -> io::Result<u32> {
+    let number = u32::from_str_radix(word.trim_start_matches("0x"), 16);
+    number.map_err(|_| io::Error::other("the window is no number"))
+}
+
+/// Does what the words ask for.
+fn start(mut words: Vec<String>) -> io::Result<()> {
+    let close = words.len() > 1 && words[0] == "--close";
+    let window = close.then(|| window_of(&words.remove(1)));
+    let stay = words.first().is_some_and(|word| word == "--stay");
+    if close || stay {
+        words.remove(0);
+    }
+    let display = words.first().cloned().map_or_else(display_name, Ok)?;
+    let cookie = bytes_of_hex(words.get(1).map_or("", String::as_str));
     let cookie = cookie.ok_or_else(|| io::Error::other("the cookie is not in hex digits"))?;
-    run(&socket_path(&display), &cookie)
+    let mut client = connect(&socket_path(&display), &cookie)?;
+    match window {
+        Some(window) => client.close(window?),
+        None => run(client, stay),
+    }
+}
+
+fn main() -> ExitCode {
+    ended("window", start(std::env::args().skip(1).collect()))
 }

@@ -101,9 +101,9 @@ type Answer = Result<ours::Setup, ConnectError>;
 
 /// Whether both read a failure.
 fn failed(answer: Answer, bytes: &[u8]) -> bool {
-    let read = theirs::SetupFailed::try_parse(bytes).ok();
+    let read = theirs::SetupFailed::try_parse(bytes);
     match (answer, read) {
-        (Err(ConnectError::SetupFailed(a)), Some((b, _))) => {
+        (Err(ConnectError::SetupFailed(a)), Ok((b, _))) => {
             let version = (b.protocol_major_version, b.protocol_minor_version);
             assert_eq!(
                 (a.protocol_major_version, a.protocol_minor_version),
@@ -115,29 +115,35 @@ fn failed(answer: Answer, bytes: &[u8]) -> bool {
             );
             true
         }
-        (Err(ConnectError::ParseError(_)), None) => false,
+        (Err(ConnectError::ParseError(a)), Err(b)) => {
+            assert_eq!(format!("{a:?}"), format!("{b:?}"));
+            false
+        }
         other => panic!("{other:?}: {bytes:?}"),
     }
 }
 
 /// Whether both read a success.
 fn succeeded(answer: Answer, bytes: &[u8]) -> bool {
-    let read = theirs::Setup::try_parse(bytes).ok();
+    let read = theirs::Setup::try_parse(bytes);
     match (answer, read) {
-        (Ok(a), Some((b, _))) => {
+        (Ok(a), Ok((b, _))) => {
             same(&a, &b);
             true
         }
-        (Err(ConnectError::ParseError(_)), None) => false,
+        (Err(ConnectError::ParseError(a)), Err(b)) => {
+            assert_eq!(format!("{a:?}"), format!("{b:?}"));
+            false
+        }
         other => panic!("{other:?}: {bytes:?}"),
     }
 }
 
 /// Both read a wish for more data.
 fn continued(answer: Answer, bytes: &[u8]) -> bool {
-    let read = theirs::SetupAuthenticate::try_parse(bytes).ok();
+    let read = theirs::SetupAuthenticate::try_parse(bytes);
     match (answer, read) {
-        (Err(ConnectError::SetupAuthenticate(a)), Some((b, _))) => {
+        (Err(ConnectError::SetupAuthenticate(a)), Ok((b, _))) => {
             assert_eq!((a.status, a.reason), (b.status, b.reason));
             true
         }

@@ -1,5 +1,7 @@
 //! Error packets and XC-MISC.
 
+use std::fmt::Debug;
+
 use x11rb::protocol::xc_misc as theirs;
 use x11rb::x11_utils::{ExtInfoProvider, ExtensionInformation, RequestHeader, TryParse as _};
 use xiengmado::protocol::xc_misc as ours;
@@ -40,11 +42,16 @@ fn put_small(chance: &mut Chance, bytes: &mut [u8], at: usize) {
     }
 }
 
+/// An answer, with the name of its error: those of the two sides are different types.
+pub fn named<T>(answer: Result<T, impl Debug>) -> Result<T, String> {
+    answer.map_err(|error| format!("{error:?}"))
+}
+
 /// Whether both read the error.
 pub fn error(chance: &mut Chance) -> bool {
     let bytes = packet(chance, 0);
-    let a = xiengmado::x11_utils::X11Error::try_parse(&bytes).ok();
-    let b = x11rb::x11_utils::X11Error::try_parse(&bytes, &NoExtensions).ok();
+    let a = named(xiengmado::x11_utils::X11Error::try_parse(&bytes));
+    let b = named(x11rb::x11_utils::X11Error::try_parse(&bytes, &NoExtensions));
     let a = a.map(|e| {
         (
             e.error_code,
@@ -64,15 +71,15 @@ pub fn error(chance: &mut Chance) -> bool {
         )
     });
     assert_eq!(a, b, "{bytes:?}");
-    a.is_some()
+    a.is_ok()
 }
 
 /// Whether both read the reply to GetVersion.
 pub fn version(chance: &mut Chance) -> bool {
     let mut bytes = packet(chance, 1);
     put_small(chance, &mut bytes, 4);
-    let a = ours::GetVersionReply::try_parse(&bytes).ok();
-    let b = theirs::GetVersionReply::try_parse(&bytes).ok();
+    let a = named(ours::GetVersionReply::try_parse(&bytes));
+    let b = named(theirs::GetVersionReply::try_parse(&bytes));
     let a = a.map(|(r, rest)| {
         (
             r.sequence,
@@ -92,19 +99,19 @@ pub fn version(chance: &mut Chance) -> bool {
         )
     });
     assert_eq!(a, b, "{bytes:?}");
-    a.is_some()
+    a.is_ok()
 }
 
 /// Whether both read the reply to GetXIDRange.
 pub fn range(chance: &mut Chance) -> bool {
     let mut bytes = packet(chance, 1);
     put_small(chance, &mut bytes, 4);
-    let a = ours::GetXIDRangeReply::try_parse(&bytes).ok();
-    let b = theirs::GetXIDRangeReply::try_parse(&bytes).ok();
+    let a = named(ours::GetXIDRangeReply::try_parse(&bytes));
+    let b = named(theirs::GetXIDRangeReply::try_parse(&bytes));
     let a = a.map(|(r, rest)| (r.sequence, r.length, r.start_id, r.count, rest));
     let b = b.map(|(r, rest)| (r.sequence, r.length, r.start_id, r.count, rest));
     assert_eq!(a, b, "{bytes:?}");
-    a.is_some()
+    a.is_ok()
 }
 
 /// Whether both read the reply to GetXIDList.
@@ -112,12 +119,12 @@ pub fn list(chance: &mut Chance) -> bool {
     let mut bytes = packet(chance, 1);
     put_small(chance, &mut bytes, 4);
     put_small(chance, &mut bytes, 8);
-    let a = ours::GetXIDListReply::try_parse(&bytes).ok();
-    let b = theirs::GetXIDListReply::try_parse(&bytes).ok();
+    let a = named(ours::GetXIDListReply::try_parse(&bytes));
+    let b = named(theirs::GetXIDListReply::try_parse(&bytes));
     let a = a.map(|(r, rest)| (r.sequence, r.length, r.ids, rest));
     let b = b.map(|(r, rest)| (r.sequence, r.length, r.ids, rest));
     assert_eq!(a, b, "{bytes:?}");
-    a.is_some()
+    a.is_ok()
 }
 
 /// The header of a request, and its bytes behind that.

@@ -36,6 +36,12 @@ pub(crate) struct Rooms {
 }
 
 #[inline]
+pub(crate) fn version() -> u32 {
+    // SAFETY: nothing is lent.
+    unsafe { crate::exports::xm_version() }
+}
+
+#[inline]
 fn answer(code: u32) -> Result<(), Refusal> {
     match code {
         0 => Ok(()),

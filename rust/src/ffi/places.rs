@@ -20,6 +20,7 @@ pub(crate) const STATE_HELD: usize = 10;
 pub(crate) const STATE_WAITING: usize = 11;
 
 /// Of a reader and of a handshake.
+pub(crate) const READER_ORDER: usize = 0;
 pub(crate) const READER_FILLED: usize = 1;
 pub(crate) const READER_TARGET: usize = 2;
 

@@ -1,4 +1,22 @@
-//! What a server's setup says.
+//! What a server's setup says. `Connect::into_setup` reads it.
+//!
+//! ```
+//! use xiengmado::connect::Connect;
+//!
+//! // A success (1) of 8 + 4 × 8 bytes, with nothing but a mask in it.
+//! let mut reply = [0; 40];
+//! reply[0] = 1;
+//! reply[6..8].copy_from_slice(&8u16.to_ne_bytes());
+//! reply[16..20].copy_from_slice(&0x1f_ffffu32.to_ne_bytes());
+//!
+//! let (mut connect, _) = Connect::with_authorization(Vec::new(), Vec::new());
+//! for part in [&reply[..8], &reply[8..]] {
+//!     connect.buffer().copy_from_slice(part);
+//!     connect.advance(part.len());
+//! }
+//! let setup = connect.into_setup().unwrap();
+//! assert_eq!((setup.resource_id_mask, setup.roots_len), (0x1f_ffff, 0));
+//! ```
 
 /// A success: its fixed fields and the vendor's text. Formats and screens are counted, not read.
 #[derive(Debug, Clone, PartialEq, Eq)]

@@ -19,16 +19,22 @@ const STORE: usize = 4_194_304;
 pub struct Ours {
     pub engine: Engine,
     pub reader: PacketReader,
-    handshake: Connect,
+    pub handshake: Connect,
     pub ids: IdAllocator,
+    /// The connection's, which a new reader or handshake takes.
+    order: ByteOrder,
 }
 
 fn refused(refusal: Refusal) -> String {
     format!("refused {}", refusal.number())
 }
 
-fn handshake() -> Connect {
-    let made = Connect::with_buffer(ByteOrder::Little, &[], &[], 262_148);
+fn reader(order: ByteOrder) -> PacketReader {
+    PacketReader::with_buffer(order, 65_536).expect("the buffer is in range")
+}
+
+fn handshake(order: ByteOrder) -> Connect {
+    let made = Connect::with_buffer(order, &[], &[], 262_148);
     made.expect("the buffer is in range").0
 }
 
@@ -42,10 +48,12 @@ fn polled(poll: PollReply) -> Poll {
 
 impl Ours {
     pub fn fresh() -> Self {
+        let order = ByteOrder::Little;
         Ours {
-            engine: Engine::new(ByteOrder::Little, REQUESTS, STORE).expect("rooms are in range"),
-            reader: PacketReader::with_buffer(ByteOrder::Little, 65_536).expect("it is in range"),
-            handshake: handshake(),
+            engine: Engine::new(order, REQUESTS, STORE).expect("rooms are in range"),
+            reader: reader(order),
+            handshake: handshake(order),
+            order,
             ids: IdAllocator::new(0, 1).expect("a mask"),
         }
     }
@@ -60,6 +68,7 @@ impl Side for Ours {
             ByteOrder::Big
         };
         self.engine = Engine::new(order, requests, store).map_err(refused)?;
+        self.order = order;
         Ok(())
     }
 
@@ -152,12 +161,16 @@ impl Side for Ours {
         }
     }
 
+    fn written(&self) -> u64 {
+        self.engine.last_sequence_written()
+    }
+
     fn closed(&mut self) -> Vec<u32> {
         self.engine.take_closed_fds().expect("the engine is whole")
     }
 
     fn new_reader(&mut self) {
-        self.reader = PacketReader::with_buffer(ByteOrder::Little, 65_536).expect("it is in range");
+        self.reader = reader(self.order);
     }
 
     fn room(&mut self) -> &mut [u8] {
@@ -169,7 +182,7 @@ impl Side for Ours {
     }
 
     fn new_handshake(&mut self) {
-        self.handshake = handshake();
+        self.handshake = handshake(self.order);
     }
 
     fn handshake_room(&mut self) -> &mut [u8] {

@@ -1,9 +1,13 @@
 //! The language of the recorded runs: a script has one op a line, and each is answered by a line that
-//! begins with the op's name. `tests/README.md` has the ops.
+//! begins with the op's name. `tests/README.md` has the ops; `sendall` and `drain`, which no recorded run
+//! has, are those of `docs/REPLAY.md`.
 
 use std::fmt::Write;
 
 use xiengmado::engine::RECORD_HEADER;
+
+/// How many bytes of packets a `drain` hands out at most.
+const OUTPUT: usize = 65_536;
 
 /// Why a side did not do what an op asks: `refused N`, or what the published Rust says.
 pub type Answer<T> = Result<T, String>;
@@ -63,6 +67,9 @@ pub trait Side {
     fn prepare(&mut self, number: u64) -> Answer<bool>;
     fn poll_event(&mut self) -> Answer<Option<(u64, Vec<u8>)>>;
     fn state(&self) -> State;
+    fn written(&self) -> u64 {
+        self.state().written
+    }
     fn closed(&mut self) -> Vec<u32>;
 
     fn new_reader(&mut self);
@@ -112,7 +119,7 @@ fn answer(words: &[&str], side: &mut dyn Side) -> Option<Answer<String>> {
         "reader" | "room" | "fill" | "advance" | "feed" | "feedin" => reader(words, side),
         "hello" | "hfill" | "hadvance" => handshake(words, side),
         "ids" | "gen" | "range" => allocator(words, side),
-        "new" | "send" | "fds" | "intake" | "discard" => change(words, side),
+        "new" | "send" | "sendall" | "fds" | "intake" | "discard" => change(words, side),
         _ => look(words, side),
     }
 }
@@ -138,6 +145,10 @@ fn change(words: &[&str], side: &mut dyn Side) -> Option<Answer<String>> {
             0 => return None,
             count => Ok(sends(side, kind_of(kind)?, count)),
         },
+        ["sendall", ref kinds @ ..] => {
+            let kinds: Option<Vec<Kind>> = kinds.iter().map(|word| kind_of(word)).collect();
+            Ok(send_all(side, &kinds?))
+        }
         ["fds", ref list @ ..] => {
             let list: Option<Vec<u32>> = list.iter().map(|word| word32(word)).collect();
             ok(side.fds(&list?))
@@ -174,6 +185,19 @@ fn sends(side: &mut dyn Side, kind: Kind, count: u64) -> String {
     format!("{last} accepted {accepted}")
 }
 
+/// One request of each kind, up to the first that is refused.
+fn send_all(side: &mut dyn Side, kinds: &[Kind]) -> String {
+    let refused = kinds
+        .iter()
+        .enumerate()
+        .find_map(|(at, &kind)| Some((at, side.send(kind).err()?)));
+    let (count, refused) = match refused {
+        Some((count, text)) => (count, format!(" {text}")),
+        None => (kinds.len(), String::new()),
+    };
+    format!("sent {count} last {}{refused}", side.written())
+}
+
 fn look(words: &[&str], side: &mut dyn Side) -> Option<Answer<String>> {
     Some(match *words {
         ["poll_reply_or_error", n] => side.poll_reply_or_error(number(n)?).map(packet),
@@ -184,9 +208,29 @@ fn look(words: &[&str], side: &mut dyn Side) -> Option<Answer<String>> {
             Some((number, packet)) => format!("event {number} {}", hex(&packet)),
             None => "none".into(),
         }),
+        ["drain"] => drain(side),
         ["state"] => Ok(state(&side.state())),
         _ => return None,
     })
+}
+
+/// As many events as one output takes, and one at least where one is held.
+fn drain(side: &mut dyn Side) -> Answer<String> {
+    let mut bytes = 0;
+    let fit = |event: &&(u64, usize)| {
+        bytes += event.1;
+        bytes <= OUTPUT
+    };
+    let held = side.state().events;
+    let count = held.iter().take_while(fit).count();
+    let count = count.max(held.len().min(1));
+    let mut text = format!("events {count}");
+    for _ in 0..count {
+        if let Some((number, packet)) = side.poll_event()? {
+            write!(text, " {number} {}", hex(&packet)).unwrap();
+        }
+    }
+    Ok(text)
 }
 
 fn packet(found: Option<(Vec<u8>, Vec<u32>)>) -> String {
@@ -327,12 +371,14 @@ fn word32(word: &str) -> Option<u32> {
 }
 
 pub fn hex(bytes: &[u8]) -> String {
-    bytes.iter().map(|byte| format!("{byte:02x}")).collect()
+    let digit = |half: u8| char::from(b"0123456789abcdef"[usize::from(half)]);
+    let pair = |byte: &u8| [digit(byte >> 4), digit(byte & 15)];
+    bytes.iter().flat_map(pair).collect()
 }
 
 fn bytes(hex: &str) -> Option<Vec<u8>> {
     let digit = |b: u8| matches!(b, b'0'..=b'9' | b'a'..=b'f');
-    if hex.len() % 2 != 0 || hex.len() > 131_072 || !hex.bytes().all(digit) {
+    if hex.len() % 2 == 1 || hex.len() > 131_072 || !hex.bytes().all(digit) {
         return None;
     }
     (0..hex.len())

@@ -7,10 +7,10 @@ use Rattle.script.proofs.input.next.Statement.{statement}
 use Rattle.script.proofs.input.next.Tie as tie
 
 abbrev Inv-loop : tie.InvT-loop
-Inv-loop bytes₀ now₀ turns₀ bytes now turns = length bytes ≡ length bytes₀
+Inv-loop waiting bytes₀ now₀ turns₀ bytes now turns = length bytes ≡ length bytes₀
 
 abbrev μ-loop : tie.MeasureT-loop
-μ-loop bytes₀ now₀ turns₀ bytes now turns = turns
+μ-loop waiting bytes₀ now₀ turns₀ bytes now turns = turns
 
 begin-requires : tie.Need-begin-requires Inv-loop μ-loop
 begin-requires c κs = search needs

@@ -21,6 +21,9 @@ end-requires c κs = search needs
 byte-at-requires : tie.Need-byte-at-requires Inv-loop μ-loop
 byte-at-requires c κs = search needs
 
+behind-requires : tie.Need-behind-requires Inv-loop μ-loop
+behind-requires c κs = search needs
+
 same-length : tie.Need-same-length Inv-loop μ-loop
 same-length c = search needs
 
@@ -54,6 +57,7 @@ all-spec =
     loop-holds
     end-requires
     byte-at-requires
+    behind-requires
     same-length
     returns
     put-requires

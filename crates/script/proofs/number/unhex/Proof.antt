@@ -7,7 +7,7 @@ use Rattle.script.proofs.number.unhex.Statement.{statement}
 use Rattle.script.proofs.number.unhex.Tie as tie
 
 abbrev Inv-loop : tie.InvT-loop
-Inv-loop input₀ start end to₀ at₀ input to at = (to ≤ at) × (at ≤ end) × (end ≤ length input) × (length input ≡ length input₀)
+Inv-loop input₀ start end to₀ at₀ input to at = (to ≤ at) × (end ≤ length input) × (length input ≡ length input₀)
 
 abbrev μ-loop : tie.MeasureT-loop
 μ-loop input₀ start end to₀ at₀ input to at = end - at
@@ -15,23 +15,17 @@ abbrev μ-loop : tie.MeasureT-loop
 returns : tie.Need-returns Inv-loop μ-loop
 returns c = search needs
 
-returns-2 : tie.Need-returns-2 Inv-loop μ-loop
-returns-2 c = search needs
-
-returns-3 : tie.Need-returns-3 Inv-loop μ-loop
-returns-3 c = search needs
-
 loop-holds : tie.Need-loop-holds Inv-loop μ-loop
 loop-holds c = search needs
 
-sub-if4 : tie.Need-sub-if4 Inv-loop μ-loop
-sub-if4 c = search needs
+sub-if2 : tie.Need-sub-if2 Inv-loop μ-loop
+sub-if2 c = search needs
 
 same-length : tie.Need-same-length Inv-loop μ-loop
 same-length c = search needs
 
-returns-4 : tie.Need-returns-4 Inv-loop μ-loop
-returns-4 c = search needs
+returns-2 : tie.Need-returns-2 Inv-loop μ-loop
+returns-2 c = search needs
 
 slice-read-digit : tie.Need-slice-read-digit Inv-loop μ-loop
 slice-read-digit c = search needs
@@ -51,14 +45,14 @@ digit-requires-2 c κs = search needs
 same-length-2 : tie.Need-same-length-2 Inv-loop μ-loop
 same-length-2 c = search needs
 
-returns-5 : tie.Need-returns-5 Inv-loop μ-loop
-returns-5 c = search needs
+returns-3 : tie.Need-returns-3 Inv-loop μ-loop
+returns-3 c = search needs
 
 same-length-3 : tie.Need-same-length-3 Inv-loop μ-loop
 same-length-3 c = search needs
 
-returns-6 : tie.Need-returns-6 Inv-loop μ-loop
-returns-6 c = search needs
+returns-4 : tie.Need-returns-4 Inv-loop μ-loop
+returns-4 c = search needs
 
 mul-put : tie.Need-mul-put Inv-loop μ-loop
 mul-put c = search needs
@@ -84,8 +78,8 @@ loop-again c = search needs
 same-length-4 : tie.Need-same-length-4 Inv-loop μ-loop
 same-length-4 c = search needs
 
-returns-7 : tie.Need-returns-7 Inv-loop μ-loop
-returns-7 c = search needs
+returns-5 : tie.Need-returns-5 Inv-loop μ-loop
+returns-5 c = search needs
 
 pub unhex-spec : {M : Type 1} → statement M
 unhex-spec =
@@ -94,21 +88,19 @@ unhex-spec =
     Inv-loop
     μ-loop
     returns
-    returns-2
-    returns-3
     loop-holds
-    sub-if4
+    sub-if2
     same-length
-    returns-4
+    returns-2
     slice-read-digit
     digit-requires
     add-digit
     slice-read-digit-2
     digit-requires-2
     same-length-2
-    returns-5
+    returns-3
     same-length-3
-    returns-6
+    returns-4
     mul-put
     add-put
     put-requires
@@ -117,4 +109,4 @@ unhex-spec =
     loop-less
     loop-again
     same-length-4
-    returns-7)
+    returns-5)
