@@ -5,20 +5,25 @@
 //! told as one with a reply, since such a one is never refused for want of a sync. That changes no number; it
 //! makes the engine ask for a sync later than it would.
 //!
+//! Descriptors of the server are told as 1, 2, 3 in the order in which they come, before the bytes that they came
+//! with; the real ones are only passed on. The few requests whose reply has some are known (`extensions.rs`).
+//!
 //! Each packet is taken back at once, as a client would: an event as the oldest, a reply or an error by its
 //! true number. So the engine's store never fills.
 
 use std::fmt;
+use std::ops::Range;
 
 use xiengmado::connect::Connect;
-use xiengmado::connection::{Connection, ReplyFdKind};
-use xiengmado::engine::Place;
+use xiengmado::connection::ReplyFdKind;
+use xiengmado::engine::{Engine, Place};
 use xiengmado::packet_reader::{packet_length, PacketReader};
 use xiengmado::{ByteOrder, Refusal};
 
+use crate::extensions::Extensions;
 use crate::reckoning::{Reckoning, Truth};
 use crate::replay::Kind;
-use crate::requests::{answer, Answer, Requests, Step};
+use crate::requests::{answer, Answer, Requests, Step, QUERY_EXTENSION};
 use crate::script::{Part, Script};
 use crate::wire::{get16, get32};
 
@@ -44,6 +49,8 @@ pub struct Counts {
     pub last: u64,
     /// Packets that are longer than the engine takes; it was given their first 32 bytes.
     pub long: u64,
+    /// Descriptors of the server.
+    pub fds: u32,
     /// Packets of which nobody can tell the true number.
     pub unclear: u64,
     /// Requests that a client may send only after a sync.
@@ -60,6 +67,9 @@ impl fmt::Display for Counts {
         write!(f, "({} of extensions), {packets} packets ", self.extensions)?;
         write!(f, "({} replies, {} errors, ", self.replies, self.errors)?;
         write!(f, "{} events; {} long), ", self.events, self.long)?;
+        if self.fds > 0 {
+            write!(f, "{} descriptors, ", self.fds)?;
+        }
         write!(f, "last number {}, ", self.last)?;
         write!(f, "{} bytes left over, ", self.left)?;
         write!(f, "{} late syncs, {} unclear, ", self.late, self.unclear)?;
@@ -72,15 +82,18 @@ struct Server {
     order: ByteOrder,
     setup: Option<Connect>,
     reader: PacketReader,
-    connection: Connection,
+    engine: Engine,
     /// So many bytes of a long packet are still to come.
     skip: usize,
+    /// So many descriptors were handed out.
+    handed: u32,
 }
 
 #[derive(Default)]
 pub struct Check {
     requests: Requests,
     reckoning: Reckoning,
+    extensions: Extensions,
     server: Option<Server>,
     counts: Counts,
     /// Where the session is written, if it is.
@@ -93,8 +106,9 @@ impl Server {
             order,
             setup: Some(Connect::with_buffer(order, b"", b"", SETUP)?.0),
             reader: PacketReader::with_buffer(order, PACKET)?,
-            connection: Connection::with_rooms(order, OUTSTANDING, STORE)?,
+            engine: Engine::new(order, OUTSTANDING, STORE)?,
             skip: 0,
+            handed: 0,
         })
     }
 
@@ -138,21 +152,37 @@ impl Server {
         }
     }
 
-    /// Files a packet and takes it back: the engine's number, and whether what came back is that packet.
-    fn file(&mut self, packet: &[u8], truth: Option<u64>) -> Result<(u64, bool), Refusal> {
-        let connection = &mut self.connection;
-        let (place, number) = connection.try_enqueue_packet(packet)?;
+    /// Files a packet and takes it back: the engine's number, and whether what came back is that packet, with
+    /// the next descriptors, so many.
+    fn file(
+        &mut self,
+        packet: &[u8],
+        truth: Option<u64>,
+        count: usize,
+    ) -> Result<(u64, bool), Refusal> {
+        let engine = &mut self.engine;
+        let (place, number) = engine.enqueue_packet(packet)?;
         let back = match place {
             Place::Dropped => return Ok((number, false)),
-            Place::Events => connection.poll_for_event_with_sequence(),
+            Place::Events => {
+                let event = engine.poll_for_event_with_sequence()?;
+                event.map(|(packet, number)| (packet, number, Vec::new()))
+            }
             Place::Replies => {
                 let asked = truth.unwrap_or(number);
-                let back = connection.poll_for_reply_or_error(asked);
-                back.map(|(packet, _)| (packet, asked))
+                let back = engine.poll_for_reply_or_error(asked)?;
+                back.map(|(packet, fds)| (packet, asked, fds))
             }
         };
-        Ok((number, back == Some((packet.to_vec(), number))))
+        let due = numbers(self.handed, count).collect();
+        self.handed += back.as_ref().map_or(0, |back| back.2.len() as u32);
+        Ok((number, back == Some((packet.to_vec(), number, due))))
     }
+}
+
+/// The numbers of so many descriptors behind so many others.
+fn numbers(before: u32, count: usize) -> Range<u32> {
+    before + 1..before + 1 + count as u32
 }
 
 /// Copies as much as fits; how much.
@@ -170,8 +200,8 @@ impl Check {
         while taken < bytes.len() && !(self.requests.between() && self.is_full()) {
             taken += match self.requests.step(&bytes[taken..]) {
                 Step::Bytes(count) => count,
-                Step::Request(count, opcode) => {
-                    self.request(opcode)?;
+                Step::Request(count, opcode, detail) => {
+                    self.request(opcode, detail)?;
                     count
                 }
                 Step::Bad => return Err(Refusal::BadOrder),
@@ -185,7 +215,7 @@ impl Check {
     }
 
     fn is_full(&self) -> bool {
-        let full = |server: &Server| server.connection.engine().outstanding_len() == OUTSTANDING;
+        let full = |server: &Server| server.engine.outstanding_len() == OUTSTANDING;
         self.server.as_ref().is_some_and(full)
     }
 
@@ -196,43 +226,64 @@ impl Check {
         }
     }
 
-    fn request(&mut self, opcode: u8) -> Result<(), Refusal> {
+    fn request(&mut self, opcode: u8, detail: u8) -> Result<(), Refusal> {
         self.reckoning.request(opcode);
         self.counts.requests += 1;
+        let sent = self.reckoning.sent;
+        if opcode == QUERY_EXTENSION {
+            self.extensions.query(sent, &self.requests.name);
+        }
         let answer = answer(opcode);
         self.counts.extensions += u64::from(answer == Answer::Unknown);
         let number = match answer {
             Answer::None => self.without_reply()?,
-            _ => self.with_reply()?,
+            Answer::Unknown if self.extensions.request(sent, opcode, detail) => {
+                self.send(Kind::Fds)?
+            }
+            _ => self.send(Kind::Reply)?,
         };
-        if number != self.reckoning.sent {
-            let sent = self.reckoning.sent;
+        if number != sent {
             self.differs(&format!("request {sent} is {number} to the engine"));
         }
         Ok(())
     }
 
-    fn with_reply(&mut self) -> Result<u64, Refusal> {
-        self.record(|script| script.request(Kind::Reply));
+    /// A request that is never refused for want of a sync.
+    fn send(&mut self, kind: Kind) -> Result<u64, Refusal> {
+        self.record(|script| script.request(kind));
         let server = self.server.as_mut().expect("the order is known");
-        let connection = &mut server.connection;
-        connection.try_send_request(ReplyFdKind::ReplyWithoutFDs)
+        server.engine.send_request(match kind {
+            Kind::Fds => ReplyFdKind::ReplyWithFDs,
+            _ => ReplyFdKind::ReplyWithoutFDs,
+        })
     }
 
     /// Where a sync is due it is told as one with a reply.
     fn without_reply(&mut self) -> Result<u64, Refusal> {
         let server = self.server.as_mut().expect("the order is known");
-        match server.connection.try_send_request(ReplyFdKind::NoReply) {
+        match server.engine.send_request(ReplyFdKind::NoReply) {
             Err(Refusal::SyncFirst) => {
                 self.counts.late += 1;
                 self.record(Script::late);
-                self.with_reply()
+                self.send(Kind::Reply)
             }
             number => {
                 self.record(|script| script.request(Kind::None));
                 number
             }
         }
+    }
+
+    /// So many descriptors of the server came with the bytes that follow.
+    pub fn fds(&mut self, count: usize) -> Result<(), Refusal> {
+        if count == 0 {
+            return Ok(());
+        }
+        let fds: Vec<u32> = numbers(self.counts.fds, count).collect();
+        self.counts.fds += count as u32;
+        self.record(|script| script.fds(&fds));
+        let server = self.server.as_mut().ok_or(Refusal::Incomplete)?;
+        server.engine.enqueue_fds(&fds)
     }
 
     /// Takes bytes of the server, before the client gets them.
@@ -270,7 +321,8 @@ impl Check {
             Truth::Number(number) => Some(number),
             _ => None,
         };
-        let (number, whole) = server.file(packet, known)?;
+        let fds = known.map_or(0, |number| self.extensions.packet(number, packet));
+        let (number, whole) = server.file(packet, known, fds)?;
         self.counts.last = self.counts.last.max(number);
         match truth {
             Truth::Number(truth) if number == truth && whole => {}
@@ -404,6 +456,32 @@ mod test {
         assert_eq!((check.counts.late, check.counts.differences), (1, 0));
     }
 
+    /// A descriptor is asked for once the opcode of its extension is known.
+    #[test]
+    fn descriptors() {
+        let order = ByteOrder::Little;
+        let mut check = open(order);
+        check.client(b"\x62\0\x04\0\x07\0\0\0MIT-SHM.").unwrap();
+        let mut shm = packet(order, 1, 1, 0);
+        (shm[8], shm[9]) = (1, 130);
+        check.server(&shm).unwrap();
+        check.client(b"\x82\x07\x01\0\x82\x07\x01\0").unwrap();
+        for number in [2, 3] {
+            let mut reply = packet(order, 1, number, 0);
+            reply[1] = number as u8;
+            check.fds(number.into()).unwrap();
+            check.server(&reply).unwrap();
+        }
+        let counts = check.counts();
+        assert_eq!((counts.fds, counts.last, counts.differences), (5, 3, 0));
+        let server = check.server.as_ref().unwrap();
+        assert!(server.handed == 5 && server.engine.inside().is_empty());
+        check.client(b"\x82\x07\x01\0").unwrap();
+        let mut reply = packet(order, 1, 4, 0);
+        reply[1] = 1;
+        assert_eq!(check.server(&reply), Err(Refusal::FewDescriptors));
+    }
+
     /// An engine that is led astray, by a packet that is not the server's or by a request that is not the
     /// client's, is found out.
     #[test]
@@ -413,12 +491,12 @@ mod test {
         check.client(&requests(order, 9, NOTHING)).unwrap();
         let stray = packet(order, EVENT, 5, 0);
         let server = check.server.as_mut().unwrap();
-        server.file(&stray, None).unwrap();
+        server.file(&stray, None, 0).unwrap();
         check.server(&packet(order, EVENT, 4, 0)).unwrap();
         assert_eq!((check.counts.last, check.counts.differences), (65_540, 1));
         let mut check = open(order);
         let server = check.server.as_mut().unwrap();
-        server.connection.send_request(ReplyFdKind::NoReply);
+        server.engine.send_request(ReplyFdKind::NoReply).unwrap();
         check.client(&requests(order, 1, NOTHING)).unwrap();
         assert_eq!(check.counts.differences, 1);
     }

@@ -1,5 +1,5 @@
-//! Stands between X clients and their server, passes every byte on unchanged, and checks on the live traffic
-//! that the engine files each packet under its true number.
+//! Stands between X clients and their server, passes every byte and every descriptor on unchanged, and checks on
+//! the live traffic that the engine files each packet under its true number.
 //!
 //! ```text
 //! cargo run --release --example tap -- [--script FILE] COMMAND [ARGUMENT ..]
@@ -11,21 +11,25 @@
 //!
 //! - `requests.rs` cuts the client's bytes into requests;
 //! - `reckoning.rs` says which number a packet truly has, without the engine;
+//! - `extensions.rs` says which requests of extensions have a reply with descriptors;
 //! - `check.rs` tells the engine the same traffic and compares;
+//! - `pass.rs` reads and writes bytes with their descriptors;
 //! - `script.rs` writes the session as a script of `replay` to FILE; of a command that opens several
 //!   connections each has its own: FILE, FILE.2, FILE.3, in the order in which they were opened.
 //!
 //! A client of a server that wants a cookie looks for it under the new display's number; copy it there with
-//! `xauth`. Descriptors are not passed: the standard library has no way to. Clients that share memory or
-//! buffers with the server by descriptors (MIT-SHM with descriptors, DRI3) must do without.
+//! `xauth`. Descriptors go on with the first of the bytes that they were read with: so none comes later than it
+//! would without the tap.
 
 mod check;
 #[allow(dead_code)]
 #[path = "../shared/display.rs"]
 mod display;
+mod extensions;
 #[allow(dead_code)]
 #[path = "../../tests/ours/mod.rs"]
 mod ours;
+mod pass;
 mod reckoning;
 #[allow(dead_code)]
 #[path = "../../tests/replay/mod.rs"]
@@ -36,8 +40,9 @@ mod script;
 #[path = "../shared/wire.rs"]
 mod wire;
 
-use std::io::{self, Read, Write};
+use std::io;
 use std::net::Shutdown;
+use std::os::fd::OwnedFd;
 use std::os::unix::net::{UnixListener, UnixStream};
 use std::path::{Path, PathBuf};
 use std::process::{exit, Command};
@@ -81,10 +86,10 @@ impl Shared {
         None
     }
 
-    /// Whether the server's bytes may be passed on.
-    fn server(&self, bytes: &[u8]) -> bool {
+    /// Whether the server's bytes, with which so many descriptors came, may be passed on.
+    fn server(&self, bytes: &[u8], fds: usize) -> bool {
         let mut state = self.lock();
-        let taken = state.0.server(bytes);
+        let taken = state.0.fds(fds).and_then(|()| state.0.server(bytes));
         if let Err(refusal) = taken {
             state.0.refused(refusal);
         }
@@ -99,40 +104,43 @@ impl Shared {
 }
 
 /// Passes the client's bytes on, each request after it was counted.
-fn pass_requests(mut from: &UnixStream, mut to: &UnixStream, shared: &Shared) -> io::Result<()> {
+fn pass_requests(from: &UnixStream, to: &UnixStream, shared: &Shared) -> io::Result<()> {
     let mut chunk = vec![0; CHUNK];
     loop {
-        let count = from.read(&mut chunk)?;
+        let (count, mut fds) = pass::read(from, &mut chunk)?;
         if count == 0 {
             return Ok(());
         }
         let mut rest = &chunk[..count];
         while !rest.is_empty() {
             let taken = shared.client(rest).ok_or(io::ErrorKind::Other)?;
-            to.write_all(&rest[..taken])?;
+            pass::write(to, &rest[..taken], &std::mem::take(&mut fds))?;
             rest = &rest[taken..];
         }
     }
 }
 
+/// Bytes, and the descriptors that came with them.
+type Piece = (Vec<u8>, Vec<OwnedFd>);
+
 /// Passes the server's bytes on, each packet after it was compared. A client that is gone ends nothing:
 /// what the server still sends is compared too.
-fn pass_packets(mut from: &UnixStream, to: Sender<Vec<u8>>, shared: &Shared) -> io::Result<()> {
+fn pass_packets(from: &UnixStream, to: Sender<Piece>, shared: &Shared) -> io::Result<()> {
     let mut chunk = vec![0; CHUNK];
     loop {
-        let count = from.read(&mut chunk)?;
-        if count == 0 || !shared.server(&chunk[..count]) {
+        let (count, fds) = pass::read(from, &mut chunk)?;
+        if count == 0 || !shared.server(&chunk[..count], fds.len()) {
             return Ok(());
         }
-        let _ = to.send(chunk[..count].to_vec());
+        let _ = to.send((chunk[..count].to_vec(), fds));
     }
 }
 
 /// Hands the client its bytes. They queue up while it does not read, as they would in the server, so that
 /// packets go on making room.
-fn hand_out(from: Receiver<Vec<u8>>, mut to: &UnixStream) -> io::Result<()> {
-    for bytes in from {
-        to.write_all(&bytes)?;
+fn hand_out(from: Receiver<Piece>, to: &UnixStream) -> io::Result<()> {
+    for (bytes, fds) in from {
+        pass::write(to, &bytes, &fds)?;
     }
     Ok(())
 }

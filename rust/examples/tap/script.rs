@@ -125,6 +125,13 @@ impl Script {
         self.command("send none");
     }
 
+    /// Descriptors of the server, before the bytes that they came with.
+    pub fn fds(&mut self, fds: &[u32]) {
+        self.flush();
+        let words: Vec<String> = fds.iter().map(u32::to_string).collect();
+        self.command(&format!("fds {}", words.join(" ")));
+    }
+
     /// Bytes of the server, no further than to the end of a packet.
     pub fn server(&mut self, bytes: &[u8], part: &Part) {
         match part {
@@ -331,6 +338,35 @@ mod test {
                    sendall feedin poll_event feedin poll_event poll_reply_or_error send state";
         assert_eq!(names(&lines).join(" "), due);
         assert!(lines.contains(&"poll_reply_or_error 4"));
+    }
+
+    #[test]
+    fn descriptors() {
+        let script = written("descriptors", |check| {
+            check.server(&setup(1)).unwrap();
+            check
+                .client(b"\x62\0\x03\0\x04\0\0\0DRI3\x7f\0\x01\0")
+                .unwrap();
+            let (mut dri3, mut buffers) = (packet(1, 1, 0), packet(1, 3, 0));
+            dri3[8..10].copy_from_slice(&[1, 149]);
+            check.server(&dri3).unwrap();
+            check.client(b"\x95\x08\x01\0").unwrap();
+            buffers[1] = 2;
+            check.fds(2).unwrap();
+            check.server(&buffers[..9]).unwrap();
+            check.fds(1).unwrap();
+            check.server(&buffers[9..]).unwrap();
+            assert_eq!(check.counts().differences, 0);
+        });
+        let lines = commands(&script);
+        let due =
+            "sendall feedin poll_reply_or_error send fds feedin fds feedin poll_reply_or_error";
+        assert_eq!(names(&lines[8..lines.len() - 1]).join(" "), due);
+        assert_eq!(
+            [lines[11], lines[12], lines[14]],
+            ["send fds", "fds 1 2", "fds 3"]
+        );
+        assert!(script.contains("a5 fds 1 2\n"));
     }
 
     /// A client that sends no sync, and one that the server does not let in.

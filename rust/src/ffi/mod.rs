@@ -41,12 +41,17 @@ pub(crate) fn version() -> u32 {
     unsafe { crate::exports::xm_version() }
 }
 
-#[inline]
+#[inline(always)]
 fn answer(code: u32) -> Result<(), Refusal> {
-    match code {
-        0 => Ok(()),
-        n => Err(Refusal::from_number(n).expect("the number of a refusal")),
+    if code == 0 {
+        return Ok(());
     }
+    Err(refusal(code))
+}
+
+#[cold]
+fn refusal(code: u32) -> Refusal {
+    Refusal::from_number(code).expect("the number of a refusal")
 }
 
 /// An export that says where a part of a buffer stands.
