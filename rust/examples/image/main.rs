@@ -16,8 +16,9 @@ mod display;
 mod wire;
 
 use std::io;
+use std::process::ExitCode;
 
-use display::{socket_path, Display};
+use display::{display_name, ended, socket_path, Display};
 use wire::{get16, get32};
 use xiengmado::ByteOrder;
 
@@ -78,9 +79,9 @@ fn compare(image: &[u8], order: ByteOrder, width: u16) {
     }
 }
 
-fn main() -> io::Result<()> {
-    let name = std::env::var("DISPLAY").map_err(io::Error::other)?;
-    let (mut display, setup, bytes) = Display::open(&socket_path(&name), ORDER, (b"", b""))?;
+fn run() -> io::Result<()> {
+    let path = socket_path(&display_name()?);
+    let (mut display, setup, bytes) = Display::open(&path, ORDER, (b"", b""))?;
     let (root, width, height) = root(&bytes);
     draw(&mut display, setup.resource_id_base, root, width, height)?;
     let request = display.request(GET_IMAGE, Z_PIXMAP).card32(root);
@@ -104,4 +105,8 @@ fn main() -> io::Result<()> {
         "{picture}: GetImage of {width} x {height} has {length} bytes, each row as it was drawn"
     );
     Ok(())
+}
+
+fn main() -> ExitCode {
+    ended("image", run())
 }

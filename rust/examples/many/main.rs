@@ -21,7 +21,9 @@ mod wire;
 use std::collections::VecDeque;
 use std::io::{self, Read, Write};
 use std::os::unix::net::UnixStream;
+use std::process::{exit, ExitCode};
 
+use display::{display_name, ended, open_socket, socket_path};
 use xiengmado::connect::Connect;
 use xiengmado::connection::{Connection, PollReply, ReplyFdKind};
 use xiengmado::packet_reader::PacketReader;
@@ -50,7 +52,7 @@ struct Client {
 
 /// Connects, without authorization.
 fn connect(path: &str) -> io::Result<Client> {
-    let mut stream = UnixStream::connect(path)?;
+    let mut stream = open_socket(path)?;
     let (mut connect, request) = Connect::with_authorization(Vec::new(), Vec::new());
     stream.write_all(&request)?;
     loop {
@@ -183,19 +185,11 @@ impl Client {
     }
 }
 
-fn main() -> io::Result<()> {
-    let words: Vec<String> = std::env::args().skip(1).collect();
-    let usage = || io::Error::other("usage: many sync|try COUNT");
-    let [way, count] = words.as_slice() else {
-        return Err(usage());
-    };
-    let count: u64 = count.parse().map_err(io::Error::other)?;
-    let name = std::env::var("DISPLAY").map_err(io::Error::other)?;
-    let mut client = connect(&display::socket_path(&name))?;
-    match way.as_str() {
+fn run(way: &str, count: u64) -> io::Result<()> {
+    let mut client = connect(&socket_path(&display_name()?))?;
+    match way {
         "sync" => (0..count).try_for_each(|_| client.send())?,
-        "try" => client.try_all(count)?,
-        _ => return Err(usage()),
+        _ => client.try_all(count)?,
     }
     client.sync()?;
     println!(
@@ -203,4 +197,20 @@ fn main() -> io::Result<()> {
         client.requests, client.syncs, client.full, client.most, client.packets
     );
     Ok(())
+}
+
+/// The two words: which way, and how many.
+fn arguments() -> Option<(String, u64)> {
+    let mut words = std::env::args().skip(1);
+    let way = words.next().filter(|way| way == "sync" || way == "try")?;
+    let count = words.next()?.parse().ok()?;
+    words.next().is_none().then_some((way, count))
+}
+
+fn main() -> ExitCode {
+    let Some((way, count)) = arguments() else {
+        eprintln!("usage: many WAY COUNT, the way sync or try, so many requests to $DISPLAY");
+        exit(2);
+    };
+    ended("many", run(&way, count))
 }
