@@ -450,10 +450,11 @@ enum xm_refusal xm_enqueue_fds(uint64_t *state, size_t state_len, const uint8_t 
                                size_t list_len);
 
 /*
- * A packet came: where it was filed, and under which number. At 4 hand in the descriptors that came with
- * its bytes, at 5 poll or discard what is held, and then offer it again. Only its first 32 bytes are
- * looked at, so that a packet of over 65,536 bytes can be taken in by those alone (docs/LIMITS.md).
- * Refused by 9, 1, 2, 3, 4, 5.
+ * A packet came: where it was filed, and under which number. A KeymapNotify (code 11, or 139 by SendEvent)
+ * has key bits where others have their number, and gets the last one read. At 4 hand in the descriptors
+ * that came with its bytes, at 5 poll or discard what is held, and then offer it again. Only its first 32
+ * bytes are looked at, so that a packet of over 65,536 bytes can be taken in by those alone
+ * (docs/LIMITS.md). Refused by 9, 1, 2, 3, 4, 5.
  */
 enum xm_refusal xm_enqueue_packet(uint64_t *state, size_t state_len, const uint8_t *requests,
                                   size_t requests_len, uint8_t *store, size_t store_len,

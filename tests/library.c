@@ -1,5 +1,5 @@
 /* The header and the static library from C: names and version, a request, its reply with a descriptor, many at once, a reader, a savepoint, an
- * unsound state, a full room, long packets; and the bytes of setup and XC-MISC, which no field of is like another, in both byte orders. */
+ * unsound state, a full room, long packets, events without a number; and the bytes of setup and XC-MISC, which no field of is like another, in both byte orders. */
 #include <stdio.h>
 #include <string.h>
 
@@ -322,6 +322,31 @@ static void given_ids(void) {
     expect("two ids in 39 bytes", xm_xc_misc_get_xid_list_reply(XM_BIG, reply, 39, ids, 3, &number, &length, &count), XM_BAD_CONTENT);
 }
 
+/* A KeymapNotify has key bits in the place of its number: of either code it gets the last read, and moves no number. */
+static void keymaps(void) {
+    uint8_t run[128] = {2, 0, 0, 7}, place = 9;
+    uint64_t number = 9, marks[8] = {0};
+    const uint64_t due[8] = {7, 32, 7, 32, 7, 32, 8, 32};
+    size_t size = 9, count = 9;
+    uint32_t stop = 9;
+    memset(run + 32, 255, 64);
+    run[32] = 11;
+    run[64] = 139;
+    run[67] = 5;
+    run[96] = 140;
+    run[99] = 8;
+    expect("new", xm_connection_new(XM_STATE(&rooms), XM_BIG, XM_ROOMS(&rooms)), XM_DONE);
+    expect("run", xm_enqueue_packets(CONNECTION, run, sizeof run, &size, &count, &stop), XM_DONE);
+    expect("packets", count, 4);
+    expect("events", xm_poll_for_events(CONNECTION, out, sizeof out, marks, 8, &count, &size, &stop), XM_DONE);
+    expect("numbers", (unsigned)memcmp(marks, due, sizeof due), 0);
+    expect("alone", xm_enqueue_packet(CONNECTION, run + 64, 32, &place, &number), XM_DONE);
+    expect("its number", number, 8);
+    expect("its place", place, XM_EVENTS);
+    expect("next reply expected", state[XM_STATE_EXPECTED], 8);
+    expect("last read", state[XM_STATE_READ], 8);
+}
+
 int main(void) {
     named();
     asked();
@@ -334,6 +359,7 @@ int main(void) {
     unsound();
     filled();
     long_packets();
+    keymaps();
     opened();
     asked_for_ids();
     given_ids();

@@ -166,6 +166,9 @@ impl Connection {
 
     /// A packet was received, of any length.
     ///
+    /// A KeymapNotify carries no number and gets the last one read, also where SendEvent made it (code 139), which
+    /// the original numbers by its key bits.
+    ///
     /// Of one over 65,536 bytes the engine takes the first 32. The packet is kept beside the engine until these
     /// are handed out, discarded or dropped.
     ///
@@ -394,6 +397,21 @@ mod test {
         let mut bytes = [&[kind, 0], &number[..], &fours_at[..]].concat();
         bytes.resize(32 + 4 * fours as usize, 7);
         bytes
+    }
+
+    #[test]
+    fn a_keymap_notify_has_the_last_number() {
+        let mut c = Connection::new();
+        let run = [(2, 7), (11, 3), (139, 9), (140, 8)].map(|(kind, bits)| packet(kind, 255, bits));
+        run.iter().for_each(|p| c.enqueue_packet(p.clone()));
+        let fed = c.engine.enqueue_packets(&run[2..].concat()).unwrap();
+        assert_eq!(fed.packets, 2);
+        let events = std::iter::from_fn(|| c.poll_for_event_with_sequence());
+        let found: Vec<_> = events.map(|(bytes, number)| (bytes[0], number)).collect();
+        assert_eq!(
+            found,
+            [(2, 7), (11, 7), (139, 7), (140, 8), (139, 8), (140, 8)]
+        );
     }
 
     #[test]

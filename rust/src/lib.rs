@@ -9,6 +9,8 @@
 //! - Where the original grows, panics or asks that the caller behave, the engine refuses by number
 //!   ([`Refusal`]) and changes nothing. A call whose signature has no place for that panics; the
 //!   `try_` call beside it answers the refusal instead.
+//! - A KeymapNotify that SendEvent made (code 139) carries no number, as one of the server's; the original
+//!   takes its key bits for one.
 //!
 //! [`engine::Engine`] is the connection without those habits: every call answers its refusal,
 //! descriptors are opaque numbers, and everything that is held can be looked at.

@@ -33,9 +33,9 @@ asked = sent true ∷ sent false ∷ sent true ∷ []
 
 -- what is noted: nothing of a refusal, nor of a packet that carries no number
 pub notes : (noteSent {A = ℕ} true (gives 7) asked ≡ sent true ∷ asked) × (noteSent {A = ℕ} true (refuses 5) asked ≡ asked) × (noteTook {A = ℕ} 5 (bearing 2 4 0) (gives (record { place = Place.Events; number = 4 }, 7)) asked ≡ took 5 (bearing 2 4 0) (record { place = Place.Events; number = 4 }) ∷ asked)
-    × (noteTook {A = ℕ} 5 (bearing 11 4 0) (gives (record { place = Place.Events; number = 4 }, 7)) asked ≡ asked) × (noteTook {A = ℕ} 5 (bearing 2 4 0) (refuses 5) asked ≡ asked)
-unfolding noteSent noteTook unnumbered choose
-notes = (refl, refl, refl, refl, refl)
+    × (noteTook {A = ℕ} 5 (bearing 11 4 0) (gives (record { place = Place.Events; number = 4 }, 7)) asked ≡ asked) × (noteTook {A = ℕ} 5 (bearing 139 4 0) (gives (record { place = Place.Events; number = 4 }, 7)) asked ≡ asked) × (noteTook {A = ℕ} 5 (bearing 2 4 0) (refuses 5) asked ≡ asked)
+unfolding noteSent noteTook unnumbered choose either
+notes = (refl, refl, refl, refl, refl, refl)
 
 pub counts : (sends (came 1 1 ∷ asked) ≡ 3) × (numbersAsked (came 1 1 ∷ asked) ≡ 3 ∷ 1 ∷ []) × (numbersHeard (came 2 8 ∷ came 1 9 ∷ asked) ≡ 2 ∷ 1 ∷ [])
 unfolding numbersAsked numbersHeard
@@ -84,9 +84,9 @@ abbrev packet : ℕ → List ℕ → Packet
 packet t p = record { true-number = t; bytes = p }
 
 -- of its packets those that carry a number, and those of a log in the order in which they came
-pub packets : (carrying (packet 4 (bearing 2 4 0) ∷ packet 5 (bearing 11 5 0) ∷ packet 6 (bearing 139 6 0) ∷ []) ≡ packet 4 (bearing 2 4 0) ∷ packet 6 (bearing 139 6 0) ∷ [])
+pub packets : (carrying (packet 4 (bearing 2 4 0) ∷ packet 5 (bearing 11 5 0) ∷ packet 6 (bearing 139 6 0) ∷ packet 7 (bearing 140 7 0) ∷ []) ≡ packet 4 (bearing 2 4 0) ∷ packet 7 (bearing 140 7 0) ∷ [])
     × (packetsIn (came 4 8 ∷ sent true ∷ came 3 9 ∷ []) ≡ packet 3 (bearing 2 3 0) ∷ packet 4 (bearing 2 4 0) ∷ [])
-unfolding carrying packetsIn unnumbered choose
+unfolding carrying packetsIn unnumbered choose either
 packets = (refl, refl)
 
 -- ---- records that are followed
@@ -99,9 +99,9 @@ abbrev follow : ℕ → List ℕ → ℕ → Followed
 follow n p k = record { held = heldPacket n p (6 ∷ []); origin = k }
 
 -- each is tied to its own packet, and not to the other; one that carries no number is asked for none
-pub ties : Tied twins (follow 65540 (bearing 1 4 0) 1) × Tied twins (follow 4 (bearing 1 4 0) 0) × (Tied twins (follow 65540 (bearing 1 4 0) 0) → ⊥) × (Tied twins (follow 4 (bearing 1 4 0) 2) → ⊥) × Tied twins (follow 4 (bearing 11 4 0) 9)
-unfolding unnumbered
-ties = (λ e. refl, λ e. refl, λ t. omega (arith, ap (λ (p : Packet). p .true-number) (t refl)), λ t. t refl, λ e. apart refl e)
+pub ties : Tied twins (follow 65540 (bearing 1 4 0) 1) × Tied twins (follow 4 (bearing 1 4 0) 0) × (Tied twins (follow 65540 (bearing 1 4 0) 0) → ⊥) × (Tied twins (follow 4 (bearing 1 4 0) 2) → ⊥) × Tied twins (follow 4 (bearing 11 4 0) 9) × Tied twins (follow 4 (bearing 139 4 0) 9)
+unfolding unnumbered either
+ties = (λ e. refl, λ e. refl, λ t. omega (arith, ap (λ (p : Packet). p .true-number) (t refl)), λ t. t refl, λ e. apart refl e, λ e. apart refl e)
 
 -- of three replies the second moves behind the events and keeps its packet, and the third goes; of the events the first goes
 abbrev before : Lists

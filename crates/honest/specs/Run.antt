@@ -71,7 +71,7 @@ Heard [] q = ⊥
 Heard (sent has-reply ∷ l) q = Heard l q
 Heard (took t p f ∷ l) q = (q ≡ t) ⊎ Heard l q
 
--- The four premises, on a packet p with the true number t that comes after l on a connection of byte order o. It carries "the low 16 bits of its true number";
+-- The four premises, on a packet p with the true number t that comes after l on a connection of byte order o, of any code but 11 and 139, which carry no number. It carries "the low 16 bits of its true number";
 abbrev pub Wire : ℕ → ℕ → List ℕ → Type 0
 Wire o t p = wireOf o p ≡ t % wireValues
 

@@ -53,7 +53,7 @@ abbrev pub First : ℕ → List Packet → Type 0
 First q [] = Unit {0}
 First q (p ∷ l) = (p .true-number ≡ q) ⊎ ((p .true-number ≤ q) × First q l)
 
--- "Let each packet but code 11 carry the low 16 bits of its true number; let true numbers never fall nor pass the requests sent by then; and let each request with a reply have a numbered packet of its own number before any of a greater."
+-- "Let each packet but code 11" and, by 02, M-101, but code 139 "carry the low 16 bits of its true number; let true numbers never fall nor pass the requests sent by then; and let each request with a reply have a numbered packet of its own number before any of a greater."
 pub record HonestServer (o : ℕ) (all : List Packet) (l : List Entry) : Type 0 where
   pub wire : Each (λ (p : Packet). Wire o (p .true-number) (p .bytes)) (carrying all)
   pub rising : Rising (carrying all)

@@ -1,4 +1,4 @@
--- There are runs with an honest server: one with each call, and an event, a KeymapNotify, an error and replies that are held, have a descriptor or are dropped; runs of any length; and one that is both, past 65,536. Assumes nothing.
+-- There are runs with an honest server: one with each call, and an event, a KeymapNotify of either code, an error and replies that are held, have a descriptor or are dropped; runs of any length; and one that is both, past 65,536. Assumes nothing.
 use mathlib.Core.Bool.{Bool, true, false}
 use mathlib.Core.List.{List, [], _∷_, _++_}
 use mathlib.Core.Logic.{inl, inr, ⊎-elim}
@@ -10,7 +10,7 @@ use lib.ListN.{length, length-append}
 use lib.Seq.{drop-at}
 use native.Mathlib.Numerals.{add-one}
 use borrow.Author.Tests.{lt-leb, le-ltb, eq-eqb}
-use Rattle.octets.specs.Logic.{choose, both}
+use Rattle.octets.specs.Logic.{choose, both, either}
 use Rattle.octets.specs.Bytes.{bytesOf, lowBytes, turned}
 use Rattle.refusal.specs.Answer.{gives, refuse, pass}
 use Rattle.sequence.specs.Numbering.{lastNumber, wireValues}
@@ -25,7 +25,7 @@ use Rattle.model.specs.declared.ReplyFdKind.the-variants.{NoReply, ReplyWithout
 use Rattle.model.specs.declared.DiscardMode.the-variants.{DiscardReply}
 use Rattle.model.specs.declared.Place.{Place}
 use Rattle.model.specs.declared.Place.the-variants.{Replies, Events, Dropped}
-use Rattle.honest.specs.Run.{Entry, sent, took, noted, Runs, start, call, sends, WithReply, Heard, Fair, Honest}
+use Rattle.honest.specs.Run.{Entry, sent, took, noted, Runs, start, call, sends, WithReply, Heard, Wire, Fair, Honest}
 use Rattle.honest.specs.Computing.{computing, packetOf, send-to, packet-to, poll-to}
 use Rattle.honest.specs.Server.{Packet, carrying, HonestServer}
 use Rattle.honest.specs.Theorems.{next-number}
@@ -60,16 +60,21 @@ brings t p = record { call = enqueue p; true-number = t }
 abbrev heldAt : ℕ → List ℕ → List ℕ → Said
 heldAt n p fds = Calls.took (heldPacket n p fds)
 
--- Four requests; an event and a KeymapNotify fill the store; a reply is refused, an event is polled, and the reply is offered again; then an error, a reply with a descriptor, one that is discarded, and an event that is refused once.
+-- Four requests; an event and a KeymapNotify fill the store; a reply is refused, an event is polled, and the reply is offered again; then an error, a KeymapNotify that SendEvent made, a reply with a descriptor, one that is discarded, and an event that is refused once.
 abbrev moves : List Move
-moves = does (send ReplyWithoutFds) ∷ does (send NoReply) ∷ does (send ReplyWithFds) ∷ does (send ReplyWithoutFds) ∷ does (enqueue-fds (7 ∷ [])) ∷ does (discard 4 DiscardReply) ∷ brings 0 (packetOf 2 0 0) ∷ does (enqueue (packetOf 11 255 65535)) ∷ brings 1 (packetOf 1 0 1) ∷ does (poll-event 32) ∷ brings 1 (packetOf 1 0 1) ∷ does (poll-event 32) ∷ brings 2 (packetOf 0 3 2) ∷ does (poll 1 32 0) ∷ does (poll-reply 2 0) ∷ brings 3 (packetOf 1 1 3) ∷ brings 4 (packetOf 1 0 4) ∷ brings 4 (packetOf 2 0 4) ∷ does (poll-event 32) ∷ brings 4 (packetOf 2 0 4) ∷ does (check 3 32) ∷ does (take-closed 1) ∷ does (prepare 4) ∷ []
+moves = does (send ReplyWithoutFds) ∷ does (send NoReply) ∷ does (send ReplyWithFds) ∷ does (send ReplyWithoutFds) ∷ does (enqueue-fds (7 ∷ [])) ∷ does (discard 4 DiscardReply) ∷ brings 0 (packetOf 2 0 0) ∷ does (enqueue (packetOf 11 255 65535)) ∷ brings 1 (packetOf 1 0 1) ∷ does (poll-event 32) ∷ brings 1 (packetOf 1 0 1) ∷ does (poll-event 32) ∷ brings 2 (packetOf 0 3 2) ∷ does (poll 1 32 0) ∷ does (enqueue (packetOf 139 254 1)) ∷ does (poll-event 32) ∷ does (poll-reply 2 0) ∷ brings 3 (packetOf 1 1 3) ∷ brings 4 (packetOf 1 0 4) ∷ brings 4 (packetOf 2 0 4) ∷ does (poll-event 32) ∷ brings 4 (packetOf 2 0 4) ∷ does (check 3 32) ∷ does (take-closed 1) ∷ does (prepare 4) ∷ []
 
 abbrev says : List Said
-says = number 1 ∷ number 2 ∷ number 3 ∷ number 4 ∷ done ∷ done ∷ filed Events 0 ∷ filed Events 0 ∷ refused 5 ∷ heldAt 0 (packetOf 2 0 0) [] ∷ filed Replies 1 ∷ heldAt 0 (packetOf 11 255 65535) [] ∷ filed Replies 2 ∷ heldAt 1 (packetOf 1 0 1) [] ∷ absent ∷ filed Replies 3 ∷ filed Dropped 4 ∷ refused 5 ∷ heldAt 2 (packetOf 0 3 2) [] ∷ filed Events 4 ∷ heldAt 3 (packetOf 1 1 3) (7 ∷ []) ∷ closed (7 ∷ []) ∷ answer false ∷ []
+says = number 1 ∷ number 2 ∷ number 3 ∷ number 4 ∷ done ∷ done ∷ filed Events 0 ∷ filed Events 0 ∷ refused 5 ∷ heldAt 0 (packetOf 2 0 0) [] ∷ filed Replies 1 ∷ heldAt 0 (packetOf 11 255 65535) [] ∷ filed Replies 2 ∷ heldAt 1 (packetOf 1 0 1) [] ∷ filed Events 2 ∷ heldAt 2 (packetOf 139 254 1) [] ∷ absent ∷ filed Replies 3 ∷ filed Dropped 4 ∷ refused 5 ∷ heldAt 2 (packetOf 0 3 2) [] ∷ filed Events 4 ∷ heldAt 3 (packetOf 1 1 3) (7 ∷ []) ∷ closed (7 ∷ []) ∷ answer false ∷ []
 
 pub witness-says : run (fresh 108 4 100) (made moves) .said ≡ says
 unfolding computing
 witness-says = refl
+
+-- The key bits of the sent KeymapNotify are the number of no request that the server could mean, from the last that it answered, 2, up to the last that was sent, 4; nor, past 65,536, of one from 65,538 up to 65,540: were they a number, the server would not be honest.
+pub keyed : (t : ℕ) → Wire 108 t (packetOf 139 254 1) → (2 ≤ t → t ≤ 4 → ⊥) × (65538 ≤ t → t ≤ 65540 → ⊥)
+unfolding computing
+keyed t w = (λ from most. omega (arith, w), λ from most. omega (arith, w))
 
 pub witness-run : Runs (run (fresh 108 4 100) (made moves) .end) (logged (fresh 108 4 100) [] moves)
 witness-run = moves-run moves (fresh 108 4 100) [] (start 108 4 100)
@@ -146,7 +151,7 @@ module _ (n : ℕ) (rest : List Request) (short : length rest ≤ 1) (fewer : le
       rw (le-ltb (n + 1) (n + 1 + 1 - length (rest ++ (last ∷ []))) h, way, drop-at rest (last ∷ []) (length rest) refl)
 
   take-one : packetNumber (sentOne n rest) (replyTo (n + 1)) ≡ gives (n + 1) → enqueuePacket (sentOne n rest) (replyTo (n + 1)) ≡ gives (inReplies (n + 1), tookOne (n + 1))
-  unfolding enqueuePacket pass refuse bytesOf turned lowBytes choose Model.takeIn Model.decide Model.decideBy Model.placeOf Model.claimed both costs Model.numbered unnumbered
+  unfolding enqueuePacket pass refuse bytesOf turned lowBytes choose Model.takeIn Model.decide Model.decideBy Model.placeOf Model.claimed both either costs Model.numbered unnumbered
   take-one e =
       let m : max (n + 1) (n + 1) ≡ n + 1 = omega arith in
       rw (e, asked-one, way, drop-at rest (last ∷ []) (length rest) refl, m)
@@ -161,7 +166,7 @@ unfolding computing
 reply-wire t = omega arith
 
 rounds-sends : (n : ℕ) → sends (rounds n) ≡ n
-unfolding rounds unnumbered
+unfolding rounds unnumbered either
 rounds-sends zero = refl
 rounds-sends (suc n) = add-one _ ∙ ap suc (rounds-sends n)
 
@@ -187,7 +192,7 @@ rounds-fair n =
     }
 
 pub rounds-honest : (n : ℕ) → Honest 108 (rounds n)
-unfolding rounds unnumbered
+unfolding rounds unnumbered either
 rounds-honest zero = tt
 rounds-honest (suc n) = (rounds-fair n, rounds-honest n)
 
@@ -199,7 +204,7 @@ pub record Through (n : ℕ) : Type 0 where
   pub run : Runs (between n rest) (rounds n)
 
 round : (n : ℕ) → n < lastNumber → Through n → Through (suc n)
-unfolding rounds unnumbered
+unfolding rounds unnumbered either
 round n h k =
     let fair : Fair 108 (sent true ∷ rounds n) (n + 1) (replyTo (n + 1)) = rw add-one (rounds-fair n) in
     let asks = send-to ReplyWithoutFds (n + 1) (sentOne n (k .rest)) (send-one n (k .rest) (k .short) (k .fewer) h) (k .run) in
@@ -226,10 +231,10 @@ far-run = round 65535 (omega arith) (any-length 65535 (omega arith)) .run
 
 -- the moves of the first run again: their wire numbers are the same, their true numbers 65,536 greater
 abbrev farMoves : List Move
-farMoves = does (send ReplyWithoutFds) ∷ does (send NoReply) ∷ does (send ReplyWithFds) ∷ does (send ReplyWithoutFds) ∷ does (enqueue-fds (7 ∷ [])) ∷ does (discard 65540 DiscardReply) ∷ brings 65536 (packetOf 2 0 0) ∷ does (enqueue (packetOf 11 255 65535)) ∷ brings 65537 (packetOf 1 0 1) ∷ does (poll-event 32) ∷ brings 65537 (packetOf 1 0 1) ∷ does (poll-event 32) ∷ brings 65538 (packetOf 0 3 2) ∷ does (poll 65537 32 0) ∷ does (poll-reply 65538 0) ∷ brings 65539 (packetOf 1 1 3) ∷ brings 65540 (packetOf 1 0 4) ∷ brings 65540 (packetOf 2 0 4) ∷ does (poll-event 32) ∷ brings 65540 (packetOf 2 0 4) ∷ does (check 65539 32) ∷ does (take-closed 1) ∷ does (prepare 65540) ∷ []
+farMoves = does (send ReplyWithoutFds) ∷ does (send NoReply) ∷ does (send ReplyWithFds) ∷ does (send ReplyWithoutFds) ∷ does (enqueue-fds (7 ∷ [])) ∷ does (discard 65540 DiscardReply) ∷ brings 65536 (packetOf 2 0 0) ∷ does (enqueue (packetOf 11 255 65535)) ∷ brings 65537 (packetOf 1 0 1) ∷ does (poll-event 32) ∷ brings 65537 (packetOf 1 0 1) ∷ does (poll-event 32) ∷ brings 65538 (packetOf 0 3 2) ∷ does (poll 65537 32 0) ∷ does (enqueue (packetOf 139 254 1)) ∷ does (poll-event 32) ∷ does (poll-reply 65538 0) ∷ brings 65539 (packetOf 1 1 3) ∷ brings 65540 (packetOf 1 0 4) ∷ brings 65540 (packetOf 2 0 4) ∷ does (poll-event 32) ∷ brings 65540 (packetOf 2 0 4) ∷ does (check 65539 32) ∷ does (take-closed 1) ∷ does (prepare 65540) ∷ []
 
 abbrev farSays : List Said
-farSays = number 65537 ∷ number 65538 ∷ number 65539 ∷ number 65540 ∷ done ∷ done ∷ filed Events 65536 ∷ filed Events 65536 ∷ refused 5 ∷ heldAt 65536 (packetOf 2 0 0) [] ∷ filed Replies 65537 ∷ heldAt 65536 (packetOf 11 255 65535) [] ∷ filed Replies 65538 ∷ heldAt 65537 (packetOf 1 0 1) [] ∷ absent ∷ filed Replies 65539 ∷ filed Dropped 65540 ∷ refused 5 ∷ heldAt 65538 (packetOf 0 3 2) [] ∷ filed Events 65540 ∷ heldAt 65539 (packetOf 1 1 3) (7 ∷ []) ∷ closed (7 ∷ []) ∷ answer false ∷ []
+farSays = number 65537 ∷ number 65538 ∷ number 65539 ∷ number 65540 ∷ done ∷ done ∷ filed Events 65536 ∷ filed Events 65536 ∷ refused 5 ∷ heldAt 65536 (packetOf 2 0 0) [] ∷ filed Replies 65537 ∷ heldAt 65536 (packetOf 11 255 65535) [] ∷ filed Replies 65538 ∷ heldAt 65537 (packetOf 1 0 1) [] ∷ filed Events 65538 ∷ heldAt 65538 (packetOf 139 254 1) [] ∷ absent ∷ filed Replies 65539 ∷ filed Dropped 65540 ∷ refused 5 ∷ heldAt 65538 (packetOf 0 3 2) [] ∷ filed Events 65540 ∷ heldAt 65539 (packetOf 1 1 3) (7 ∷ []) ∷ closed (7 ∷ []) ∷ answer false ∷ []
 
 pub far-says : run far (made farMoves) .said ≡ farSays
 unfolding computing

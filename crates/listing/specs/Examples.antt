@@ -23,15 +23,16 @@ decimals = (refl, refl, refl, refl, refl)
 abbrev head : ℕ → ℕ → ℕ → ℕ → List ℕ
 head code a b units = code ∷ 7 ∷ a ∷ b ∷ units ∷ 0 ∷ 0 ∷ 0 ∷ replicate 24 9
 
--- an event of number 65,535; a reply of 36 bytes with 2, which is 65,538 then; one of code 11 with any bytes; one of code 139 with 1, a round later; five bytes left over
+-- an event of number 65,535; a reply of 36 bytes with 2, which is 65,538 then; one of code 11 and one of code 139, with any bytes; one of code 140 with 1, a round later; five bytes left over
 abbrev stream : List ℕ
-stream = head 28 255 255 3 ++ (head 1 2 0 1 ++ (4 ∷ 5 ∷ 6 ∷ 8 ∷ (head 11 77 78 79 ++ (head 139 1 0 6 ++ (1 ∷ 2 ∷ 3 ∷ 4 ∷ 5 ∷ [])))))
+stream = head 28 255 255 3 ++ (head 1 2 0 1 ++ (4 ∷ 5 ∷ 6 ∷ 8 ∷ (head 11 77 78 79 ++ (head 139 80 81 82 ++ (head 140 1 0 6 ++ (1 ∷ 2 ∷ 3 ∷ 4 ∷ 5 ∷ []))))))
 
 pub stream-text : textOf stream ≡ firstLine
     ++ (50 ∷ 56 ∷ 32 ∷ 51 ∷ 50 ∷ 32 ∷ 54 ∷ 53 ∷ 53 ∷ 51 ∷ 53 ∷ 10
     ∷ 49 ∷ 32 ∷ 51 ∷ 54 ∷ 32 ∷ 54 ∷ 53 ∷ 53 ∷ 51 ∷ 56 ∷ 10
     ∷ 49 ∷ 49 ∷ 32 ∷ 51 ∷ 50 ∷ 32 ∷ 54 ∷ 53 ∷ 53 ∷ 51 ∷ 56 ∷ 10
-    ∷ 49 ∷ 51 ∷ 57 ∷ 32 ∷ 51 ∷ 50 ∷ 32 ∷ 49 ∷ 51 ∷ 49 ∷ 48 ∷ 55 ∷ 51 ∷ 10
+    ∷ 49 ∷ 51 ∷ 57 ∷ 32 ∷ 51 ∷ 50 ∷ 32 ∷ 54 ∷ 53 ∷ 53 ∷ 51 ∷ 56 ∷ 10
+    ∷ 49 ∷ 52 ∷ 48 ∷ 32 ∷ 51 ∷ 50 ∷ 32 ∷ 49 ∷ 51 ∷ 49 ∷ 48 ∷ 55 ∷ 51 ∷ 10
     ∷ 101 ∷ 110 ∷ 100 ∷ 32 ∷ 53 ∷ 10 ∷ [])
 unfolding textOf linesOf packetLines numbered lastLine lineOf item endLine decimal digitsIn cutPackets cuts aim totalOf total hasLength unnumbered numberAfter inRange full refuse field numberIn lowNumber cut turned choose either
 stream-text = refl

@@ -98,12 +98,12 @@ row6 = record {
   said = number 1 ∷ number 2 ∷ done ∷ filed Replies 1 ∷ filed Events 2 ∷ filed Events 3 ∷ took (heldPacket 2 (pk 0 0 2) []) ∷ took (heldPacket 3 (pk 0 0 3) []) ∷ nothing ∷ [];
 }
 
--- code 11 carries no number and raises nothing; every other code is numbered
+-- codes 11 and 139 carry no number; every other code is numbered
 abbrev row7 : Row
 row7 = record {
   start = Model.fresh 108 4 500;
-  calls = enqueue (pk 2 0 5) ∷ enqueue (pk 11 255 65535) ∷ enqueue (pk 139 0 6) ∷ enqueue (pk 35 0 5) ∷ [];
-  said = filed Events 5 ∷ filed Events 5 ∷ filed Events 6 ∷ filed Events 65541 ∷ [];
+  calls = enqueue (pk 2 0 5) ∷ enqueue (pk 11 255 65535) ∷ enqueue (pk 139 254 4) ∷ enqueue (pk 140 0 6) ∷ enqueue (pk 35 0 5) ∷ [];
+  said = filed Events 5 ∷ filed Events 5 ∷ filed Events 5 ∷ filed Events 6 ∷ filed Events 65541 ∷ [];
 }
 
 -- 1 for a short packet; 4 for descriptors that do not wait, and nothing changed
@@ -295,12 +295,12 @@ row32 = record {
   said = number 1 ∷ filed Replies 1 ∷ filed Events 1 ∷ refused 5 ∷ took (heldPacket 1 (pk 0 7 1) []) ∷ filed Events 1 ∷ [];
 }
 
--- code 11 does not raise next reply expected to a last read that is above it
+-- codes 11 and 139 do not raise next reply expected to a last read that is above it, whatever their bytes; any other does
 abbrev row33 : Row
 row33 = record {
   start = Model.fresh 108 4 500;
-  calls = send ReplyWithoutFds ∷ enqueue (pk 2 0 900) ∷ send ReplyWithoutFds ∷ send NoReply ∷ enqueue (pk 11 0 7) ∷ prepare 900 ∷ prepare 3 ∷ prepare 2 ∷ [];
-  said = number 1 ∷ filed Events 900 ∷ number 2 ∷ number 3 ∷ filed Events 900 ∷ answer true ∷ answer true ∷ answer false ∷ [];
+  calls = send ReplyWithoutFds ∷ enqueue (pk 2 0 900) ∷ send ReplyWithoutFds ∷ send NoReply ∷ enqueue (pk 11 0 7) ∷ enqueue (pk 139 0 900) ∷ prepare 900 ∷ prepare 3 ∷ prepare 2 ∷ enqueue (pk 140 0 900) ∷ prepare 900 ∷ [];
+  said = number 1 ∷ filed Events 900 ∷ number 2 ∷ number 3 ∷ filed Events 900 ∷ filed Events 900 ∷ answer true ∷ answer true ∷ answer false ∷ filed Events 900 ∷ answer false ∷ [];
 }
 
 -- sending leaves the last read, by which alone NoReply is said

@@ -1,7 +1,7 @@
 -- WHAT A PACKET IS: the bounds of its length, what its first byte means, where its wire number stands, and the number that it is filed under. Assumes nothing.
 use mathlib.Core.Bool.{Bool}
 use mathlib.Core.List.{List}
-use Prim.Native.Nat.{ℕ, _%_}
+use Prim.Native.Nat.{ℕ, _+_, _%_}
 use lib.Dec.{eqb}
 use lib.ListN.{getD}
 use Rattle.octets.specs.Logic.{choose, either}
@@ -40,12 +40,12 @@ genericEvent = 35
 unfoldable pub hasLength : ℕ → Bool
 hasLength code = either (eqb code replyCode) (eqb (code % sentBit) genericEvent)
 
--- Core, Encoding, KeymapNotify: key bits stand where other packets have their number. 01, Numbering and filing: "Code 11 (KeymapNotify) carries no number"; "every other code is numbered"
+-- Core, Encoding, KeymapNotify: key bits stand where other packets have their number, "whether the top bit is set or not" (02, M-101). "Codes 11 and 139 now both go unnumbered"; 01, Numbering and filing: "every other code is numbered"
 abbrev pub keymapNotify : ℕ
 keymapNotify = 11
 
 unfoldable pub unnumbered : ℕ → Bool
-unnumbered code = eqb code keymapNotify
+unnumbered code = either (eqb code keymapNotify) (eqb code (sentBit + keymapNotify))
 
 -- ---- The number
 

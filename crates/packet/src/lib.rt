@@ -45,11 +45,11 @@ pub fn has_length(code: u8) -> bool
     code % SENT == GENERIC_EVENT
 }
 
-// Whether a packet of the code carries no number.
+// Whether a packet of the code carries no number, whoever made it.
 pub fn is_unnumbered(code: u8) -> bool
     ensures { λ r. ⌜ r ≡ unnumbered code ⌝ }
 {
-    code == KEYMAP_NOTIFY
+    code % SENT == KEYMAP_NOTIFY
 }
 
 // The 16 bits of its number that a packet carries.

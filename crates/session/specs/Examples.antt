@@ -34,14 +34,14 @@ event code wire = code ∷ 0 ∷ (bytesOf 108 2 wire ++ replicate 28 0)
 abbrev taken : ℕ → List ℕ → ℕ → Entry
 taken t p n = took t p (record { place = Events; number = n })
 
--- true numbers 70, 80 and 90 of a run of three events, of which that of code 11 carries no number; the engine reads 1 and 2 from the wire
-pub fed : noteFed (70 ∷ 80 ∷ 90 ∷ []) (Model.fresh 108 4 500) (event 2 1 ++ (event 11 0 ++ event 3 2)) (gives (tt {0})) [] ≡ taken 90 (event 3 2) 2 ∷ taken 70 (event 2 1) 1 ∷ []
+-- true numbers 70, 80, 85 and 90 of a run of four events, of which those of codes 11 and 139 carry no number; the engine reads 1 and 2 from the wire
+pub fed : noteFed (70 ∷ 80 ∷ 85 ∷ 90 ∷ []) (Model.fresh 108 4 500) (event 2 1 ++ (event 11 0 ++ (event 139 5 ++ event 3 2))) (gives (tt {0})) [] ≡ taken 90 (event 3 2) 2 ∷ taken 70 (event 2 1) 1 ∷ []
 unfolding noteFed notes notePacket tookOf noteTook enqueuePackets cutPackets cuts aim totalOf total hasLength field numberIn cut lowNumber turned bytesOf lowBytes choose both either many onTurn modelTook stopAt Model.enqueuePacket numberAfter unnumbered inRange full Model.numbered Model.askedOf Model.headOf Model.placeOf Model.claimed Model.takeIn Model.decide Model.decideBy costs refuse pass
 fed = refl
 
 -- a packet alone, taken and refused
 pub alone : (noteTook 70 (event 2 1) (gives (record { place = Events; number = 1 }, tt {0})) [] ≡ taken 70 (event 2 1) 1 ∷ []) × (noteTook {A = Unit {0}} 70 (event 2 1) (refuses 5) [] ≡ [])
-unfolding noteTook unnumbered choose bytesOf lowBytes turned
+unfolding noteTook unnumbered choose either bytesOf lowBytes turned
 alone = (refl, refl)
 
 -- of the bytes of `send_requests` those that were sent, the latest first: 1 and 2 with a reply, 0 without; nothing of a refusal; the next true number, and none left

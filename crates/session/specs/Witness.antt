@@ -140,17 +140,17 @@ module _ (all ahead rest : List Packet) (l : List Entry) (x : Ask) where
   unfolding reads
   on m b e k = subst (λ (y : Client). Goes y (told x y) (next (told x y) y)) (k .read) (by-answer b (k .state) (k .left) (e ∙ ap (λ (y : Client). brought (y .order) x) (sym (k .read))) (k .run))
 
--- A session begins: room for four requests, a store of 100 bytes, and nothing in either.
+-- A session begins: room for four requests, a store of 150 bytes, and nothing in either.
 abbrev empty : Rooms
-empty = rooms (replicate 4 0) (replicate 100 0) (replicate 256 0)
+empty = rooms (replicate 4 0) (replicate 150 0) (replicate 256 0)
 
-opening : Opens 108 empty (gives (tt, freshState 108 4 100))
+opening : Opens 108 empty (gives (tt, freshState 108 4 150))
 unfolding roomy capacity legal both either
-opening = opens-done 108 empty refl {k = 4} refl refl refl (freshState 108 4 100) refl
+opening = opens-done 108 empty refl {k = 4} refl refl refl (freshState 108 4 150) refl
 
-pub begun : (all : List Packet) → Reached all all (fresh 108 4 100) []
+pub begun : (all : List Packet) → Reached all all (fresh 108 4 150) []
 unfolding capacity
-begun all = record { state = freshState 108 4 100; left = empty; run = new 108 empty (freshState 108 4 100) opening; read = opens-fresh 108 empty (freshState 108 4 100) opening }
+begun all = record { state = freshState 108 4 150; left = empty; run = new 108 empty (freshState 108 4 150) opening; read = opens-fresh 108 empty (freshState 108 4 150) opening }
 
 -- ---- A SAVEPOINT MORE: where no descriptor is inside there is one, and it is restored
 
@@ -200,17 +200,17 @@ unfolding Ids.sound Ids.powerBelow both either
 ids-sound = refl
 
 -- saved with these, and restored in the rooms that a session begins with
-pub over : (all rest : List Packet) (l : List Entry) (m : Client) → m .most-requests ≡ 4 → m .most-bytes ≡ 100 → inside m ≡ 0 → Reached all rest m l → Reached all rest m l
+pub over : (all rest : List Packet) (l : List Entry) (m : Client) → m .most-requests ≡ 4 → m .most-bytes ≡ 150 → inside m ≡ 0 → Reached all rest m l → Reached all rest m l
 unfolding holds fitting capacity both
 over all rest l m k s d z =
     let x : Laid = laid (z .state) (z .left) (Reader.fresh 108) buffer someIds in
     let S : Laid.Sound x = record { connection = session-sound (serves-session (z .run)); reader = reader-sound; ids = ids-sound } in
     let h : holds x ≡ false = ap (λ (n : ℕ). not (eqb n 0)) (ap inside (z .read) ∙ d) in
-    let f : fitting (savedOf x) empty buffer ≡ true = λ i. both (eqb 4 ((ap (λ (c : Client). c .most-requests) (z .read) ∙ k) i)) (both (eqb 100 ((ap (λ (c : Client). c .most-bytes) (z .read) ∙ s) i)) true) in
+    let f : fitting (savedOf x) empty buffer ≡ true = λ i. both (eqb 4 ((ap (λ (c : Client). c .most-requests) (z .read) ∙ k) i)) (both (eqb 150 ((ap (λ (c : Client). c .most-bytes) (z .read) ∙ s) i)) true) in
     let w = some-savepoint x S h empty buffer f (encode (savedOf x)) (omega arith) in
     goes-over z (Reader.fresh 108) buffer someIds (encode (savedOf x)) (w .0) (w .1) (w .2) empty buffer (w .3) (w .4) (w .5) (w .6)
 
--- ---- A SESSION with an honest server: an event, a KeymapNotify, a reply and an event. The store holds two packets, so that of the first three, brought at once, the reply is refused, and again when it is brought alone; the two that are held are handed out at
+-- ---- A SESSION with an honest server: an event, a KeymapNotify, one that SendEvent made, a reply and an event. The store holds three packets, so that of the first four, brought at once, the reply is refused, and again when it is brought alone; the three that are held are handed out at
 -- once, and the last two are taken. Request 1, which has no reply, gets no packet before the reply to request 2; request 3 is pending at the end.
 
 abbrev anEvent : Packet
@@ -219,6 +219,9 @@ anEvent = record { true-number = 0; bytes = packetOf 2 0 0 }
 abbrev aKeymap : Packet
 aKeymap = record { true-number = 0; bytes = packetOf 11 255 65535 }
 
+abbrev aSent : Packet
+aSent = record { true-number = 0; bytes = packetOf 139 254 3 }
+
 abbrev aReply : Packet
 aReply = record { true-number = 2; bytes = packetOf 1 0 2 }
 
@@ -226,7 +229,7 @@ abbrev aLast : Packet
 aLast = record { true-number = 2; bytes = packetOf 3 0 2 }
 
 abbrev server : List Packet
-server = anEvent ∷ aKeymap ∷ aReply ∷ aLast ∷ []
+server = anEvent ∷ aKeymap ∷ aSent ∷ aReply ∷ aLast ∷ []
 
 abbrev filed : Place → ℕ → Filing
 filed place n = record { place = place; number = n }
@@ -245,29 +248,29 @@ byte-of (a ∷ l) h zero = ltb-true _ _ (both-left _ _ h)
 byte-of (a ∷ l) h (suc i) = byte-of l (both-right _ _ h) i
 
 abbrev firstRun : List ℕ
-firstRun = anEvent .bytes ++ (aKeymap .bytes ++ aReply .bytes)
+firstRun = anEvent .bytes ++ (aKeymap .bytes ++ (aSent .bytes ++ aReply .bytes))
 
 abbrev lastRun : List ℕ
 lastRun = aReply .bytes ++ aLast .bytes
 
--- the session, with a step more while those two are held: any that leaves it as it is read
-witness-with : ((l : List Entry) (m : Client) → m .most-requests ≡ 4 → m .most-bytes ≡ 100 → inside m ≡ 0 → Reached server (aReply ∷ aLast ∷ []) m l → Reached server (aReply ∷ aLast ∷ []) m l) → (m : Client) × Reached server [] m witnessLog
+-- the session, with a step more while those three are held: any that leaves it as it is read
+witness-with : ((l : List Entry) (m : Client) → m .most-requests ≡ 4 → m .most-bytes ≡ 150 → inside m ≡ 0 → Reached server (aReply ∷ aLast ∷ []) m l → Reached server (aReply ∷ aLast ∷ []) m l) → (m : Client) × Reached server [] m witnessLog
 unfolding computing shown next tookOne tookMany noteSends sentAll noteFed notes notePacket tookOf enqueuePackets cutPackets cuts aim totalOf total hasLength many onTurn modelTook stopAt sendTurn sendRequests pollForEvents handed orRefused eventTurn handing modelTurn roomFor turns every
 witness-with a-step = (
   _,
   on server [] [] _ (send-request ReplyWithoutFds) _ tt refl
       (on server (aReply ∷ aLast ∷ []) [] _ (enqueue-packets lastRun) _ (byte-of lastRun refl) refl
-      (on server [] (aReply ∷ aLast ∷ []) _ (poll-for-events (zeros 64) (zeros 4)) _ tt refl
+      (on server [] (aReply ∷ aLast ∷ []) _ (poll-for-events (zeros 96) (zeros 6)) _ tt refl
       (a-step _ _ refl refl refl
       (on server (aReply ∷ []) (aLast ∷ []) _ (enqueue-packet (aReply .bytes)) _ (omega arith) refl
-      (on server (anEvent ∷ aKeymap ∷ aReply ∷ []) (aLast ∷ []) _ (enqueue-packets firstRun) _ (byte-of firstRun refl) refl
+      (on server (anEvent ∷ aKeymap ∷ aSent ∷ aReply ∷ []) (aLast ∷ []) _ (enqueue-packets firstRun) _ (byte-of firstRun refl) refl
       (on server [] server _ (send-requests (0 ∷ 1 ∷ [])) _ tt refl (begun server))))))),
 )
 
 pub witness : (m : Client) × Reached server [] m witnessLog
 witness = witness-with (λ l m k s d z. z)
 
--- The same session, saved while those two are held, and restored.
+-- The same session, saved while those three are held, and restored.
 pub witness-restored : (m : Client) × Reached server [] m witnessLog
 witness-restored = witness-with (over server (aReply ∷ aLast ∷ []))
 

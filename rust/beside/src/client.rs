@@ -23,6 +23,17 @@ pub struct Met {
     pub refused: u64,
     pub most_held: usize,
     pub long: Long,
+    pub keymaps: Keymaps,
+}
+
+/// KeymapNotify events that SendEvent made: compared like any packet, left out of a run, and at the end of
+/// one, where the sides go on alike or part.
+#[derive(Default)]
+pub struct Keymaps {
+    pub compared: u64,
+    pub left_out: u64,
+    pub alike: u64,
+    pub parted: u64,
 }
 
 /// Packets over 65,536 bytes among them.
@@ -88,6 +99,20 @@ pub fn report_long() -> String {
     })
 }
 
+/// The same of KeymapNotify events that SendEvent made.
+pub fn report_keymaps() -> String {
+    MET.with(|met| {
+        let keymaps = &met.borrow().keymaps;
+        format!(
+            "KeymapNotify by SendEvent: compared {}, left out {}, alike at the end of a run {}, parted there {}",
+            keymaps.compared, keymaps.left_out, keymaps.alike, keymaps.parted,
+        )
+    })
+}
+
+/// The code of a KeymapNotify that SendEvent made.
+pub const SENT_KEYMAP: u8 = 139;
+
 /// The most bytes of a packet that the engine takes, and how many it takes of a longer one.
 const MOST: usize = 65_536;
 const HEAD: usize = 32;
@@ -142,6 +167,7 @@ fn filed(place: Place, packet: &[u8]) {
         Place::Events => met.events += 1,
         Place::Dropped => met.dropped += 1,
     });
+    met(|met| met.keymaps.compared += u64::from(packet[0] == SENT_KEYMAP));
     if is_long(packet) {
         met(|met| match (place, packet[0]) {
             (Place::Dropped, _) => met.long.dropped += 1,
@@ -202,14 +228,19 @@ impl Both {
         same(what, "closed", ours, take_closed());
     }
 
-    fn compare_state(&self, what: &str) {
+    fn numbers(&self) -> (u64, u64, u64) {
         let engine = &self.engine;
-        let numbers = (
+        (
             engine.last_sequence_written(),
             engine.next_reply_expected(),
             engine.last_sequence_read(),
-        );
-        same(what, "numbers", numbers, connection::numbers(&self.rust));
+        )
+    }
+
+    fn compare_state(&self, what: &str) {
+        let engine = &self.engine;
+        let theirs = connection::numbers(&self.rust);
+        same(what, "numbers", self.numbers(), theirs);
         let outstanding = connection::outstanding(&self.rust);
         same(
             what,
@@ -346,12 +377,43 @@ impl Both {
         }
     }
 
+    /// Whether a packet is one on which the sides part: a KeymapNotify that SendEvent made, where the Rust,
+    /// which numbers it by its key bits, changes a number by it.
+    pub fn parts(&self, packet: &[u8]) -> bool {
+        let (_, expected, read) = self.numbers();
+        let bits = u16::from_le_bytes([packet[2], packet[3]]);
+        packet[0] == SENT_KEYMAP && (bits != read as u16 || expected < read)
+    }
+
+    /// The end of a run is a KeymapNotify that SendEvent made, with any bits: it is filed under the last read
+    /// and changes no number, and the Rust does the same exactly where it does not part the sides.
+    pub fn end_with_keymap(mut self, packet: &[u8]) -> u64 {
+        let (parts, numbers) = (self.parts(packet), self.numbers());
+        let Ok(filed) = self.engine.enqueue_packet(packet) else {
+            return self.finish();
+        };
+        self.rust.enqueue_packet(packet.to_vec());
+        let what = "KeymapNotify by SendEvent";
+        same(what, "filed", filed, (Place::Events, numbers.2));
+        same(what, "numbers", self.numbers(), numbers);
+        let theirs = connection::numbers(&self.rust);
+        same(what, "whether the sides part", numbers != theirs, parts);
+        if parts {
+            met(|met| met.keymaps.parted += 1);
+            return self.calls + 1;
+        }
+        met(|met| met.keymaps.alike += 1);
+        self.compare(what);
+        self.finish()
+    }
+
     /// A row of packets as one run of bytes, up to the first that is refused.
     pub fn packets(&mut self, packets: &[Vec<u8>]) {
         let fed = self.engine.enqueue_packets(&packets.concat()).unwrap();
         let whole = fed.packets == packets.len();
         same("enqueue_packets", "end", fed.halt == Halt::End, whole);
         for packet in &packets[..fed.packets] {
+            met(|met| met.keymaps.compared += u64::from(packet[0] == SENT_KEYMAP));
             self.rust.enqueue_packet(packet.clone());
         }
         self.compare("enqueue_packets");

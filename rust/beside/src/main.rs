@@ -66,6 +66,7 @@ fn main() {
     }
     println!("{}", client::report());
     println!("{}", client::report_long());
+    println!("{}", client::report_keymaps());
     println!("beside: {calls} calls compared, no difference");
 }
 

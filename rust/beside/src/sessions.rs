@@ -1,20 +1,21 @@
 //! Whole runs, by kind. Each answers how many calls were compared.
 
 use crate::chance::Chance;
-use crate::client::Both;
+use crate::client::{met, Both, SENT_KEYMAP};
 use crate::connection::ReplyFdKind;
 use crate::leaves;
 use crate::DiscardMode;
 
 type Kind = fn(&mut Chance) -> u64;
 
-pub const KINDS: [(&str, Kind); 10] = [
+pub const KINDS: [(&str, Kind); 11] = [
     ("mixed", mixed),
     ("descriptors", descriptors),
     ("same number", same_number),
     ("wraps", wraps),
     ("sync bursts", sync_bursts),
     ("long packets", long_packets),
+    ("sent keymaps", sent_keymaps),
     ("streams", leaves::streams),
     ("readers", leaves::readers),
     ("handshakes", leaves::handshakes),
@@ -155,6 +156,10 @@ fn step(both: &mut Both, chance: &mut Chance, w: &Weights, next_fd: &mut u32) ->
         }
         2 => {
             let bytes = packet(both, chance, w.long);
+            if both.parts(&bytes) {
+                met(|met| met.keymaps.left_out += 1);
+                return true;
+            }
             return both.packet(&bytes);
         }
         3 => {
@@ -379,10 +384,37 @@ fn long_session(chance: &mut Chance) -> u64 {
 /// An error or an event of 32 bytes, with the number last read.
 fn event(both: &Both, chance: &mut Chance) -> Vec<u8> {
     let mut bytes = chance.bytes(32);
-    bytes[0] = chance.pick(&[0, 2, 28, 129]);
+    bytes[0] = chance.pick(&[0, 2, 11, 28, 129, SENT_KEYMAP]);
     let number = both.engine.last_sequence_read() as u16;
     bytes[2..4].copy_from_slice(&number.to_le_bytes());
+    if both.parts(&bytes) {
+        bytes[0] = 2;
+    }
     bytes
+}
+
+/// Short runs that end with a KeymapNotify that SendEvent made, with the last read's bits, bits near them, or any.
+fn sent_keymaps(chance: &mut Chance) -> u64 {
+    (0..100).map(|_| to_a_keymap(chance)).sum()
+}
+
+fn to_a_keymap(chance: &mut Chance) -> u64 {
+    let (mut both, mut next_fd) = (Both::new(64, 4096), 1000);
+    for _ in 0..chance.below(40) {
+        if !step(&mut both, chance, &MIXED, &mut next_fd) {
+            return both.calls;
+        }
+    }
+    let mut bytes = chance.bytes(32);
+    bytes[0] = SENT_KEYMAP;
+    let read = both.engine.last_sequence_read() as u16;
+    let bits = match chance.below(4) {
+        0 | 1 => read,
+        2 => read.wrapping_add(chance.pick(&[1, 2, u16::MAX])),
+        _ => chance.next() as u16,
+    };
+    bytes[2..4].copy_from_slice(&bits.to_le_bytes());
+    both.end_with_keymap(&bytes)
 }
 
 /// More than 2^32 requests from a fresh connection, in bulk; the state is compared now and then.

@@ -19,7 +19,7 @@ use std::io;
 use std::process::ExitCode;
 
 use display::{display_name, ended, socket_path, Display};
-use wire::{get16, get32};
+use wire::{first_screen, get16, get32};
 use xiengmado::ByteOrder;
 
 const ORDER: ByteOrder = ByteOrder::NATIVE;
@@ -34,12 +34,9 @@ const GET_IMAGE: u8 = 73;
 const FOREGROUND: u32 = 4;
 const Z_PIXMAP: u8 = 2;
 
-/// The root of the first screen, its width and its height. The screen stands behind the fixed 40 bytes, the
-/// vendor's text, filled up to a multiple of four, and the pixmap formats of 8 bytes each.
+/// The root of the first screen, its width and its height.
 fn root(setup: &[u8]) -> (u32, u16, u16) {
-    let vendor = usize::from(get16(ORDER, setup, 24)).next_multiple_of(4);
-    let formats = 8 * usize::from(setup[29]);
-    let screen = &setup[40 + vendor + formats..];
+    let screen = first_screen(ORDER, setup);
     assert!(screen[38] >= 24, "the screen has 24 bits a pixel");
     (
         get32(ORDER, screen, 0),

@@ -46,7 +46,7 @@ impl Request {
     }
 }
 
-fn put16(order: ByteOrder, number: u16) -> [u8; 2] {
+pub fn put16(order: ByteOrder, number: u16) -> [u8; 2] {
     match order {
         ByteOrder::Little => number.to_le_bytes(),
         ByteOrder::Big => number.to_be_bytes(),
@@ -58,6 +58,14 @@ fn put32(order: ByteOrder, number: u32) -> [u8; 4] {
         ByteOrder::Little => number.to_le_bytes(),
         ByteOrder::Big => number.to_be_bytes(),
     }
+}
+
+/// The first screen of a setup. It stands behind the fixed 40 bytes, the vendor's text, filled up to a multiple
+/// of four, and the pixmap formats of 8 bytes each.
+pub fn first_screen(order: ByteOrder, setup: &[u8]) -> &[u8] {
+    let vendor = usize::from(get16(order, setup, 24)).next_multiple_of(4);
+    let formats = 8 * usize::from(setup[29]);
+    &setup[40 + vendor + formats..]
 }
 
 /// The 16-bit field that starts at a byte.

@@ -179,6 +179,8 @@ mod test {
         assert!(matches!(r.packet(&packet(EVENT, 0, 0), 3), Truth::Wrong(_)));
         assert_eq!(r.packet(&packet(REPLY, 0, 0), 2), Truth::Number(2));
         assert_eq!(r.packet(&packet(EVENT, 0, 0), 3), Truth::Number(3));
-        assert_eq!(r.packet(&packet(KEYMAP_NOTIFY, 9, 9), 77), Truth::Number(3));
+        for code in [KEYMAP_NOTIFY, KEYMAP_NOTIFY | 0x80] {
+            assert_eq!(r.packet(&packet(code, 9, 9), 77), Truth::Number(3));
+        }
     }
 }

@@ -25,7 +25,7 @@ use std::io;
 use std::process::ExitCode;
 
 use display::{display_name, ended, socket_path, Display};
-use wire::{get16, get32};
+use wire::{first_screen, get16, get32};
 use xiengmado::id_allocator::IdAllocator;
 use xiengmado::protocol::xc_misc::{
     GetVersionReply, GetVersionRequest, GetXIDListReply, GetXIDListRequest, GetXIDRangeReply,
@@ -85,12 +85,8 @@ struct Screen {
     depth: u8,
 }
 
-/// The first screen. It stands behind the fixed 40 bytes, the vendor's text, filled up to a multiple of
-/// four, and the pixmap formats of 8 bytes each.
-fn first_screen(setup: &[u8]) -> Screen {
-    let vendor = usize::from(get16(ORDER, setup, 24)).next_multiple_of(4);
-    let formats = 8 * usize::from(setup[29]);
-    let screen = &setup[40 + vendor + formats..];
+fn screen(setup: &[u8]) -> Screen {
+    let screen = first_screen(ORDER, setup);
     Screen {
         root: get32(ORDER, screen, 0),
         white: get32(ORDER, screen, 8),
@@ -122,7 +118,7 @@ fn connect(path: &str, cookie: &[u8]) -> io::Result<Client> {
     let release = setup.release_number;
     println!("connected to X {major}.{minor}, {vendor}, release {release}");
     println!("ids: base {base:#x}, mask {mask:#x}");
-    let screen = first_screen(&bytes);
+    let screen = screen(&bytes);
     let (root, depth) = (screen.root, screen.depth);
     let (width, height) = (screen.width, screen.height);
     println!("screen: root {root:#x}, {width} x {height}, depth {depth}");

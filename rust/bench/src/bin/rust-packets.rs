@@ -24,7 +24,8 @@ fn main() -> std::io::Result<()> {
             part[..n].copy_from_slice(&rest[..n]);
             rest = &rest[n..];
             if let Some(packet) = reader.advance(n) {
-                if packet[0] != 11 {
+                // A KeymapNotify carries no number, as `packets` has it (the Rust numbers code 139).
+                if packet[0] & 0x7f != 11 {
                     let wire = u64::from(u16::from_le_bytes([packet[2], packet[3]]));
                     let full = (last & !0xffff) | wire;
                     last = if full < last { full + 0x1_0000 } else { full };
