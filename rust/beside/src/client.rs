@@ -327,8 +327,13 @@ impl Both {
         self.compare("enqueue_fds");
     }
 
-    /// A packet; false ends the run, since the Rust has panicked where the engine refused by 4.
+    /// A packet, unless the sides part on it; false ends the run, since the Rust has panicked where the engine
+    /// refused by 4.
     pub fn packet(&mut self, packet: &[u8]) -> bool {
+        if self.parts(packet) {
+            met(|met| met.keymaps.left_out += 1);
+            return true;
+        }
         match self.enqueue(packet) {
             Ok(place) => {
                 filed(place, packet);

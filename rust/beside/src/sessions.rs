@@ -1,7 +1,7 @@
 //! Whole runs, by kind. Each answers how many calls were compared.
 
 use crate::chance::Chance;
-use crate::client::{met, Both, SENT_KEYMAP};
+use crate::client::{Both, SENT_KEYMAP};
 use crate::connection::ReplyFdKind;
 use crate::leaves;
 use crate::DiscardMode;
@@ -156,10 +156,6 @@ fn step(both: &mut Both, chance: &mut Chance, w: &Weights, next_fd: &mut u32) ->
         }
         2 => {
             let bytes = packet(both, chance, w.long);
-            if both.parts(&bytes) {
-                met(|met| met.keymaps.left_out += 1);
-                return true;
-            }
             return both.packet(&bytes);
         }
         3 => {
