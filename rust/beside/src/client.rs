@@ -113,6 +113,13 @@ pub fn report_keymaps() -> String {
 /// The code of a KeymapNotify that SendEvent made.
 pub const SENT_KEYMAP: u8 = 139;
 
+/// Whether the sides part on a packet: a KeymapNotify that SendEvent made, where the Rust, which numbers it by its
+/// key bits, changes next reply expected or the last read by it.
+pub fn parts(packet: &[u8], expected: u64, read: u64) -> bool {
+    let bits = u16::from_le_bytes([packet[2], packet[3]]);
+    packet[0] == SENT_KEYMAP && (bits != read as u16 || expected < read)
+}
+
 /// The most bytes of a packet that the engine takes, and how many it takes of a longer one.
 const MOST: usize = 65_536;
 const HEAD: usize = 32;
@@ -382,12 +389,9 @@ impl Both {
         }
     }
 
-    /// Whether a packet is one on which the sides part: a KeymapNotify that SendEvent made, where the Rust,
-    /// which numbers it by its key bits, changes a number by it.
     pub fn parts(&self, packet: &[u8]) -> bool {
         let (_, expected, read) = self.numbers();
-        let bits = u16::from_le_bytes([packet[2], packet[3]]);
-        packet[0] == SENT_KEYMAP && (bits != read as u16 || expected < read)
+        parts(packet, expected, read)
     }
 
     /// The end of a run is a KeymapNotify that SendEvent made, with any bits: it is filed under the last read

@@ -1,7 +1,7 @@
 //! A script of a recorded run while it is written.
 
 use crate::chance::Chance;
-use crate::client::SENT_KEYMAP;
+use crate::client::parts;
 use crate::oracle::Oracle;
 use crate::replay::{self, hex, Side, State};
 
@@ -75,16 +75,14 @@ impl Script {
     }
 
     /// A packet of a code and a number. One that takes descriptors claims no more than wait. A KeymapNotify that
-    /// SendEvent made, which the Rust numbers, has the last read's bits, or is one of the server's.
+    /// SendEvent made is one of the server's instead where the sides part on it.
     pub fn packet(&mut self, code: u8, number: u64, size: usize) -> Vec<u8> {
         let mut bytes = self.chance.bytes(size);
         bytes[0] = code;
         bytes[1] = self.chance.below(4) as u8;
         bytes[2..4].copy_from_slice(&(number as u16).to_le_bytes());
         let state = self.state();
-        if code == SENT_KEYMAP
-            && (number as u16 != state.read as u16 || state.expected < state.read)
-        {
+        if parts(&bytes, state.expected, state.read) {
             bytes[0] = 11;
         }
         let full = state.read + u64::from((number as u16).wrapping_sub(state.read as u16));
