@@ -19,7 +19,7 @@ use std::io;
 use std::process::{exit, ExitCode};
 
 use display::{display_name, ended, socket_path, Display};
-use wire::get32;
+use wire::{get32, named_order};
 use xiengmado::id_allocator::IdAllocator;
 use xiengmado::{ByteOrder, SequenceNumber};
 
@@ -79,12 +79,7 @@ fn arguments() -> Option<(ByteOrder, u64)> {
     let [order, count] = words.as_slice() else {
         return None;
     };
-    let order = match order.as_str() {
-        "l" => ByteOrder::Little,
-        "B" => ByteOrder::Big,
-        _ => return None,
-    };
-    Some((order, count.parse().ok()?))
+    Some((named_order(order)?, count.parse().ok()?))
 }
 
 fn main() -> ExitCode {

@@ -20,7 +20,7 @@ use std::io;
 use std::process::{exit, ExitCode};
 
 use display::{display_name, ended, socket_path, Display};
-use wire::{first_screen, get16, get32, put16};
+use wire::{first_screen, get16, get32, named_order, put16};
 use xiengmado::{ByteOrder, SequenceNumber};
 
 const CREATE_WINDOW: u8 = 1;
@@ -111,14 +111,9 @@ fn run(order: ByteOrder) -> io::Result<()> {
 }
 
 fn main() -> ExitCode {
-    let words: Vec<String> = std::env::args().skip(1).collect();
-    let order = match words.iter().map(String::as_str).collect::<Vec<_>>()[..] {
-        ["l"] => ByteOrder::Little,
-        ["B"] => ByteOrder::Big,
-        _ => {
-            eprintln!("usage: keymap ORDER, l or B, to $DISPLAY");
-            exit(2);
-        }
+    let Some(order) = std::env::args().nth(1).and_then(|word| named_order(&word)) else {
+        eprintln!("usage: keymap ORDER, l or B, to $DISPLAY");
+        exit(2);
     };
     ended("keymap", run(order))
 }

@@ -60,6 +60,15 @@ fn put32(order: ByteOrder, number: u32) -> [u8; 4] {
     }
 }
 
+/// The byte order that a word names, `l` or `B`.
+pub fn named_order(word: &str) -> Option<ByteOrder> {
+    match word {
+        "l" => Some(ByteOrder::Little),
+        "B" => Some(ByteOrder::Big),
+        _ => None,
+    }
+}
+
 /// The first screen of a setup. It stands behind the fixed 40 bytes, the vendor's text, filled up to a multiple
 /// of four, and the pixmap formats of 8 bytes each.
 pub fn first_screen(order: ByteOrder, setup: &[u8]) -> &[u8] {

@@ -18,6 +18,7 @@
 #[path = "../shared/display.rs"]
 mod display;
 mod stay;
+#[allow(dead_code)]
 #[path = "../shared/wire.rs"]
 mod wire;
 
