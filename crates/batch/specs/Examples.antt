@@ -45,12 +45,12 @@ over = 35 ∷ 0 ∷ 3 ∷ 0 ∷ 249 ∷ 63 ∷ replicate 26 0
 -- two packets and part of a third; the fourth of four finds no room; of part of a packet nothing is taken; no bytes are the end; one that is too long is refused as soon as its length is there
 pub feeds : (fed (event ++ longer ++ 2 ∷ 0 ∷ []) ≡ took 68 2 partial) × (fed (event ++ event ++ event ++ event) ≡ took 96 3 (refused 5)) × (fed (2 ∷ 0 ∷ []) ≡ took 0 0 partial) × (fed [] ≡ took 0 0 ended)
     × (fed (event ++ over) ≡ took 32 1 (refused 2)) × (fed (35 ∷ 0 ∷ 3 ∷ 0 ∷ 249 ∷ 63 ∷ replicate 25 0) ≡ took 0 0 partial)
-unfolding enqueuePackets cutPackets cuts aim totalOf total hasLength stopAt many onTurn modelTook bytesTaken Model.enqueuePacket numberAfter unnumbered Model.numbered Model.askedOf Model.headOf Model.placeOf Model.claimed Model.takeIn Model.decide Model.decideBy pass refuse inRange full field numberIn cut turned bytesOf lowBytes lowNumber costs descriptorsOf choose both either
+unfolding enqueuePackets cutPackets cuts aim totalOf total hasLength stopAt many onTurn modelTook bytesTaken Model.enqueuePacket numberAfter unnumbered Model.numbered Model.askedOf Model.headOf Model.placeOf Model.claimed Model.takeIn Model.decide Model.ahead Model.decideBy pass refuse inRange full field numberIn cut turned bytesOf lowBytes lowNumber costs descriptorsOf choose both either
 feeds = (refl, refl, refl, refl, refl, refl)
 
 -- in the other order: the same two packets, of which the second has its length elsewhere
 pub feeds-big : said (enqueuePackets (Model.fresh 66 2 144) (2 ∷ 0 ∷ 0 ∷ 1 ∷ (replicate 28 0 ++ (1 ∷ 0 ∷ 0 ∷ 2 ∷ 0 ∷ 0 ∷ 0 ∷ 1 ∷ replicate 28 0)))) ≡ took 68 2 ended
-unfolding enqueuePackets cutPackets cuts aim totalOf total hasLength stopAt many onTurn modelTook bytesTaken Model.enqueuePacket numberAfter unnumbered Model.numbered Model.askedOf Model.headOf Model.placeOf Model.claimed Model.takeIn Model.decide Model.decideBy pass refuse inRange full field numberIn cut turned bytesOf lowBytes lowNumber costs descriptorsOf choose both either
+unfolding enqueuePackets cutPackets cuts aim totalOf total hasLength stopAt many onTurn modelTook bytesTaken Model.enqueuePacket numberAfter unnumbered Model.numbered Model.askedOf Model.headOf Model.placeOf Model.claimed Model.takeIn Model.decide Model.ahead Model.decideBy pass refuse inRange full field numberIn cut turned bytesOf lowBytes lowNumber costs descriptorsOf choose both either
 feeds-big = refl
 
 -- ---- the turns of `poll_for_events`

@@ -123,24 +123,17 @@ module _ (c : Connection) (r : Rooms) (S : Sound c r) (n : ℕ) where
         closing = reads c r .closing;
       }
 
-  -- The request of the number is the model's.
-  pub asked-read : askedIn c (r .requests) n ≡ askedOf (reads c r) n
+  -- The request of a number that is not above the last written is the model's.
+  pub asked-read : n ≤ c .written → askedIn c (r .requests) n ≡ askedOf (reads c r) n
   unfolding askedIn askedOf reads choose headOf
-  asked-read =
-      go (ltb n (c .first)) refl (ltb (c .written) n) refl
+  asked-read h =
+      go (ltb n (c .first)) refl
       ∙ ap (λ (k : ℕ). choose (ltb n k) nobody (headOf (drop (n - k) (outstanding (r .requests) (c .first) (count c))))) (sym (first-read c r S))
     where
-      go : (a : Bool) → ltb n (c .first) ≡ a → (b : Bool) → ltb (c .written) n ≡ b
-          → choose a nobody (choose b nobody (somebody (requestAt (r .requests) n))) ≡ choose a nobody (headOf (drop (n - c .first) (outstanding (r .requests) (c .first) (count c))))
-      go true e b f = refl
-      go false e true f =
+      go : (a : Bool) → ltb n (c .first) ≡ a → choose a nobody (somebody (requestAt (r .requests) n)) ≡ choose a nobody (headOf (drop (n - c .first) (outstanding (r .requests) (c .first) (count c))))
+      go true e = refl
+      go false e =
           let u : c .first ≤ n = ltb-false n (c .first) e in
-          let v : c .written < n = ltb-true (c .written) n f in
-          let z : count c - (n - c .first) ≡ 0 = omega arith in
-          sym (ap headOf (sym (outstanding-drop (r .requests) (c .first) (count c) (n - c .first)) ∙ ap (outstanding (r .requests) (c .first + (n - c .first))) z ∙ outstanding-none (r .requests) (c .first + (n - c .first))))
-      go false e false f =
-          let u : c .first ≤ n = ltb-false n (c .first) e in
-          let v : n ≤ c .written = ltb-false (c .written) n f in
           let y : c .first + (n - c .first) ≡ n = omega arith in
           let z : count c - (n - c .first) ≡ suc (c .written - n) = omega arith in
           sym (ap headOf (sym (outstanding-drop (r .requests) (c .first) (count c) (n - c .first)) ∙ (λ i. outstanding (r .requests) (y i) (z i)) ∙ outstanding-first (r .requests) n (c .written - n)))

@@ -11,7 +11,7 @@ use Rattle.requests.specs.Room.{requestAt}
 use Rattle.packet.specs.Packet.{leastPacket, mostPacket, codeOf, unnumbered, numberAfter}
 use Rattle.held.specs.Head.{mostStore, headerSize}
 use Rattle.held.specs.Reading.{used}
-use Rattle.model.specs.Model.{nobody, somebody, placeOf, claimed, isHeld, Task, taskBy}
+use Rattle.model.specs.Model.{nobody, somebody, placeOf, claimed, isHeld, Task, taskBy, ahead}
 use Rattle.model.specs.Model as Model
 use Rattle.model.specs.declared.Connection.{Connection}
 use Rattle.model.specs.declared.Place.{Place}
@@ -67,9 +67,9 @@ numberedState c code n = record {
   counts = c .counts;
 }
 
--- "The request with that number, if still outstanding"
+-- "The request with that number, if still outstanding", of a number that is not above the last written
 unfoldable pub askedIn : Connection → List ℕ → ℕ → Model.Asked
-askedIn c q n = choose (ltb n (c .first)) nobody (choose (ltb (c .written) n) nobody (somebody (requestAt q n)))
+askedIn c q n = choose (ltb n (c .first)) nobody (somebody (requestAt q n))
 
 -- ---- the plan
 
@@ -77,14 +77,15 @@ askedIn c q n = choose (ltb n (c .first)) nobody (choose (ltb (c .written) n) no
 unfoldable pub overRoom : Connection → Place → ℕ → Bool
 overRoom c place n = both (isHeld place) (ltb (c .room) (used (c .window) + (headerSize + n)))
 
--- a packet that has its number and whose request is known: 4, 5
+-- a packet that has its number and whose request is known: 20, 4, 5
 unfoldable pub planBy : Connection → List ℕ → ℕ → Model.Asked → Answer Task
 planBy c p n a =
-    refuse (ltb (c .counts .waiting) (claimed p a)) 4
+    refuse (ahead (codeOf p) n (c .written)) 20
+    (refuse (ltb (c .counts .waiting) (claimed p a)) 4
     (refuse (overRoom c (placeOf (codeOf p) a) (length p)) 5
-    (gives (taskBy p n a)))
+    (gives (taskBy p n a))))
 
--- 1, 2, 3, 4, 5; otherwise where the packet goes, under which number, and with how many descriptors
+-- 1, 2, 3, 20, 4, 5; otherwise where the packet goes, under which number, and with how many descriptors
 unfoldable pub planOf : Connection → List ℕ → List ℕ → Answer Task
 planOf c q p =
     refuse (ltb (length p) leastPacket) 1

@@ -19,7 +19,7 @@ use Rattle.requests.specs.declared.Request.{Request}
 use Rattle.packet.specs.Packet.{leastPacket, mostPacket, codeOf, replyCode}
 use Rattle.held.specs.Head.{headerSize}
 use Rattle.held.specs.Reading.{used}
-use Rattle.model.specs.Model.{placeOf, claimed, isHeld, Task}
+use Rattle.model.specs.Model.{placeOf, claimed, isHeld, Task, ahead}
 use Rattle.model.specs.Model as Model
 use Rattle.model.specs.declared.Connection.{Connection}
 use Rattle.model.specs.declared.Place.{Place}
@@ -55,13 +55,18 @@ module _ (p : List ℕ) (a : Asked) where
 
 -- ---- a packet that has its number
 
-module _ (c : Connection) (p : List ℕ) (n : ℕ) (a a' : Model.Asked) (e : a ≡ a') (place : Place) (k : ℕ) (f : place ≡ placeOf (codeOf p) a) (g : k ≡ claimed p a) where
+-- one that answers what was not asked
+pub plan-ahead : (c : Connection) (p : List ℕ) (n : ℕ) (a : Model.Asked) → ahead (codeOf p) n (c .written) ≡ true → refuses 20 ≡ planBy c p n a
+unfolding planBy refuse
+plan-ahead c p n a h = simp h
+
+module _ (c : Connection) (p : List ℕ) (n : ℕ) (h : ahead (codeOf p) n (c .written) ≡ false) (a a' : Model.Asked) (e : a ≡ a') (place : Place) (k : ℕ) (f : place ≡ placeOf (codeOf p) a) (g : k ≡ claimed p a) where
   plan-as : refuse (ltb (c .counts .waiting) k) 4 (refuse (overRoom c place (length p)) 5 (gives (task place n k))) ≡ planBy c p n a'
-  unfolding planBy
+  unfolding planBy refuse
   plan-as =
       let x : place ≡ placeOf (codeOf p) a' = f ∙ ap (placeOf (codeOf p)) e in
       let y : k ≡ claimed p a' = g ∙ ap (claimed p) e in
-      λ i. refuse (ltb (c .counts .waiting) (y i)) 4 (refuse (overRoom c (x i) (length p)) 5 (gives (task (x i) n (y i))))
+      λ i. refuse (sym h i) 20 (refuse (ltb (c .counts .waiting) (y i)) 4 (refuse (overRoom c (x i) (length p)) 5 (gives (task (x i) n (y i)))))
 
   pub plan-few : c .counts .waiting < k → refuses 4 ≡ planBy c p n a'
   unfolding refuse
@@ -114,9 +119,10 @@ by-past : (c : Connection) (p : List ℕ) (n : ℕ) (a : Model.Asked) (t : Task)
     → (t ≡ task (placeOf (codeOf p) a) n (claimed p a)) × (claimed p a ≤ c .counts .waiting) × (overRoom c (placeOf (codeOf p) a) (length p) ≡ false)
 unfolding planBy
 by-past c p n a t e =
-    let r = gives-rest _ _ _ e in
-    let z : gives t ≡ gives (task (placeOf (codeOf p) a) n (claimed p a)) = gives-rest _ _ _ r in
-    (cc, ltb-false (c .counts .waiting) (claimed p a) (gives-past _ _ _ e), gives-past _ _ _ r)
+    let r₁ = gives-rest _ _ _ e in
+    let r₂ = gives-rest _ _ _ r₁ in
+    let z : gives t ≡ gives (task (placeOf (codeOf p) a) n (claimed p a)) = gives-rest _ _ _ r₂ in
+    (cc, ltb-false (c .counts .waiting) (claimed p a) (gives-past _ _ _ r₁), gives-past _ _ _ r₂)
 
 pub over-not : (c : Connection) (place : Place) (n : ℕ) → overRoom c place n ≡ false → isHeld place ≡ true → used (c .window) + (headerSize + n) ≤ c .room
 unfolding overRoom both

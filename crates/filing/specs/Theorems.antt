@@ -2,16 +2,17 @@
 use mathlib.Core.Path.{_≡_, refl, sym, ap, _∙_}
 use mathlib.Core.Bool.{Bool, true, false}
 use mathlib.Core.List.{List}
-use Prim.Native.Nat.{ℕ, _+_, _≤_}
+use Prim.Native.Nat.{ℕ, _+_, _≤_, _<_}
 use native.Mathlib.Omega.{arith}
 use lib.Dec.{ltb, eqb}
 use lib.ListN.{length, getD}
-use borrow.Author.Tests.{eqb-true}
+use borrow.Author.Tests.{ltb-false, eqb-true, ne-eqb}
 use Rattle.octets.specs.Logic.{choose, both}
 use Rattle.refusal.specs.Answer.{gives, refuse, pass-agree}
 use Rattle.held.specs.Head.{headerSize}
-use Rattle.packet.specs.Packet.{leastPacket, mostPacket, codeOf, errorCode, replyCode}
-use Rattle.model.specs.Model.{nobody, somebody, errorPlace, replyUnder, replyPlace, placeOf, wantsDescriptors, claimed, isHeld, taskBy, decideBy, decide}
+use Rattle.packet.specs.Packet.{leastPacket, mostPacket, codeOf, errorCode, replyCode, unnumbered}
+use Rattle.packet.specs.Laws.{unnumbered-event}
+use Rattle.model.specs.Model.{nobody, somebody, errorPlace, replyUnder, replyPlace, placeOf, wantsDescriptors, claimed, isHeld, taskBy, ahead, askedOf, decideBy, decide}
 use Rattle.model.specs.Model as Model
 use Rattle.model.specs.Reading.{Rooms, reads}
 use Rattle.model.specs.ReadingLaws.{used-read, length-wait}
@@ -20,7 +21,8 @@ use Rattle.model.specs.declared.Connection.{Connection}
 use Rattle.model.specs.declared.Place.the-variants as Place
 use Rattle.requests.specs.declared.Mode.{Mode}
 use Rattle.requests.specs.declared.Mode.the-variants as Mode
-use Rattle.filing.specs.Plan.{packetNumberIn, askedIn, overRoom, planBy, planOf}
+use Rattle.filing.specs.Plan.{task, packetNumberIn, askedIn, overRoom, planBy, planOf}
+use Rattle.filing.specs.Planned.{plan-ahead}
 use Rattle.filing.specs.Numbered.{asked-read}
 
 -- ---- what a packet claims
@@ -60,16 +62,48 @@ event-claims p a = go (eqb (codeOf p) errorCode) refl (eqb (codeOf p) replyCode)
 
 -- ---- the plan
 
+-- An event goes among the events and claims nothing, whatever the request of its number:
+module _ (p : List ℕ) (h : replyCode < codeOf p) where
+  pub event-place : (a : Model.Asked) → placeOf (codeOf p) a ≡ Place.Events
+  unfolding placeOf choose
+  event-place a =
+      let x : codeOf p ≡ errorCode → ⊥ = λ e. omega arith in
+      let y : codeOf p ≡ replyCode → ⊥ = λ e. omega arith in
+      simp (ne-eqb (codeOf p) errorCode x, ne-eqb (codeOf p) replyCode y)
+
+  event-task : (n : ℕ) (a : Model.Asked) → taskBy p n a ≡ task Place.Events n 0
+  event-task n a = let e = event-place a in λ i. record { place = e i; number = n; claimed = event-claims p a e i }
+
+-- so what is decided about one that carries no number needs no request.
+alike : (c : Connection) (p : List ℕ) (n : ℕ) (a b : Model.Asked) → unnumbered (codeOf p) ≡ true → planBy c p n a ≡ planBy c p n b
+unfolding planBy
+alike c p n a b h =
+    let e : taskBy p n a ≡ taskBy p n b = event-task p (unnumbered-event (codeOf p) h) n a ∙ sym (event-task p (unnumbered-event (codeOf p) h) n b) in
+    λ i. refuse (ahead (codeOf p) n (c .written)) 20 (refuse (ltb (c .counts .waiting) (e i .claimed)) 4 (refuse (overRoom c (e i .place) (length p)) 5 (gives (e i))))
+
 module _ (c : Connection) (r : Rooms) (S : Sound c r) (p : List ℕ) where
+  -- it is the model's: of a number that is not above the last written, of a packet that is refused by 20, and of one that carries no number
+  asked-alike : (n : ℕ) → planBy c p n (askedIn c (r .requests) n) ≡ planBy c p n (askedOf (reads c r) n)
+  asked-alike n = go (ltb (c .written) n) refl (unnumbered (codeOf p)) refl
+    where
+      go : (x : Bool) → ltb (c .written) n ≡ x → (y : Bool) → unnumbered (codeOf p) ≡ y → planBy c p n (askedIn c (r .requests) n) ≡ planBy c p n (askedOf (reads c r) n)
+      unfolding ahead both
+      go false e y f = ap (planBy c p n) (asked-read c r S n (ltb-false (c .written) n e))
+      go true e true f = alike c p n _ _ f
+      go true e false f =
+          let h : ahead (codeOf p) n (c .written) ≡ true = simp (f, e) in
+          sym (plan-ahead c p n (askedIn c (r .requests) n) h) ∙ plan-ahead c p n (askedOf (reads c r) n) h
+
   by-read : (n : ℕ) (a : Model.Asked) → planBy c p n a ≡ decideBy (reads c r) p n a
   unfolding planBy decideBy overRoom reads
   by-read n a = λ i.
-      refuse (ltb (sym (length-wait c r S) i) (claimed p a)) 4
-      (refuse (both (isHeld (placeOf (codeOf p) a)) (ltb (c .room) (sym (used-read c r S) i + (headerSize + length p)))) 5 (gives (taskBy p n a)))
+      refuse (ahead (codeOf p) n (c .written)) 20
+      (refuse (ltb (sym (length-wait c r S) i) (claimed p a)) 4
+      (refuse (both (isHeld (placeOf (codeOf p) a)) (ltb (c .room) (sym (used-read c r S) i + (headerSize + length p)))) 5 (gives (taskBy p n a))))
 
   -- WHAT IS DECIDED is what the model decides, of the state as it is read.
   pub plan-read : planOf c (r .requests) p ≡ decide (reads c r) p
   unfolding planOf decide reads
   plan-read =
       ap (λ x. refuse (ltb (length p) leastPacket) 1 (refuse (ltb mostPacket (length p)) 2 x))
-      (pass-agree (packetNumberIn c p) _ _ (λ n e. by-read n (askedIn c (r .requests) n) ∙ ap (decideBy (reads c r) p n) (asked-read c r S n)))
+      (pass-agree (packetNumberIn c p) _ _ (λ n e. asked-alike n ∙ by-read n (askedOf (reads c r) n)))

@@ -11,7 +11,7 @@ ghost use lib.ListN.{length};
 ghost use Rattle.sequence.specs.Numbering.{lastNumber};
 ghost use Rattle.packet.specs.Packet.{leastPacket, mostPacket};
 ghost use Rattle.requests.specs.Room.{capacity};
-ghost use Rattle.model.specs.Model.{errorUnder, errorPlace, replyUnder, replyPlace, placeOf, claimed, isHeld};
+ghost use Rattle.model.specs.Model.{errorUnder, errorPlace, replyUnder, replyPlace, placeOf, claimed, isHeld, ahead};
 ghost use Rattle.filing.specs.Plan.{saysAsked, saysPlan, Fitting, raisedTo, firstAfter, askedIn, overRoom, planBy, planOf, numberedState};
 use model::Connection;
 use model::Place;
@@ -61,14 +61,12 @@ fn first_after(first: u64, written: u64, number: u64) -> u64
     number
 }
 
+// The request of a number that is not above the last written, if it is still outstanding.
 fn request_of(c: Connection, requests: &[u8], number: u64) -> Asked
     requires { ⌜ 0 < capacity (now requests) ⌝ }
     ensures { λ r. ⌜ saysAsked r ≡ askedIn c (now (requests .entry)) number ⌝ }
 {
     if number < c.first {
-        return Asked::Nobody;
-    }
-    if c.written < number {
         return Asked::Nobody;
     }
     Asked::Somebody(requests::get(requests, number))
@@ -167,11 +165,24 @@ fn over_room(c: Connection, place: Place, n: usize) -> bool
     c.room < window.end - window.start + (held::HEADER + n)
 }
 
+// Whether a packet of the code answers what was not asked: it is numbered, and above the last written.
+pub fn is_ahead(code: u8, number: u64, written: u64) -> bool
+    ensures { λ r. ⌜ r ≡ ahead code number written ⌝ }
+{
+    if number <= written {
+        return false;
+    }
+    !packet::is_unnumbered(code)
+}
+
 // What is to be done with a packet that has its number.
 fn plan_by(c: Connection, requests: &[u8], packet: &[u8], number: SequenceNumber) -> Plan
     requires { ⌜ (leastPacket ≤ length (now packet)) × (0 < capacity (now requests)) × (length (now packet) ≤ mostPacket) × Fitting c ⌝ }
     ensures { λ r. ⌜ saysPlan r ≡ planBy c (now (packet .entry)) (number .0) (askedIn c (now (requests .entry)) (number .0)) ⌝ }
 {
+    if is_ahead(packet[0], number.0, c.written) {
+        return Plan::Stop(Refusal::Ahead);
+    }
     let request = request_of(c, requests, number.0);
     let place = place_of(packet[0], request);
     let claim = claimed(packet, request);
@@ -184,9 +195,9 @@ fn plan_by(c: Connection, requests: &[u8], packet: &[u8], number: SequenceNumber
     Plan::File(place, number, claim)
 }
 
-// What is to be done with a packet: by 1 and 2 for its length, by 3 at the end of the numbers, by 4
-// where it claims more descriptors than wait, and by 5 where it is to be held and finds no room,
-// nothing; otherwise it is filed.
+// What is to be done with a packet: by 1 and 2 for its length, by 3 at the end of the numbers, by 20
+// where it answers what was not asked, by 4 where it claims more descriptors than wait, and by 5
+// where it is to be held and finds no room, nothing; otherwise it is filed.
 pub fn plan_of(c: Connection, requests: &[u8], packet: &[u8]) -> Plan
     requires { ⌜ (0 < capacity (now requests)) × Fitting c ⌝ }
     ensures { λ r. ⌜ saysPlan r ≡ planOf c (now (requests .entry)) (now (packet .entry)) ⌝ }

@@ -151,7 +151,7 @@ module _ (n : ℕ) (rest : List Request) (short : length rest ≤ 1) (fewer : le
       rw (le-ltb (n + 1) (n + 1 + 1 - length (rest ++ (last ∷ []))) h, way, drop-at rest (last ∷ []) (length rest) refl)
 
   take-one : packetNumber (sentOne n rest) (replyTo (n + 1)) ≡ gives (n + 1) → enqueuePacket (sentOne n rest) (replyTo (n + 1)) ≡ gives (inReplies (n + 1), tookOne (n + 1))
-  unfolding enqueuePacket pass refuse bytesOf turned lowBytes choose Model.takeIn Model.decide Model.decideBy Model.placeOf Model.claimed both either costs Model.numbered unnumbered
+  unfolding enqueuePacket pass refuse bytesOf turned lowBytes choose Model.takeIn Model.decide Model.ahead Model.decideBy Model.placeOf Model.claimed both either costs Model.numbered unnumbered
   take-one e =
       let m : max (n + 1) (n + 1) ≡ n + 1 = omega arith in
       rw (e, asked-one, way, drop-at rest (last ∷ []) (length rest) refl, m)

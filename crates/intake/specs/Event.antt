@@ -4,21 +4,20 @@ use mathlib.Core.Bool.{true, false}
 use mathlib.Core.List.{List}
 use Prim.Native.Nat.{ℕ, _+_, _≤_, _<_}
 use native.Mathlib.Omega.{arith}
-use lib.Dec.{ltb}
 use lib.ListN.{length}
-use borrow.Author.Tests.{le-ltb, ne-eqb}
-use Rattle.octets.specs.Logic.{choose, both}
+use borrow.Author.Tests.{le-ltb}
+use Rattle.octets.specs.Logic.{both}
 use Rattle.refusal.specs.Answer.{Answer, gives, refuse, pass}
 use Rattle.sequence.specs.Numbering.{lastNumber, saysFull}
 use Rattle.sequence.specs.declared.SequenceNumber.{SequenceNumber}
 use Rattle.sequence.specs.declared.Full.{Full}
 use Rattle.sequence.specs.declared.Full.the-variants as Full
-use Rattle.packet.specs.Packet.{leastPacket, mostPacket, codeOf, errorCode, replyCode}
+use Rattle.packet.specs.Packet.{leastPacket, mostPacket, codeOf, replyCode}
 use Rattle.held.specs.Head.{headerSize, held, event}
 use Rattle.held.specs.Reading.{used}
 use Rattle.held.specs.Moves.{left, Leaves, stays, behind, stays-room, append-behind}
 use Rattle.held.specs.declared.Window.{Window}
-use Rattle.model.specs.Model.{placeOf, claimed}
+use Rattle.model.specs.Model.{ahead}
 use Rattle.model.specs.Model as Model
 use Rattle.model.specs.Reading.{rooms}
 use Rattle.model.specs.declared.Connection.{Connection}
@@ -26,6 +25,8 @@ use Rattle.model.specs.declared.Place.the-variants as Place
 use Rattle.intake.specs.declared.event.Plain.{Plain}
 use Rattle.intake.specs.declared.event.Plain.the-variants as Plain
 use Rattle.filing.specs.Plan.{task, packetNumberIn, askedIn, overRoom, planBy, planOf, numberedState}
+use Rattle.filing.specs.Planned.{plan-file}
+use Rattle.filing.specs.Theorems.{event-place, event-claims}
 use Rattle.model.specs.Moved.{movedState}
 use Rattle.intake.specs.Exact.{Takeable, filing, carriedOut, enqueueExact}
 use Rattle.intake.specs.Steps.{file-event}
@@ -39,12 +40,13 @@ pub record Writable (c : Connection) (s : List ℕ) : Type 0 where
 pub ready-writable : (c : Connection) (q s f : List ℕ) → Takeable c q s f → Writable c s
 ready-writable c q s f R = record { within = R .within; store = R .store; written = R .numbers .written-most }
 
--- an event with the number n for which the window stays where it is
+-- an event with the number n, which is not ahead, for which the window stays where it is
 pub record PlainEvent (c : Connection) (s p : List ℕ) (n : ℕ) : Type 0 where
   pub code : replyCode < codeOf p
   pub least : leastPacket ≤ length p
   pub most : length p ≤ mostPacket
   pub number : gives n ≡ packetNumberIn c p
+  pub asked : ahead (codeOf p) n (c .written) ≡ false
   pub stays-there : stays (c .window) s (headerSize + length p) ≡ true
 
 abbrev pub IsPlain : Connection → List ℕ → List ℕ → Plain → Type 0
@@ -58,27 +60,13 @@ pub record PlainStep (c : Connection) (s p : List ℕ) (n : ℕ) (a : Connection
 -- ---- laws
 
 pub plain-numbered : (c : Connection) (s p : List ℕ) (x : Full) → saysFull x ≡ packetNumberIn c p → (n : SequenceNumber) → x ≡ Full.Number n
-    → replyCode < codeOf p → leastPacket ≤ length p → length p ≤ mostPacket → stays (c .window) s (headerSize + length p) ≡ true → PlainEvent c s p (n .0)
-plain-numbered c s p x e n g h least most t = record { code = h; least = least; most = most; number = ap saysFull (sym g) ∙ e; stays-there = t }
+    → ahead (codeOf p) (n .0) (c .written) ≡ false → replyCode < codeOf p → leastPacket ≤ length p → length p ≤ mostPacket → stays (c .window) s (headerSize + length p) ≡ true → PlainEvent c s p (n .0)
+plain-numbered c s p x e n g a h least most t = record { code = h; least = least; most = most; number = ap saysFull (sym g) ∙ e; asked = a; stays-there = t }
 
 module _ (c : Connection) (s p : List ℕ) (n : ℕ) (W : Writable c s) (P : PlainEvent c s p n) where
   -- the record has its place behind the window
   pub plain-room : c .window .end + (headerSize + length p) ≤ length s
   plain-room = stays-room (c .window) s (headerSize + length p) (P .stays-there)
-
-  -- it is filed as an event, and claims nothing
-  place-event : (a : Model.Asked) → placeOf (codeOf p) a ≡ Place.Events
-  unfolding placeOf choose
-  place-event a =
-      let x : codeOf p ≡ errorCode → ⊥ = λ e. omega (arith, P .code) in
-      let y : codeOf p ≡ replyCode → ⊥ = λ e. omega (arith, P .code) in
-      simp (ne-eqb (codeOf p) errorCode x, ne-eqb (codeOf p) replyCode y)
-
-  claims-no : (a : Model.Asked) → claimed p a ≡ 0
-  unfolding claimed choose both
-  claims-no a =
-      let y : codeOf p ≡ replyCode → ⊥ = λ e. omega (arith, P .code) in
-      simp (ne-eqb (codeOf p) replyCode y)
 
   -- it finds room
   over-no : overRoom c Place.Events (length p) ≡ false
@@ -86,10 +74,8 @@ module _ (c : Connection) (s p : List ℕ) (n : ℕ) (W : Writable c s) (P : Pla
   over-no = le-ltb (c .room) (used (c .window) + (headerSize + length p)) (omega (arith, plain-room, W .store))
 
   plan-plain : (a : Model.Asked) → planBy c p n a ≡ gives (task Place.Events n 0)
-  unfolding planBy refuse
   plan-plain a =
-      (λ i. refuse (ltb (c .counts .waiting) (claims-no a i)) 4 (refuse (overRoom c (place-event a i) (length p)) 5 (gives (task (place-event a i) n (claims-no a i)))))
-      ∙ (simp (le-ltb (c .counts .waiting) 0 (omega arith), over-no))
+      sym (plan-file c p n (P .asked) a a refl Place.Events 0 (sym (event-place p (P .code) a)) (sym (event-claims p a (event-place p (P .code) a))) (omega arith) over-no)
 
   plan-is : (q : List ℕ) → planOf c q p ≡ gives (task Place.Events n 0)
   unfolding planOf refuse pass

@@ -65,7 +65,7 @@ pub record FileDone (c : Connection) (s f : List ℕ) (place : Place) (k : ℕ) 
 unfoldable pub carriedOut : Connection → Rooms → List ℕ → Task → Done Filing
 carriedOut c r p t = filedAs (t .place) (numberedState c (codeOf p) (t .number)) r (t .claimed) p
 
--- 1, 2, 3, 4, 5, or what the plan says
+-- 1, 2, 3, 20, 4, 5, or what the plan says
 unfoldable pub enqueueExact : Connection → Rooms → List ℕ → Answer (Done Filing)
 enqueueExact c r p = pass (planOf c (r .requests) p) (λ t. gives (carriedOut c r p t))
 

@@ -1,7 +1,7 @@
 // The short way in: an event whose record goes behind the window as it stands.
 //
-// It asks nothing of the requests and claims no descriptors, so all that happens to the rooms is one
-// record written. A row of such packets keeps what changes in a few numbers.
+// It asks nothing of the requests but that its own was sent, and claims no descriptors, so all that
+// happens to the rooms is one record written. A row of such packets keeps what changes in a few numbers.
 use held::Label;
 use model::Connection;
 use model::moved;
@@ -30,7 +30,13 @@ pub fn plain_of(c: Connection, store: &[u8], packet: &[u8]) -> Plain
         return Plain::Other;
     }
     match packet::number_after(c.order, SequenceNumber(c.read), packet) {
-        Full::Number(number) => Plain::Event(number),
+        Full::Number(number) => {
+            if filing::is_ahead(packet[0], number.0, c.written) {
+                Plain::Other
+            } else {
+                Plain::Event(number)
+            }
+        }
         Full::Refused(_) => Plain::Other,
     }
 }

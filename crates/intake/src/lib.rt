@@ -61,8 +61,9 @@ fn file(
     }
 }
 
-// A packet is taken in. Refused by 1 and 2 for its length, by 3 at the end of the numbers, by 4
-// where it claims more descriptors than wait, and by 5 where it is to be held and finds no room.
+// A packet is taken in. Refused by 1 and 2 for its length, by 3 at the end of the numbers, by 20
+// where it answers what was not asked, by 4 where it claims more descriptors than wait, and by 5
+// where it is to be held and finds no room.
 pub fn enqueue_packet(
     c: Connection,
     requests: &[u8],

@@ -9,20 +9,23 @@ use Rattle.refusal.specs.Answer.{Answer, gives, refuse, pass, pass-agree, pass-
 use Rattle.packet.specs.Packet.{leastPacket, mostPacket, codeOf}
 use Rattle.held.specs.Head.{headerSize}
 use Rattle.model.specs.Client.{Client, used}
-use Rattle.model.specs.Model.{packetNumber, Asked, askedOf, placeOf, claimed, isHeld, Filing, taskBy, decideBy, decide, takeIn, enqueuePacket}
+use Rattle.model.specs.Model.{packetNumber, Asked, askedOf, placeOf, claimed, isHeld, Filing, taskBy, ahead, decideBy, decide, takeIn, enqueuePacket}
 
--- a packet that has its number and whose request is known: 4, 5, or it is taken in
+-- a packet that has its number and whose request is known: 20, 4, 5, or it is taken in
 abbrev pub filedBy : Client → List ℕ → ℕ → Asked → Answer (Filing × Client)
 filedBy c p n a =
-    refuse (ltb (length (c .waiting)) (claimed p a)) 4
+    refuse (ahead (codeOf p) n (c .numbers .written)) 20
+    (refuse (ltb (length (c .waiting)) (claimed p a)) 4
     (refuse (both (isHeld (placeOf (codeOf p) a)) (ltb (c .most-bytes) (used c + (headerSize + length p)))) 5
-    (gives (takeIn c p (taskBy p n a))))
+    (gives (takeIn c p (taskBy p n a)))))
 
 by-filed : (c : Client) (p : List ℕ) (n : ℕ) (a : Asked) → pass (decideBy c p n a) (λ t. gives (takeIn c p t)) ≡ filedBy c p n a
 unfolding decideBy pass
-by-filed c p n a = pass-refuse _ 4 _ _ ∙ ap (refuse (ltb (length (c .waiting)) (claimed p a)) 4) (pass-refuse _ 5 _ _)
+by-filed c p n a =
+    pass-refuse _ 20 _ _
+    ∙ ap (refuse (ahead (codeOf p) n (c .numbers .written)) 20) (pass-refuse _ 4 _ _ ∙ ap (refuse (ltb (length (c .waiting)) (claimed p a)) 4) (pass-refuse _ 5 _ _))
 
--- 1, 2, 3, 4 and 5 in their order
+-- 1, 2, 3, 20, 4 and 5 in their order
 pub enqueue-chain : (c : Client) (p : List ℕ) → enqueuePacket c p
     ≡ refuse (ltb (length p) leastPacket) 1 (refuse (ltb mostPacket (length p)) 2 (pass (packetNumber c p) (λ n. filedBy c p n (askedOf c n))))
 unfolding enqueuePacket decide

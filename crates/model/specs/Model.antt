@@ -161,14 +161,19 @@ pub record Task : Type 0 where
 abbrev pub taskBy : List ℕ → ℕ → Asked → Task
 taskBy p n a = record { place = placeOf (codeOf p) a; number = n; claimed = claimed p a }
 
--- A packet that has its number and whose request is known: 4 where it claims more descriptors than wait, 5 where it is to be held and its cost does not fit.
+-- 02, M-103: "A numbered packet whose full number is above the last written must be refused": by its code, its number and the last written
+unfoldable pub ahead : ℕ → ℕ → ℕ → Bool
+ahead code n written = both (not (unnumbered code)) (ltb written n)
+
+-- A packet that has its number and whose request is known: 20 where it answers what was not asked, 4 where it claims more descriptors than wait, 5 where it is to be held and its cost does not fit.
 unfoldable pub decideBy : Client → List ℕ → ℕ → Asked → Answer Task
 decideBy c p n a =
-    refuse (ltb (length (c .waiting)) (claimed p a)) 4
+    refuse (ahead (codeOf p) n (c .numbers .written)) 20
+    (refuse (ltb (length (c .waiting)) (claimed p a)) 4
     (refuse (both (isHeld (placeOf (codeOf p) a)) (ltb (c .most-bytes) (used c + (headerSize + length p)))) 5
-    (gives (taskBy p n a)))
+    (gives (taskBy p n a))))
 
--- 1, 2, 3, 4, 5
+-- 1, 2, 3, 20, 4, 5
 unfoldable pub decide : Client → List ℕ → Answer Task
 decide c p =
     refuse (ltb (length p) leastPacket) 1

@@ -1,10 +1,10 @@
--- 01, Refusal numbers: the table, with those of 02, M-100. Assumes nothing.
+-- 01, Refusal numbers: the table, with those of 02, M-100 and M-103. Assumes nothing.
 use mathlib.Core.Path.{_≡_, refl}
 use mathlib.Core.List.{List, [], _∷_}
 use Prim.Native.Nat.{ℕ, _-_}
 use lib.ListN.{getD}
 use Rattle.refusal.specs.declared.Refusal.{Refusal}
-use Rattle.refusal.specs.declared.Refusal.the-variants.{ShortPacket, LongPacket, NumberEnd, FewDescriptors, NoRoom, SyncFirst, OverAdvance, OutShort, BadRoom, ZeroMask, IdsExhausted, BadRange, BadOrder, BadContent, Incomplete, LongAuth, HasDescriptors, BadSavepoint}
+use Rattle.refusal.specs.declared.Refusal.the-variants.{ShortPacket, LongPacket, NumberEnd, FewDescriptors, NoRoom, SyncFirst, OverAdvance, OutShort, BadRoom, ZeroMask, IdsExhausted, BadRange, BadOrder, BadContent, Incomplete, LongAuth, HasDescriptors, BadSavepoint, Ahead}
 
 -- the number that the table gives a refusal
 abbrev pub numberOf : Refusal → ℕ
@@ -26,12 +26,13 @@ numberOf Incomplete = 15
 numberOf LongAuth = 16
 numberOf HasDescriptors = 18
 numberOf BadSavepoint = 19
+numberOf Ahead = 20
 
 -- the refusals in the order of the table; the place of 17, which is no refusal's, is filled by another
 unfoldable pub table : List Refusal
 table =
     ShortPacket ∷ LongPacket ∷ NumberEnd ∷ FewDescriptors ∷ NoRoom ∷ SyncFirst ∷ OverAdvance ∷ OutShort ∷ BadRoom ∷ ZeroMask ∷ IdsExhausted ∷ BadRange ∷ BadOrder ∷ BadContent ∷ Incomplete
-    ∷ LongAuth ∷ BadRoom ∷ HasDescriptors ∷ BadSavepoint ∷ []
+    ∷ LongAuth ∷ BadRoom ∷ HasDescriptors ∷ BadSavepoint ∷ Ahead ∷ []
 
 -- the refusal of a number
 unfoldable pub refusalOf : ℕ → Refusal
@@ -58,3 +59,4 @@ listed Incomplete = refl
 listed LongAuth = refl
 listed HasDescriptors = refl
 listed BadSavepoint = refl
+listed Ahead = refl

@@ -45,6 +45,8 @@ pub enum Refusal {
     HasDescriptors,
     // 19: bytes that are no savepoint.
     BadSavepoint,
+    // 20: a packet whose number is above the last written.
+    Ahead,
 }
 
 impl Refusal {
@@ -71,6 +73,7 @@ impl Refusal {
             Refusal::LongAuth => 16,
             Refusal::HasDescriptors => 18,
             Refusal::BadSavepoint => 19,
+            Refusal::Ahead => 20,
         }
     }
 }

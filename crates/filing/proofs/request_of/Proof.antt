@@ -10,16 +10,12 @@ returns : tie.Need-returns
 unfolding askedIn choose
 returns c = simp (lt-ltb _ _ (c .if1 .taken))
 
-returns-2 : tie.Need-returns-2
-unfolding askedIn choose
-returns-2 c = simp (le-ltb _ _ (c .before .before .if1 .left), lt-ltb _ _ (c .if2 .taken))
-
 get-requires : tie.Need-get-requires
 get-requires c κs = search needs
 
-returns-3 : tie.Need-returns-3
+returns-2 : tie.Need-returns-2
 unfolding askedIn choose
-returns-3 c = simp (le-ltb _ _ (c .before .before .before .if1 .left), le-ltb _ _ (c .before .if2 .left), c .get .ensures)
+returns-2 c = simp (le-ltb _ _ (c .before .if1 .left), c .get .ensures)
 
 pub request-of-spec : {M : Type 1} → statement M
-request-of-spec = tie.close (tie.spec returns returns-2 get-requires returns-3)
+request-of-spec = tie.close (tie.spec returns get-requires returns-2)

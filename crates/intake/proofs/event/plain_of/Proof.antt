@@ -28,6 +28,12 @@ number-after-requires c κs = search needs
 enum-known-number : tie.Need-enum-known-number
 enum-known-number c = search needs
 
+shared-slice-read-is-ahead : tie.Need-shared-slice-read-is-ahead
+shared-slice-read-is-ahead c = search needs
+
+is-ahead-requires : tie.Need-is-ahead-requires
+is-ahead-requires c κs = search needs
+
 enum-told : tie.Need-enum-told
 enum-told c = search needs
 
