@@ -11,7 +11,7 @@ use Rattle.refusal.specs.Answer.{Answer, gives, refuses, refuse, pass}
 use Rattle.sequence.specs.Numbering.{full, inRange}
 use Rattle.packet.specs.Packet.{hasLength, unnumbered, numberAfter}
 use Rattle.packet_reader.specs.Frame.{total, totalOf, aim, cuts, cutPackets}
-use Rattle.model.specs.Client.{Held, Client, heldPacket, setEvents, costs, descriptorsOf}
+use Rattle.model.specs.Client.{Held, Client, heldPacket, setNumbers, setEvents, costs, descriptorsOf}
 use Rattle.model.specs.Model as Model
 use Rattle.model.specs.Batch as Batch
 use Rattle.model.specs.Batch.{goes, stops, many, onTurn, modelTurn}
@@ -24,9 +24,12 @@ abbrev said : Answer (Feeding × Client) → Answer ShownFed
 said (gives x) = gives (shownFed (x .0))
 said (refuses n) = refuses n
 
--- a fresh connection whose store takes three packets of 32 bytes
+-- a connection that sent three requests, whose store takes three packets of 32 bytes
+abbrev asked : ℕ → Client
+asked o = setNumbers (Model.fresh o 2 144) (record { written = 3; expected = 0; read = 0 })
+
 abbrev fed : List ℕ → Answer ShownFed
-fed bytes = said (enqueuePackets (Model.fresh 108 2 144) bytes)
+fed bytes = said (enqueuePackets (asked 108) bytes)
 
 abbrev took : ℕ → ℕ → Stopped → Answer ShownFed
 took bytes packets stopped = gives (record { bytes = bytes; packets = packets; stopped = stopped })
@@ -42,14 +45,21 @@ longer = 1 ∷ 0 ∷ 2 ∷ 0 ∷ 1 ∷ replicate 31 0
 abbrev over : List ℕ
 over = 35 ∷ 0 ∷ 3 ∷ 0 ∷ 249 ∷ 63 ∷ replicate 26 0
 
--- two packets and part of a third; the fourth of four finds no room; of part of a packet nothing is taken; no bytes are the end; one that is too long is refused as soon as its length is there
+-- an event of a request that was not sent, and a KeymapNotify with the same bits
+abbrev early : List ℕ
+early = 2 ∷ 0 ∷ 4 ∷ 0 ∷ replicate 28 0
+
+abbrev keymap : List ℕ
+keymap = 11 ∷ 0 ∷ 4 ∷ 0 ∷ replicate 28 0
+
+-- two packets and part of a third; the fourth of four finds no room; of part of a packet nothing is taken; no bytes are the end; one that is too long is refused as soon as its length is there; the row stops before an answer to what was not asked, though others are behind it
 pub feeds : (fed (event ++ longer ++ 2 ∷ 0 ∷ []) ≡ took 68 2 partial) × (fed (event ++ event ++ event ++ event) ≡ took 96 3 (refused 5)) × (fed (2 ∷ 0 ∷ []) ≡ took 0 0 partial) × (fed [] ≡ took 0 0 ended)
-    × (fed (event ++ over) ≡ took 32 1 (refused 2)) × (fed (35 ∷ 0 ∷ 3 ∷ 0 ∷ 249 ∷ 63 ∷ replicate 25 0) ≡ took 0 0 partial)
+    × (fed (event ++ over) ≡ took 32 1 (refused 2)) × (fed (35 ∷ 0 ∷ 3 ∷ 0 ∷ 249 ∷ 63 ∷ replicate 25 0) ≡ took 0 0 partial) × (fed (event ++ keymap ++ early ++ event) ≡ took 64 2 (refused 20))
 unfolding enqueuePackets cutPackets cuts aim totalOf total hasLength stopAt many onTurn modelTook bytesTaken Model.enqueuePacket numberAfter unnumbered Model.numbered Model.askedOf Model.headOf Model.placeOf Model.claimed Model.takeIn Model.decide Model.ahead Model.decideBy pass refuse inRange full field numberIn cut turned bytesOf lowBytes lowNumber costs descriptorsOf choose both either
-feeds = (refl, refl, refl, refl, refl, refl)
+feeds = (refl, refl, refl, refl, refl, refl, refl)
 
 -- in the other order: the same two packets, of which the second has its length elsewhere
-pub feeds-big : said (enqueuePackets (Model.fresh 66 2 144) (2 ∷ 0 ∷ 0 ∷ 1 ∷ (replicate 28 0 ++ (1 ∷ 0 ∷ 0 ∷ 2 ∷ 0 ∷ 0 ∷ 0 ∷ 1 ∷ replicate 28 0)))) ≡ took 68 2 ended
+pub feeds-big : said (enqueuePackets (asked 66) (2 ∷ 0 ∷ 0 ∷ 1 ∷ (replicate 28 0 ++ (1 ∷ 0 ∷ 0 ∷ 2 ∷ 0 ∷ 0 ∷ 0 ∷ 1 ∷ replicate 28 0)))) ≡ took 68 2 ended
 unfolding enqueuePackets cutPackets cuts aim totalOf total hasLength stopAt many onTurn modelTook bytesTaken Model.enqueuePacket numberAfter unnumbered Model.numbered Model.askedOf Model.headOf Model.placeOf Model.claimed Model.takeIn Model.decide Model.ahead Model.decideBy pass refuse inRange full field numberIn cut turned bytesOf lowBytes lowNumber costs descriptorsOf choose both either
 feeds-big = refl
 

@@ -1,8 +1,10 @@
--- By which numbers the calls of a sound state are refused: 1 to 8, so never by 9, and never by 0, which an export returns for what is given. Assumes nothing.
+-- By which numbers the calls of a sound state are refused: 1 to 8 and 20, so never by 9, and never by 0, which an export returns for what is given. Assumes nothing.
 use mathlib.Core.Bool.{Bool, true, false}
 use mathlib.Core.List.{List, [], _∷_}
+use mathlib.Core.Logic.{_⊎_, inl, inr}
 use mathlib.Core.Path.{_≡_, refl, sym, subst}
 use Prim.Native.Nat.{ℕ, _≤_}
+use native.Mathlib.Omega.{arith}
 use lib.Dec.{leb}
 use lib.ListN.{length}
 use borrow.Author.Tests.{leb-true}
@@ -27,15 +29,20 @@ use Rattle.honest.specs.Public.{refused-so}
 use Rattle.session.specs.Ask.{Ask, send-request, enqueue-fds, enqueue-packet, discard-reply, poll-for-reply-or-error, poll-check-for-reply-or-error, poll-for-reply, poll-for-event-with-sequence, take-closed-fds, prepare-check-for-reply-or-error, send-requests, enqueue-packets, poll-for-events, form, Value, Outputs, Answers}
 use Rattle.session.specs.AskLaws.{has-form}
 
--- a refusal, if it is one, is by 1 to m
+-- a refusal, if it is one, is by 1 to m, or by 20
 pub data Within (m : ℕ) {A : Type 0} : Answer A → Type 0 where
   given : {x : A} → Within m (gives x)
-  named : {n : ℕ} → 1 ≤ n → n ≤ m → Within m (refuses n)
+  named : {n : ℕ} → 1 ≤ n → (n ≤ m) ⊎ (n ≡ 20) → Within m (refuses n)
 
 pub within-refuse : {m : ℕ} {A : Type 0} {a : Answer A} (b : Bool) (n : ℕ) → leb 1 n ≡ true → leb n m ≡ true → Within m a → Within m (refuse b n a)
 unfolding refuse
-within-refuse true n h k w = named (leb-true _ _ h) (leb-true _ _ k)
+within-refuse true n h k w = named (leb-true _ _ h) (inl (leb-true _ _ k))
 within-refuse false n h k w = w
+
+within-ahead : {m : ℕ} {A : Type 0} {a : Answer A} (b : Bool) → Within m a → Within m (refuse b 20 a)
+unfolding refuse
+within-ahead true w = named (omega arith) (inr refl)
+within-ahead false w = w
 
 pub within-pass : {m : ℕ} {A B : Type 0} {a : Answer A} {f : A → Answer B} → Within m a → ((x : A) → Within m (f x)) → Within m (pass a f)
 unfolding pass
@@ -63,7 +70,7 @@ unfolding decide decideBy
 decided-within c p =
     within-refuse _ 1 refl refl
     (within-refuse _ 2 refl refl
-    (within-pass (number-within _ _ p) (λ n. within-refuse _ 4 refl refl (within-refuse _ 5 refl refl given))))
+    (within-pass (number-within _ _ p) (λ n. within-ahead _ (within-refuse _ 4 refl refl (within-refuse _ 5 refl refl given)))))
 
 packet-within : (c : Client) (p : List ℕ) → Within 8 (enqueuePacket c p)
 unfolding enqueuePacket
@@ -88,7 +95,7 @@ event-within c bytes (h ∷ l) = within-refuse _ 8 refl refl given
 -- a row of polls: what stops it
 abbrev StopWithin : Stop → Type 0
 StopWithin ended = Unit {0}
-StopWithin (refused n) = (1 ≤ n) × (n ≤ 8)
+StopWithin (refused n) = (1 ≤ n) × ((n ≤ 8) ⊎ (n ≡ 20))
 StopWithin meaningless = Unit {0}
 
 abbrev TurnWithin : {A S : Type 0} → Turn A Stop S → Type 0

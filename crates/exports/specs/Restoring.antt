@@ -2,6 +2,7 @@
 use mathlib.Core.Bool.{Bool, true, false, not}
 use mathlib.Core.List.{List, [], _∷_}
 use mathlib.Core.Option.{Option, none, some}
+use mathlib.Core.Logic.{inl}
 use mathlib.Core.Path.{_≡_, refl, sym, ap, _∙_, subst}
 use Prim.Native.Nat.{ℕ}
 use native.Mathlib.Omega.{arith}
@@ -42,7 +43,7 @@ saved-within x room =
 
 taken-within : (o : Option (Sections × List ℕ)) → Within 19 (taken o)
 unfolding taken
-taken-within none = named {n = 19} (omega arith) (omega arith)
+taken-within none = named {n = 19} (omega arith) (inl (omega arith))
 taken-within (some p) = within-refuse _ 19 refl refl given
 
 restored-within : (fit : Bool) (bytes : List ℕ) (r : Rooms) (b : List ℕ) → Within 19 (restoredIn fit bytes r b)

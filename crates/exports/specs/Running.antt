@@ -1,5 +1,6 @@
 -- Export by export a run goes on as a session. Assumes nothing.
 use mathlib.Core.List.{List, []}
+use mathlib.Core.Logic.{inl, inr}
 use mathlib.Core.Path.{_≡_, refl, sym, ap, _∙_, subst}
 use Prim.Native.Nat.{ℕ}
 use native.Mathlib.Omega.{arith}
@@ -95,7 +96,8 @@ run-row
 -- 9 is for what means nothing
 nine : {A : Type 0} {a : Answer A} → Within 8 a → returned a ≡ 9 → ⊥
 nine given e = omega (arith, e)
-nine (named p q) e = omega arith
+nine (named p (inl q)) e = omega arith
+nine (named p (inr q)) e = omega arith
 
 pub came-nine : {s s' : List ℕ} {q q' : Rooms} {l : List Entry} {adds : List Entry → List Entry} {r : ℕ} {why : Type 0} → Session (connectionOf s) q l → Came s q s' q' adds r why → r ≡ 9 → why
 came-nine {s} {q = q} {q' = q'} k (asked x) e =

@@ -3,7 +3,7 @@ use mathlib.Core.Bool.{false}
 use mathlib.Core.List.{List, [], _∷_}
 use mathlib.Core.Logic.{_⊎_, inl, inr}
 use mathlib.Core.Path.{_≡_, refl, sym, ap, subst}
-use Prim.Native.Nat.{ℕ}
+use Prim.Native.Nat.{ℕ, _≤_}
 use native.Mathlib.Omega.{arith}
 use lib.ListN.{length, take}
 use Rattle.refusal.specs.Answer.{Answer, gives, refuses}
@@ -21,7 +21,7 @@ use Rattle.honest.specs.Origins.{Lists, Traced, AllTied}
 use Rattle.session.specs.Ask.{enqueue-packet, enqueue-packets}
 use Rattle.session.specs.Noting.{noteFed}
 use Rattle.session.specs.Session.{Session, call}
-use Rattle.session.specs.Theorems.{session-sound, session-true, session-filed, session-never-ended}
+use Rattle.session.specs.Theorems.{session-sound, session-true, session-filed, session-never-ended, session-never-past}
 use Rattle.session.specs.Serving.{bytesIn, numbersIn, FiledAll}
 use Rattle.session.specs.Served.{session-runs, session-tied, session-fed}
 use Rattle.rows.specs.State.{connectionSlots, connectionOf}
@@ -52,6 +52,10 @@ exports-true k h = session-true (run-session k) h
 -- TIED: however the records of a run are followed, each that is held bears the true number of the very packet that it came from.
 pub exports-tied : {state requests store slots : List ℕ} {l : List Entry} (k : Run state requests store slots l) → Honest (connectionOf state .order) l → (x : Lists) → Traced (clientOf state requests store slots) l (session-runs (run-session k)) x → AllTied (packetsIn l) x
 exports-tied k h x t = session-tied (run-session k) h x t
+
+-- NEVER PAST: whatever the server sends, honest or not, the last read does not pass next reply expected, nor that the last written.
+pub exports-never-past : {state requests store slots : List ℕ} {l : List Entry} → Run state requests store slots l → (connectionOf state .read ≤ connectionOf state .expected) × (connectionOf state .expected ≤ connectionOf state .written)
+exports-never-past k = session-never-past (run-session k)
 
 -- SOUND: no export of a run returns 9, but for a kind or a mode that means nothing.
 pub exports-sound : {state requests store slots state' requests' store' slots' : List ℕ} {l : List Entry} {adds : List Entry → List Entry} {r : ℕ} → Run state requests store slots l
@@ -85,7 +89,7 @@ module _ {state requests store slots : List ℕ} {l : List Entry} (k : Run state
   pub exports-filed : r ≡ 0 → Filed (clientOf state requests store slots) packet t (record { place = placeAt place'; number = number' }, clientOf state' requests store' slots')
   exports-filed z = filed (enqueues .exported .answer) (enqueues .exported .promise) (enqueues .exported .number) (enqueues .exported .values) (enqueues .state) z
 
-  -- NEVER ENDED: otherwise it returned 1, 2, 4 or 5.
+  -- NEVER ENDED, NEVER AHEAD: otherwise it returned 1, 2, 4 or 5.
   pub exports-never-ended : r ≡ 0 ⊎ r ≡ 1 ⊎ r ≡ 2 ⊎ r ≡ 4 ⊎ r ≡ 5
   exports-never-ended = go (enqueues .exported .answer) (enqueues .exported .promise) (enqueues .exported .number)
     where

@@ -84,14 +84,14 @@ alike c p n a b h =
 module _ (c : Connection) (r : Rooms) (S : Sound c r) (p : List ℕ) where
   -- it is the model's: of a number that is not above the last written, of a packet that is refused by 20, and of one that carries no number
   asked-alike : (n : ℕ) → planBy c p n (askedIn c (r .requests) n) ≡ planBy c p n (askedOf (reads c r) n)
+  unfolding ahead both
   asked-alike n = go (ltb (c .written) n) refl (unnumbered (codeOf p)) refl
     where
       go : (x : Bool) → ltb (c .written) n ≡ x → (y : Bool) → unnumbered (codeOf p) ≡ y → planBy c p n (askedIn c (r .requests) n) ≡ planBy c p n (askedOf (reads c r) n)
-      unfolding ahead both
       go false e y f = ap (planBy c p n) (asked-read c r S n (ltb-false (c .written) n e))
       go true e true f = alike c p n _ _ f
       go true e false f =
-          let h : ahead (codeOf p) n (c .written) ≡ true = simp (f, e) in
+          let h : ahead (codeOf p) n (c .written) ≡ true = simp (e, f) in
           sym (plan-ahead c p n (askedIn c (r .requests) n) h) ∙ plan-ahead c p n (askedOf (reads c r) n) h
 
   by-read : (n : ℕ) (a : Model.Asked) → planBy c p n a ≡ decideBy (reads c r) p n a

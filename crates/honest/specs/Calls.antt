@@ -3,17 +3,17 @@ use mathlib.Core.Bool.{Bool, true, false}
 use mathlib.Core.List.{List, [], _∷_, _++_}
 use mathlib.Core.Path.{_≡_, refl, sym, ap, _∙_}
 use mathlib.Core.Logic.{_⊎_, inl, inr}
-use Prim.Native.Nat.{ℕ, max}
+use Prim.Native.Nat.{ℕ, _≤_, max}
 use native.Mathlib.Omega.{arith}
 use lib.ListN.{drop}
 use Rattle.octets.specs.Logic.{choose}
-use Rattle.refusal.specs.Answer.{Answer, gives, refuses, refuse, gives-rest, gives-same, pass-given}
+use Rattle.refusal.specs.Answer.{Answer, gives, refuses, refuse, gives-past, gives-rest, gives-same, pass-given}
 use Rattle.sequence.specs.Numbering.{full, inRange}
 use Rattle.model.specs.Client.{Held, Client, setWaiting}
 use Rattle.packet.specs.Packet.{codeOf, unnumbered, wireOf}
 use Rattle.packet.specs.Laws.{number-last, number-full}
-use Rattle.model.specs.Deciding.{enqueue-chain}
-use Rattle.model.specs.Model.{hasReply, sendRequest, enqueueFds, takeClosed, packetNumber, numbered, askedOf, placeOf, claimed, filed, Filing, takeIn, enqueuePacket, withMode, discarding, discardReply, Found, nothing, at, find, takenBy, pollForReplyOrError, checkedBy, pollCheck, repliedBy, pollForReply, eventBy, pollForEvent}
+use Rattle.model.specs.Deciding.{ahead-not, enqueue-chain}
+use Rattle.model.specs.Model.{hasReply, sendRequest, enqueueFds, takeClosed, packetNumber, numbered, askedOf, placeOf, claimed, filed, Filing, ahead, takeIn, enqueuePacket, withMode, discarding, discardReply, Found, nothing, at, find, takenBy, pollForReplyOrError, checkedBy, pollCheck, repliedBy, pollForReply, eventBy, pollForEvent}
 use Rattle.model.specs.Calls.{send, enqueue-fds, enqueue, discard, poll, check, poll-reply, prepare, poll-event, take-closed, Said, step, outcome}
 use Rattle.model.specs.declared.ReplyFdKind.{ReplyFdKind}
 use Rattle.model.specs.declared.DiscardMode.{DiscardMode}
@@ -131,6 +131,7 @@ countedAs c p n = setWaiting (numbered c p n) (drop (claimed p (askedOf c n)) (c
 pub record Taking (c : Client) (p : List ℕ) (x : Filing × Client) : Type 0 where
   pub n : ℕ
   pub number-is : gives n ≡ packetNumber c p
+  pub asked-is : ahead (codeOf p) n (c .numbers .written) ≡ false
   pub filing-is : x .0 ≡ record { place = placeOf (codeOf p) (askedOf c n); number = n }
   pub next-is : x .1 ≡ filed (placeOf (codeOf p) (askedOf c n)) (heldAs c p n) (countedAs c p n)
 
@@ -138,8 +139,8 @@ pub taking : (c : Client) (p : List ℕ) (x : Filing × Client) → gives x ≡ 
 unfolding takeIn
 taking c p x e =
     let g = pass-given _ _ (gives-rest _ 2 _ (gives-rest _ 1 _ (e ∙ enqueue-chain c p))) in
-    let h = gives-same (gives-rest _ 5 _ (gives-rest _ 4 _ (g .2))) in
-    record { n = g .0; number-is = g .1; filing-is = ap (λ k. k .0) h; next-is = ap (λ k. k .1) h }
+    let h = gives-same (gives-rest _ 5 _ (gives-rest _ 4 _ (gives-rest _ 20 _ (g .2)))) in
+    record { n = g .0; number-is = g .1; asked-is = gives-past _ 20 _ (g .2); filing-is = ap (λ k. k .0) h; next-is = ap (λ k. k .1) h }
 
 still-filed : (place : Place) (h : Held) (c : Client) → Still c (filed place h c)
 still-filed Place.Replies h c = (refl, refl)
@@ -155,6 +156,7 @@ lands-filed Place.Dropped h c c' p q = (p, q)
 pub record Counted (c : Client) (p : List ℕ) (x : Filing × Client) : Type 0 where
   pub order-is : x .1 .order ≡ c .order
   pub number-is : gives (x .0 .number) ≡ inRange (full (c .numbers .read) (wireOf (c .order) p))
+  pub sent-is : x .0 .number ≤ c .numbers .written
   pub numbers-is : x .1 .numbers ≡ record { written = c .numbers .written; expected = max (c .numbers .expected) (x .0 .number); read = x .0 .number }
 
 module _ (c : Client) (p : List ℕ) (x : Filing × Client) (k : Taking c p x) where
@@ -175,6 +177,7 @@ module _ (c : Client) (p : List ℕ) (x : Filing × Client) (k : Taking c p x) w
       record {
         order-is = still-taken .0;
         number-is = ap gives (sym a) ∙ k .number-is ∙ number-full (c .order) (c .numbers .read) p h;
+        sent-is = omega (arith, ahead-not (codeOf p) (k .n) (c .numbers .written) h (k .asked-is));
         numbers-is =
             still-taken .1
             ∙ (λ i. record { written = c .numbers .written; expected = choose (h i) (c .numbers .expected) (max (c .numbers .expected) (a i)); read = a i });
@@ -197,7 +200,7 @@ ruled-packet f c l t p (gives x) e r = go (unnumbered (codeOf p)) refl
     go true h = moved c (x .1) l (uncounted c p x (taking c p x e) h) r
     go false h =
         let k = counted c p x (taking c p x e) h in
-        rw (k .order-is, k .numbers-is) (takes-one t p (x .0) (k .number-is) r)
+        rw (k .order-is, k .numbers-is) (takes-one t p (x .0) (k .number-is) (k .sent-is) r)
 
 -- THE LINK: every run of calls keeps the rules.
 pub runs-ruled : {c : Client} {l : List Entry} → Runs c l → Ruled (c .order) (c .numbers) l

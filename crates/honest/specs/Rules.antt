@@ -15,14 +15,14 @@ use Rattle.sequence.specs.Sending.{sending, mustSync, syncSpan}
 use Rattle.packet.specs.Packet.{wireOf}
 use Rattle.model.specs.Client.{Numbers}
 use Rattle.model.specs.Model.{Filing}
-use Rattle.honest.specs.Run.{Entry, sent, took, sends, WithReply, Heard, Fair, Honest, Right}
+use Rattle.honest.specs.Run.{Entry, sent, took, sends, WithReply, Heard, Fair, Honest, Right, Ordered}
 
 -- What accepted sends and accepted packets make of the three numbers, on a connection of byte order o.
 pub data Ruled (o : ℕ) : Numbers → List Entry → Type 0 where
   none : Ruled o (record { written = 0; expected = 0; read = 0 }) []
   sends-one : {n : Numbers} {l : List Entry} (has-reply : Bool) (x : Sending.Numbers) → gives x ≡ sending (n .written) (n .expected) has-reply → Ruled o n l
       → Ruled o (record { written = x .number; expected = x .expected; read = n .read }) (sent has-reply ∷ l)
-  takes-one : {n : Numbers} {l : List Entry} (t : ℕ) (p : List ℕ) (f : Filing) → gives (f .number) ≡ inRange (full (n .read) (wireOf o p)) → Ruled o n l
+  takes-one : {n : Numbers} {l : List Entry} (t : ℕ) (p : List ℕ) (f : Filing) → gives (f .number) ≡ inRange (full (n .read) (wireOf o p)) → f .number ≤ n .written → Ruled o n l
       → Ruled o (record { written = n .written; expected = max (n .expected) (f .number); read = f .number }) (took t p f ∷ l)
 
 -- FREED: once a request with a reply was sent, no sync is asked for.
@@ -33,6 +33,19 @@ sync-frees w e x q =
     let n : x .number ≡ w + 1 = ap (λ y. y .number) g in
     let m = ap (λ y. y .expected) g in
     lt-leb (x .expected + syncSpan) (x .number) (omega (arith, n, m))
+
+-- ---- with any server
+
+-- ORDERED, whatever packets come: one that is ahead is not taken in.
+pub ruled-ordered : {o : ℕ} {n : Numbers} {l : List Entry} → Ruled o n l → Ordered n
+unfolding sending choose
+ruled-ordered none = record { read-most = omega arith; expected-most = omega arith }
+ruled-ordered (sends-one {n = n} has-reply x e r) = go has-reply x e (ruled-ordered r)
+  where
+    go : (b : Bool) (y : Sending.Numbers) → gives y ≡ sending (n .written) (n .expected) b → Ordered n → Ordered (record { written = y .number; expected = y .expected; read = n .read })
+    go true y q w = let g = gives-same (gives-rest _ 6 _ (gives-rest _ 3 _ q)) in rw g (record { read-most = omega (arith, w .read-most, w .expected-most); expected-most = omega (arith, w .expected-most) })
+    go false y q w = let g = gives-same (gives-rest _ 6 _ (gives-rest _ 3 _ q)) in rw g (record { read-most = omega (arith, w .read-most, w .expected-most); expected-most = omega (arith, w .expected-most) })
+ruled-ordered (takes-one t p f e h r) = let w = ruled-ordered r in record { read-most = omega arith; expected-most = omega (arith, h, w .expected-most) }
 
 -- ---- the invariant
 
@@ -47,8 +60,6 @@ pub record Before (l : List Entry) (t : ℕ) : Type 0 where
 pub record Inv (n : Numbers) (l : List Entry) : Type 0 where
   pub counted : n .written ≡ sends l
   pub fits : n .written ≤ lastNumber
-  pub read-sent : n .read ≤ n .written
-  pub expected-sent : n .expected ≤ n .written
   pub near : n .written ≤ n .expected + syncSpan
   pub anchor : (n .expected ≤ n .read) ⊎ WithReply l (n .expected)
   pub last : (n .read ≡ 0) ⊎ Heard l (n .read)
@@ -62,8 +73,6 @@ inv-start =
     record {
       counted = refl;
       fits = omega arith;
-      read-sent = omega arith;
-      expected-sent = omega arith;
       near = omega arith;
       anchor = inl (omega arith);
       last = inl refl;
@@ -104,6 +113,31 @@ module _ (o : ℕ) (n : Numbers) (l : List Entry) (i : Inv n l) where
       let e : t ≤ lastNumber = omega (arith, f .known, i .counted, i .fits) in
       rw (full-true t p f, le-ltb lastNumber t e)
 
+  -- What an accepted honest packet comes to:
+  inv-took : (t : ℕ) (p : List ℕ) (f : Filing) → Fair o l t p → f .number ≡ t
+      → Inv (record { written = n .written; expected = max (n .expected) (f .number); read = f .number }) (took t p f ∷ l)
+  inv-took t p f fair e =
+      let up : n .read ≤ t = past-read t p fair in
+      let known : t ≤ n .written = omega (arith, fair .known, i .counted) in
+      record {
+        counted = i .counted;
+        fits = i .fits;
+        near = omega (arith, i .near);
+        anchor = elim (decLe (n .expected) (f .number)) [ yes h ↦ inl (omega arith) | no h ↦ inr (still up h) ];
+        last = inr (inl e);
+        heard = λ u h. ⊎-elim (λ (z : u ≡ t). omega arith) (λ h′. omega (arith, i .heard u h′)) h;
+        covered = λ t′ far h. before-more _ (i .covered t′ (omega arith) h);
+        right = (e, i .right);
+      }
+    where
+      still : n .read ≤ t → ¬ (n .expected ≤ f .number) → WithReply l (max (n .expected) (f .number))
+      still up h =
+          let m : max (n .expected) (f .number) ≡ n .expected = omega arith in
+          ⊎-elim (λ (le : n .expected ≤ n .read). absurd (omega arith)) (λ a. rw m a) (i .anchor)
+
+-- ---- a send
+
+module _ (n : Numbers) (l : List Entry) (i : Inv n l) (w : Ordered n) where
   -- The request that is sent next is at most 65,535 past a request with a reply, or past the last read.
   covered-next : (t : ℕ) → n .read + wireValues ≤ t → t ≤ n .written + 1 → Before l t
   covered-next t far p = elim (decLe t (n .written)) [ yes q ↦ i .covered t far q | no new ↦ here new ]
@@ -112,7 +146,7 @@ module _ (o : ℕ) (n : Numbers) (l : List Entry) (i : Inv n l) where
       here new =
           ⊎-elim
           (λ (le : n .expected ≤ n .read). absurd (omega (arith, i .near)))
-          (λ a. record { q = n .expected; asked = a; less = omega (arith, i .expected-sent); near = omega (arith, i .near) })
+          (λ a. record { q = n .expected; asked = a; less = omega (arith, w .expected-most); near = omega (arith, i .near) })
           (i .anchor)
 
   asks : n .written < lastNumber → Inv (record { written = n .written + 1; expected = n .written + 1; read = n .read }) (sent true ∷ l)
@@ -120,8 +154,6 @@ module _ (o : ℕ) (n : Numbers) (l : List Entry) (i : Inv n l) where
       record {
         counted = omega (arith, i .counted);
         fits = omega arith;
-        read-sent = omega (arith, i .read-sent);
-        expected-sent = omega arith;
         near = omega arith;
         anchor = inr (inl (omega (arith, i .counted)));
         last = i .last;
@@ -135,8 +167,6 @@ module _ (o : ℕ) (n : Numbers) (l : List Entry) (i : Inv n l) where
       record {
         counted = omega (arith, i .counted);
         fits = omega arith;
-        read-sent = omega (arith, i .read-sent);
-        expected-sent = omega (arith, i .expected-sent);
         near = omega arith;
         anchor = i .anchor;
         last = i .last;
@@ -160,34 +190,10 @@ module _ (o : ℕ) (n : Numbers) (l : List Entry) (i : Inv n l) where
       let g = gives-same (gives-rest _ 6 _ r) in
       rw g (tells h free)
 
-  -- what an accepted honest packet comes to
-  inv-took : (t : ℕ) (p : List ℕ) (f : Filing) → Fair o l t p → f .number ≡ t
-      → Inv (record { written = n .written; expected = max (n .expected) (f .number); read = f .number }) (took t p f ∷ l)
-  inv-took t p f fair e =
-      let up : n .read ≤ t = past-read t p fair in
-      let known : t ≤ n .written = omega (arith, fair .known, i .counted) in
-      record {
-        counted = i .counted;
-        fits = i .fits;
-        read-sent = omega arith;
-        expected-sent = omega (arith, i .expected-sent);
-        near = omega (arith, i .near);
-        anchor = elim (decLe (n .expected) (f .number)) [ yes h ↦ inl (omega arith) | no h ↦ inr (still up h) ];
-        last = inr (inl e);
-        heard = λ u h. ⊎-elim (λ (z : u ≡ t). omega arith) (λ h′. omega (arith, i .heard u h′)) h;
-        covered = λ t′ far h. before-more _ (i .covered t′ (omega arith) h);
-        right = (e, i .right);
-      }
-    where
-      still : n .read ≤ t → ¬ (n .expected ≤ f .number) → WithReply l (max (n .expected) (f .number))
-      still up h =
-          let m : max (n .expected) (f .number) ≡ n .expected = omega arith in
-          ⊎-elim (λ (le : n .expected ≤ n .read). absurd (omega arith)) (λ a. rw m a) (i .anchor)
-
 -- THE INVARIANT holds with an honest server, however long the run.
 pub ruled-inv : {o : ℕ} {n : Numbers} {l : List Entry} → Ruled o n l → Honest o l → Inv n l
 ruled-inv none h = inv-start
-ruled-inv {o} (sends-one {n = n} {l = l} has-reply x e r) h = inv-sent o n l (ruled-inv r h) has-reply x e
-ruled-inv {o} (takes-one {n = n} {l = l} t p f e r) h =
+ruled-inv (sends-one {n = n} {l = l} has-reply x e r) h = inv-sent n l (ruled-inv r h) (ruled-ordered r) has-reply x e
+ruled-inv {o} (takes-one {n = n} {l = l} t p f e s r) h =
     let i = ruled-inv r (h .1) in
     inv-took o n l i t p f (h .0) (gives-same (e ∙ true-range o n l i t p (h .0)))

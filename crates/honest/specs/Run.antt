@@ -7,7 +7,7 @@ use Prim.Native.Nat.{ℕ, _+_, _%_, _≤_, _<_}
 use Rattle.octets.specs.Logic.{choose}
 use Rattle.refusal.specs.Answer.{Answer, gives, refuses}
 use Rattle.sequence.specs.Numbering.{wireValues}
-use Rattle.model.specs.Client.{Held, Client, arriving}
+use Rattle.model.specs.Client.{Numbers, Held, Client, arriving}
 use Rattle.packet.specs.Packet.{codeOf, unnumbered, wireOf}
 use Rattle.model.specs.Model.{fresh, hasReply, sendRequest, askedOf, claimed, Filing, enqueuePacket}
 use Rattle.model.specs.Calls.{Call, send, enqueue-fds, enqueue, discard, poll, check, poll-reply, prepare, poll-event, take-closed, Said, step}
@@ -110,6 +110,11 @@ abbrev pub Right : List Entry → Type 0
 Right [] = Unit {0}
 Right (sent has-reply ∷ l) = Right l
 Right (took t p f ∷ l) = (f .number ≡ t) × Right l
+
+-- 02, M-103, with any server: the last read does not pass next reply expected, nor does that pass the last written.
+pub record Ordered (n : Numbers) : Type 0 where
+  pub read-most : n .read ≤ n .expected
+  pub expected-most : n .expected ≤ n .written
 
 -- From c to c' the record h went to the end of its list, or nowhere where it was dropped; nothing else is held or gone.
 abbrev pub Lands : Place → Held → Client → Client → Type 0

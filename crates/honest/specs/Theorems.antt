@@ -3,22 +3,25 @@ use mathlib.Core.Bool.{true, false}
 use mathlib.Core.List.{List}
 use mathlib.Core.Logic.{_⊎_}
 use mathlib.Core.Path.{_≡_, sym, ap, _∙_}
-use Prim.Native.Nat.{ℕ}
+use Prim.Native.Nat.{ℕ, _≤_}
+use native.Mathlib.Omega.{arith}
 use lib.Dec.{ltb}
 use lib.ListN.{length}
+use borrow.Author.Tests.{le-ltb}
+use Rattle.octets.specs.Logic.{both}
 use Rattle.refusal.specs.Answer.{Answer, gives, refuses, refuse, pass, gives-same}
 use Rattle.packet.specs.Packet.{leastPacket, mostPacket, codeOf, unnumbered}
 use Rattle.model.specs.Client.{Client}
 use Rattle.packet.specs.Laws.{number-full}
-use Rattle.model.specs.Model.{packetNumber, askedOf, Filing, enqueuePacket}
-use Rattle.model.specs.Deciding.{filedBy, enqueue-chain}
+use Rattle.model.specs.Model.{packetNumber, askedOf, Filing, ahead, enqueuePacket}
+use Rattle.model.specs.Deciding.{fittedBy, enqueue-chain}
 use Rattle.model.specs.Calls.{Call, step}
 use Rattle.model.specs.Promise.{Done, Promise}
 use Rattle.model.specs.Reading.{Rooms, reads}
 use Rattle.model.specs.Sound.{soundb}
 use Rattle.model.specs.declared.Connection.{Connection}
-use Rattle.honest.specs.Run.{Entry, Runs, Fair, Honest, Right, Filed, Hands}
-use Rattle.honest.specs.Rules.{ruled-inv, true-range}
+use Rattle.honest.specs.Run.{Entry, Runs, Fair, Honest, Right, Ordered, Filed, Hands}
+use Rattle.honest.specs.Rules.{Inv, ruled-inv, ruled-ordered, true-range}
 use Rattle.honest.specs.Calls.{Taking, taking, lands, counted, runs-ruled, one-of}
 use Rattle.honest.specs.Server.{packetsIn}
 use Rattle.honest.specs.Origins.{Lists, Traced, AllTied, OneOf}
@@ -28,22 +31,33 @@ use Rattle.honest.specs.Handing.{hands}
 
 -- ---- Over the model
 
+-- NEVER PAST: whatever the server sends, the last read does not pass next reply expected, nor that the last written.
+pub never-past : {c : Client} {log : List Entry} → Runs c log → Ordered (c .numbers)
+never-past r = ruled-ordered (runs-ruled r)
+
 -- TRUE NUMBERS: the number under which the engine filed, or reckoned, each packet of the run is the true one.
 pub true-numbers : {c : Client} {log : List Entry} → Runs c log → Honest (c .order) log → Right log
 true-numbers r h = ruled-inv (runs-ruled r) h .right
 
 -- A run with an honest server, and the packet p with the true number t that comes next.
 module _ {c : Client} {log : List Entry} (r : Runs c log) (h : Honest (c .order) log) (t : ℕ) (p : List ℕ) (carries : unnumbered (codeOf p) ≡ false) (fair : Fair (c .order) log t p) where
-  -- Its number is t, and numbers do not end before it.
+  abbrev inv : Inv (c .numbers) log
+  inv = ruled-inv (runs-ruled r) h
+
+  -- Its number is t, numbers do not end before it, and it answers what was asked.
   pub next-number : packetNumber c p ≡ gives t
-  next-number = number-full (c .order) (c .numbers .read) p carries ∙ true-range (c .order) (c .numbers) log (ruled-inv (runs-ruled r) h) t p fair
+  next-number = number-full (c .order) (c .numbers .read) p carries ∙ true-range (c .order) (c .numbers) log inv t p fair
+
+  pub next-asked : ahead (codeOf p) t (c .numbers .written) ≡ false
+  unfolding ahead both
+  next-asked = simp (le-ltb (c .numbers .written) t (omega (arith, fair .known, inv .counted)))
 
   -- So 1 and 2 apart, intake is the taking in under the true number,
-  pub next-packet : enqueuePacket c p ≡ refuse (ltb (length p) leastPacket) 1 (refuse (ltb mostPacket (length p)) 2 (filedBy c p t (askedOf c t)))
-  unfolding pass
-  next-packet = enqueue-chain c p ∙ rw next-number
+  pub next-packet : enqueuePacket c p ≡ refuse (ltb (length p) leastPacket) 1 (refuse (ltb mostPacket (length p)) 2 (fittedBy c p t (askedOf c t)))
+  unfolding pass refuse
+  next-packet = enqueue-chain c p ∙ rw (next-number, next-asked)
 
-  -- NEVER ENDED: it is refused by 1, 2, 4 and 5 alone, and never by 3.
+  -- NEVER ENDED, NEVER AHEAD: it is refused by 1, 2, 4 and 5 alone, and never by 3 or 20.
   pub never-ended : (n : ℕ) → enqueuePacket c p ≡ refuses n → n ≡ 1 ⊎ n ≡ 2 ⊎ n ≡ 4 ⊎ n ≡ 5
   never-ended n e = one-of _ _ _ _ _ n (sym next-packet ∙ e)
 
@@ -70,6 +84,10 @@ pub handed-tied : {c : Client} {log : List Entry} {r : Runs c log} {x : Lists} �
 handed-tied {c} {log} {r} {x} t h z = hands (OneOf (packetsIn log) x) c z (holds-one c (packetsIn log) x (traced-client t) (run-tied t h))
 
 -- ---- For the public calls, over state and rooms
+
+pub public-never-past : {c : Connection} {r : Rooms} {log : List Entry} → Public c r log → (c .read ≤ c .expected) × (c .expected ≤ c .written)
+unfolding reads
+public-never-past k = let w = never-past (public-runs k) in (w .read-most, w .expected-most)
 
 pub public-true : {c : Connection} {r : Rooms} {log : List Entry} → Public c r log → Honest (c .order) log → Right log
 unfolding reads

@@ -154,7 +154,7 @@ module _ (n : ℕ) (rest : List Request) (short : length rest ≤ 1) (fewer : le
   unfolding enqueuePacket pass refuse bytesOf turned lowBytes choose Model.takeIn Model.decide Model.ahead Model.decideBy Model.placeOf Model.claimed both either costs Model.numbered unnumbered
   take-one e =
       let m : max (n + 1) (n + 1) ≡ n + 1 = omega arith in
-      rw (e, asked-one, way, drop-at rest (last ∷ []) (length rest) refl, m)
+      rw (e, le-ltb (n + 1) (n + 1) (omega arith), asked-one, way, drop-at rest (last ∷ []) (length rest) refl, m)
 
 poll-one : (n : ℕ) → pollForReplyOrError (tookOne n) n 32 0 ≡ gives (packet (heldPacket n (replyTo n) []), between n (last ∷ []))
 unfolding computing

@@ -199,9 +199,10 @@ balances-packet f c p =
     (balances-refuse f c (enqueue p) _ 2 _
     (balances-pass f c (enqueue p) _ _
     (λ n.
-    balances-refuse f c (enqueue p) _ 4 _
+    balances-refuse f c (enqueue p) _ 20 _
+    (balances-refuse f c (enqueue p) _ 4 _
     (balances-refuse f c (enqueue p) _ 5 _
-    (λ d. ap (λ (k : ℕ). k + count d []) (within-filed c p n (claimed p (askedOf c n)) (placeOf (codeOf p) (askedOf c n)) d (event-claims p (askedOf c n)))))))))
+    (λ d. ap (λ (k : ℕ). k + count d []) (within-filed c p n (claimed p (askedOf c n)) (placeOf (codeOf p) (askedOf c n)) d (event-claims p (askedOf c n))))))))))
 
 -- ---- every call, and a row of them
 

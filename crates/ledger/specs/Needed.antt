@@ -156,7 +156,7 @@ pub each-needed :
     Needed withOrder × Needed withK × Needed withS × Needed withWritten × Needed withExpected × Needed withRead × Needed withOutstanding × Needed withDescribed × Needed withRequestMode × Needed withDiscard × Needed withReplies × Needed withEvents × Needed withNumber × Needed withPacket × Needed withHeld × Needed withTurn × Needed withWaiting × Needed withClosing
 unfolding ranged each holds falls legal run step Model.sendRequest Model.enqueuePacket Model.takeClosed Model.pollForReplyOrError Model.pollCheck Model.prepareCheck Model.pollForEvent Model.find pass refuse sending mustSync both either choose numberAfter unnumbered inRange full field numberIn cut turned bytesOf lowBytes lowNumber Model.numbered Model.askedOf Model.headOf Model.placeOf Model.claimed Model.takeIn Model.decide Model.ahead Model.decideBy costs descriptorsOf
 each-needed = (
-  needed withOrder 108 66 (enqueue event ∷ []) (filed Events 1 ∷ []) (filed Events 256 ∷ []) refl refl refl refl (λ e. let z : _≡_ {A = ℕ} 1 256 = cc in omega arith),
+  needed withOrder 108 66 (enqueue event ∷ []) (filed Events 1 ∷ []) (refused 20 ∷ []) refl refl refl refl (λ e. let z : _≡_ {A = ℕ} 0 1 = cc in omega arith),
   needed withK 1 2 (send NoReply ∷ []) (refused 5 ∷ []) (number 2 ∷ []) refl refl refl refl (λ e. let z : _≡_ {A = ℕ} 0 1 = cc in omega arith),
   needed withS 48 96 (enqueue event ∷ enqueue event ∷ []) (filed Events 1 ∷ refused 5 ∷ []) (filed Events 1 ∷ filed Events 1 ∷ []) refl refl refl refl (λ e. let z : _≡_ {A = ℕ} 0 1 = cc in omega arith),
   needed withWritten 1 2 (send NoReply ∷ []) (number 2 ∷ []) (number 3 ∷ []) refl refl refl refl (λ e. let z : _≡_ {A = ℕ} 2 3 = cc in omega arith),

@@ -12,7 +12,7 @@ use Rattle.packet.specs.Packet.{leastPacket, mostPacket, codeOf}
 use Rattle.held.specs.Head.{headerSize}
 use Rattle.descriptors.specs.Room.{mostDescriptors}
 use Rattle.model.specs.Client.{Client, costs, descriptorsOf}
-use Rattle.model.specs.Model.{hasReply, packetNumber, askedOf, claimed, placeOf, isHeld}
+use Rattle.model.specs.Model.{hasReply, packetNumber, askedOf, claimed, placeOf, isHeld, ahead}
 use Rattle.model.specs.Calls.{Call, send, enqueue-fds, enqueue, discard, poll, check, poll-reply, prepare, poll-event, take-closed, Said, number, done, filed, nothing, took, again, absent, answer, closed, refused}
 use Rattle.model.specs.declared.Connection.{Connection}
 use Rattle.model.specs.declared.ReplyFdKind.{ReplyFdKind}
@@ -43,12 +43,13 @@ pub record SendShort (f : Filled) (c : Client) (kind : ReplyFdKind) : Type 0 whe
   pub no-sync : hasReply kind ≡ false → c .numbers .written < c .numbers .expected + syncSpan
   pub full : c .most-requests ≤ f .requests
 
--- A packet finds no room: 1, 2, 3 and 4 do not apply, it is to be held, and used plus its cost is over S.
+-- A packet finds no room: 1, 2, 3, 20 and 4 do not apply, it is to be held, and used plus its cost is over S.
 pub record PacketShort (f : Filled) (c : Client) (p : List ℕ) : Type 0 where
   pub not-short : leastPacket ≤ length p
   pub not-long : length p ≤ mostPacket
   pub number : ℕ
   pub numbered : packetNumber c p ≡ gives number
+  pub was-asked : ahead (codeOf p) number (c .numbers .written) ≡ false
   pub enough-wait : claimed p (askedOf c number) ≤ length (c .waiting)
   pub to-be-held : isHeld (placeOf (codeOf p) (askedOf c number)) ≡ true
   pub full : c .most-bytes < f .bytes + (headerSize + length p)

@@ -102,7 +102,8 @@ module _ (c : Client) (p : List ℕ) where
       let a = refused-on _ 1 5 _ (λ i. omega arith) (sym (enqueue-chain c p) ∙ q) in
       let b = refused-on _ 2 5 _ (λ i. omega arith) (a .1) in
       let n = pass-refused (packetNumber c p) _ 5 (number-ends c p) (b .1) in
-      let d = refused-on _ 4 5 _ (λ i. omega arith) (n .2) in
+      let w = refused-on _ 20 5 _ (λ i. omega arith) (n .2) in
+      let d = refused-on _ 4 5 _ (λ i. omega arith) (w .1) in
       let f = refused-here _ 5 _ (d .1) in
       let over : c .most-bytes < used c + (headerSize + length p) = ltb-true _ _ (both-right _ _ f) in
       record {
@@ -110,6 +111,7 @@ module _ (c : Client) (p : List ℕ) where
         not-long = ltb-false _ _ (b .0);
         number = n .0;
         numbered = n .1;
+        was-asked = w .0;
         enough-wait = ltb-false _ _ (d .0);
         to-be-held = both-left _ _ f;
         full = omega (arith, over);
@@ -126,8 +128,9 @@ module _ (c : Client) (p : List ℕ) where
     where
       taking : filedBy c p (s .number) (askedOf c (s .number)) ≡ refuses 5
       taking =
-          refused-past _ 4 5 _ (le-ltb (length (c .waiting)) (claimed p (askedOf c (s .number))) (s .enough-wait))
-          (here-refused _ 5 _ (both-yes _ _ (s .to-be-held) (lt-ltb (c .most-bytes) (used c + (headerSize + length p)) (omega (arith, s .full)))))
+          refused-past _ 20 5 _ (s .was-asked)
+          (refused-past _ 4 5 _ (le-ltb (length (c .waiting)) (claimed p (askedOf c (s .number))) (s .enough-wait))
+          (here-refused _ 5 _ (both-yes _ _ (s .to-be-held) (lt-ltb (c .most-bytes) (used c + (headerSize + length p)) (omega (arith, s .full))))))
 
 -- ---- the others
 

@@ -89,8 +89,9 @@ packet-uses c p =
     (uses-refuse saysFiling c (enqueue p) _ 2 _
     (by-pass (Uses c (enqueue p)) saysFiling c (uses-refused c (enqueue p)) _ _
     (λ n.
-    uses-refuse saysFiling c (enqueue p) _ 4 _
-    (uses-refuse saysFiling c (enqueue p) _ 5 _ (omega (arith, filed-uses c p n (claimed p (askedOf c n)) (placeOf (codeOf p) (askedOf c n)))))))))
+    uses-refuse saysFiling c (enqueue p) _ 20 _
+    (uses-refuse saysFiling c (enqueue p) _ 4 _
+    (uses-refuse saysFiling c (enqueue p) _ 5 _ (omega (arith, filed-uses c p n (claimed p (askedOf c n)) (placeOf (codeOf p) (askedOf c n))))))))))
 
 -- ---- every call but a discard
 

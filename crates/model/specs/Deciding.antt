@@ -1,23 +1,37 @@
 -- A packet taken in, refusal by refusal. Assumes nothing.
-use mathlib.Core.Path.{_≡_, ap, _∙_}
+use mathlib.Core.Path.{_≡_, refl, ap, _∙_}
+use mathlib.Core.Bool.{Bool, true, false, not}
 use mathlib.Core.List.{List}
-use Prim.Native.Nat.{ℕ, _+_}
+use Prim.Native.Nat.{ℕ, _+_, _≤_}
 use lib.Dec.{ltb}
 use lib.ListN.{length}
-use Rattle.octets.specs.Logic.{both}
+use borrow.Author.Tests.{ltb-false}
+use Rattle.octets.specs.Logic.{both, apart, both-yes}
 use Rattle.refusal.specs.Answer.{Answer, gives, refuse, pass, pass-agree, pass-refuse, pass-pass}
-use Rattle.packet.specs.Packet.{leastPacket, mostPacket, codeOf}
+use Rattle.packet.specs.Packet.{leastPacket, mostPacket, codeOf, unnumbered}
 use Rattle.held.specs.Head.{headerSize}
 use Rattle.model.specs.Client.{Client, used}
 use Rattle.model.specs.Model.{packetNumber, Asked, askedOf, placeOf, claimed, isHeld, Filing, taskBy, ahead, decideBy, decide, takeIn, enqueuePacket}
 
--- a packet that has its number and whose request is known: 20, 4, 5, or it is taken in
-abbrev pub filedBy : Client → List ℕ → ℕ → Asked → Answer (Filing × Client)
-filedBy c p n a =
-    refuse (ahead (codeOf p) n (c .numbers .written)) 20
-    (refuse (ltb (length (c .waiting)) (claimed p a)) 4
+-- A numbered packet that is not ahead is of a request that was sent.
+pub ahead-not : (code n written : ℕ) → unnumbered code ≡ false → ahead code n written ≡ false → n ≤ written
+unfolding ahead
+ahead-not code n written h e = go (ltb written n) refl
+  where
+    go : (b : Bool) → ltb written n ≡ b → n ≤ written
+    go true f = apart (both-yes (ltb written n) (not (unnumbered code)) f (ap not h)) e
+    go false f = ltb-false written n f
+
+-- a packet that has its number and whose request is known: 4, 5, or it is taken in;
+abbrev pub fittedBy : Client → List ℕ → ℕ → Asked → Answer (Filing × Client)
+fittedBy c p n a =
+    refuse (ltb (length (c .waiting)) (claimed p a)) 4
     (refuse (both (isHeld (placeOf (codeOf p) a)) (ltb (c .most-bytes) (used c + (headerSize + length p)))) 5
-    (gives (takeIn c p (taskBy p n a)))))
+    (gives (takeIn c p (taskBy p n a))))
+
+-- 20 before that
+abbrev pub filedBy : Client → List ℕ → ℕ → Asked → Answer (Filing × Client)
+filedBy c p n a = refuse (ahead (codeOf p) n (c .numbers .written)) 20 (fittedBy c p n a)
 
 by-filed : (c : Client) (p : List ℕ) (n : ℕ) (a : Asked) → pass (decideBy c p n a) (λ t. gives (takeIn c p t)) ≡ filedBy c p n a
 unfolding decideBy pass

@@ -82,26 +82,26 @@ row4 = record {
   said = number 1 ∷ done ∷ done ∷ done ∷ filed Dropped 1 ∷ filed Dropped 1 ∷ filed Dropped 1 ∷ closed (6 ∷ 7 ∷ []) ∷ [];
 }
 
--- next reply expected can fall; a number above the last written lets every request go
+-- an answer to what was not asked is refused by 20, an error, a reply and an event alike, and changes nothing; one to the last written is taken, though it is above next reply expected; so is what was refused, once it was asked; codes 11 and 139 are never refused by it
 abbrev row5 : Row
 row5 = record {
   start = Model.fresh 108 4 500;
-  calls = send ReplyWithoutFds ∷ enqueue (pk 2 0 900) ∷ prepare 900 ∷ send ReplyWithoutFds ∷ prepare 900 ∷ enqueue (pk 0 0 1) ∷ [];
-  said = number 1 ∷ filed Events 900 ∷ answer false ∷ number 2 ∷ answer true ∷ filed Events 65537 ∷ [];
+  calls = send ReplyWithoutFds ∷ send NoReply ∷ enqueue (pk 2 0 3) ∷ enqueue (pk 1 0 3) ∷ enqueue (pk 0 0 3) ∷ prepare 2 ∷ check 0 0 ∷ enqueue (pk 2 0 2) ∷ enqueue (pk 2 0 1) ∷ enqueue (pk 11 0 3) ∷ enqueue (pk 139 0 3) ∷ enqueue (pk 140 0 3) ∷ send NoReply ∷ enqueue (pk 140 0 3) ∷ [];
+  said = number 1 ∷ number 2 ∷ refused 20 ∷ refused 20 ∷ refused 20 ∷ answer true ∷ again ∷ filed Events 2 ∷ refused 20 ∷ filed Events 2 ∷ filed Events 2 ∷ refused 20 ∷ number 3 ∷ filed Events 3 ∷ [];
 }
 
 -- an error: a reply without a mode, an event under DiscardReply or with no request
 abbrev row6 : Row
 row6 = record {
   start = Model.fresh 108 4 500;
-  calls = send NoReply ∷ send NoReply ∷ discard 2 DiscardReply ∷ enqueue (pk 0 0 1) ∷ enqueue (pk 0 0 2) ∷ enqueue (pk 0 0 3) ∷ poll-event 32 ∷ poll-event 32 ∷ poll-event 32 ∷ [];
-  said = number 1 ∷ number 2 ∷ done ∷ filed Replies 1 ∷ filed Events 2 ∷ filed Events 3 ∷ took (heldPacket 2 (pk 0 0 2) []) ∷ took (heldPacket 3 (pk 0 0 3) []) ∷ nothing ∷ [];
+  calls = send NoReply ∷ send NoReply ∷ discard 2 DiscardReply ∷ enqueue (pk 0 0 0) ∷ enqueue (pk 0 0 1) ∷ enqueue (pk 0 0 2) ∷ poll-event 32 ∷ poll-event 32 ∷ poll-event 32 ∷ [];
+  said = number 1 ∷ number 2 ∷ done ∷ filed Events 0 ∷ filed Replies 1 ∷ filed Events 2 ∷ took (heldPacket 0 (pk 0 0 0) []) ∷ took (heldPacket 2 (pk 0 0 2) []) ∷ nothing ∷ [];
 }
 
 -- codes 11 and 139 carry no number; every other code is numbered
 abbrev row7 : Row
 row7 = record {
-  start = Model.fresh 108 4 500;
+  start = numbersAt 65541 0 0;
   calls = enqueue (pk 2 0 5) ∷ enqueue (pk 11 255 65535) ∷ enqueue (pk 139 254 4) ∷ enqueue (pk 140 0 6) ∷ enqueue (pk 35 0 5) ∷ [];
   said = filed Events 5 ∷ filed Events 5 ∷ filed Events 5 ∷ filed Events 6 ∷ filed Events 65541 ∷ [];
 }
@@ -126,8 +126,8 @@ row9 = record {
 abbrev row10 : Row
 row10 = record {
   start = Model.fresh 108 4 500;
-  calls = send ReplyWithFds ∷ enqueue-fds (4 ∷ []) ∷ poll 1 0 0 ∷ enqueue (pk 1 1 1) ∷ poll 1 31 1 ∷ poll 1 32 0 ∷ check 1 31 ∷ poll 1 32 1 ∷ check 1 0 ∷ enqueue (pk 2 0 2) ∷ check 1 0 ∷ poll-event 31 ∷ poll-event 32 ∷ poll-reply 1 0 ∷ [];
-  said = number 1 ∷ done ∷ nothing ∷ filed Replies 1 ∷ refused 8 ∷ refused 8 ∷ refused 8 ∷ took (heldPacket 1 (pk 1 1 1) (4 ∷ [])) ∷ again ∷ filed Events 2 ∷ absent ∷ refused 8 ∷ took (heldPacket 2 (pk 2 0 2) []) ∷ again ∷ [];
+  calls = send ReplyWithFds ∷ send NoReply ∷ enqueue-fds (4 ∷ []) ∷ poll 1 0 0 ∷ enqueue (pk 1 1 1) ∷ poll 1 31 1 ∷ poll 1 32 0 ∷ check 1 31 ∷ poll 1 32 1 ∷ check 1 0 ∷ enqueue (pk 2 0 2) ∷ check 1 0 ∷ poll-event 31 ∷ poll-event 32 ∷ poll-reply 1 0 ∷ [];
+  said = number 1 ∷ number 2 ∷ done ∷ nothing ∷ filed Replies 1 ∷ refused 8 ∷ refused 8 ∷ refused 8 ∷ took (heldPacket 1 (pk 1 1 1) (4 ∷ [])) ∷ again ∷ filed Events 2 ∷ absent ∷ refused 8 ∷ took (heldPacket 2 (pk 2 0 2) []) ∷ again ∷ [];
 }
 
 -- 6 without a reply and never with one; after that one more passes
@@ -153,9 +153,13 @@ row13 = record { start = numbersAt 9223372036854775807 0 0; calls = send NoReply
 abbrev row14 : Row
 row14 = record { start = fullAt 65534 0 0; calls = send NoReply ∷ send ReplyWithoutFds ∷ []; said = refused 6 ∷ refused 5 ∷ [] }
 
--- on intake 1 (31 bytes are too few) before 3,
+-- on intake 1 (31 bytes are too few) before 3, and 3 before 20; where the last read is above the last written, 20 for every numbered packet,
 abbrev row15 : Row
-row15 = record { start = numbersAt 0 0 9223372036854775807; calls = enqueue (2 ∷ replicate 30 0) ∷ enqueue (pk 2 0 0) ∷ []; said = refused 1 ∷ refused 3 ∷ [] }
+row15 = record {
+  start = numbersAt 0 0 9223372036854775807;
+  calls = enqueue (2 ∷ replicate 30 0) ∷ enqueue (pk 2 0 0) ∷ enqueue (pk 2 0 65535) ∷ enqueue (pk 11 0 0) ∷ [];
+  said = refused 1 ∷ refused 3 ∷ refused 20 ∷ filed Events 9223372036854775807 ∷ [];
+}
 
 -- and 4 before 5.
 abbrev row16 : Row
@@ -196,7 +200,7 @@ row20 = record {
 -- a reply with no outstanding request is held, and takes no descriptors
 abbrev row21 : Row
 row21 = record {
-  start = Model.fresh 108 4 500;
+  start = numbersAt 9 0 0;
   calls = enqueue-fds (5 ∷ []) ∷ enqueue (pk 1 1 7) ∷ poll 7 32 0 ∷ [];
   said = done ∷ filed Replies 7 ∷ took (heldPacket 7 (pk 1 1 7) []) ∷ [];
 }
@@ -298,9 +302,9 @@ row32 = record {
 -- codes 11 and 139 do not raise next reply expected to a last read that is above it, whatever their bytes; any other does
 abbrev row33 : Row
 row33 = record {
-  start = Model.fresh 108 4 500;
-  calls = send ReplyWithoutFds ∷ enqueue (pk 2 0 900) ∷ send ReplyWithoutFds ∷ send NoReply ∷ enqueue (pk 11 0 7) ∷ enqueue (pk 139 0 900) ∷ prepare 900 ∷ prepare 3 ∷ prepare 2 ∷ enqueue (pk 140 0 900) ∷ prepare 900 ∷ [];
-  said = number 1 ∷ filed Events 900 ∷ number 2 ∷ number 3 ∷ filed Events 900 ∷ filed Events 900 ∷ answer true ∷ answer true ∷ answer false ∷ filed Events 900 ∷ answer false ∷ [];
+  start = numbersAt 900 2 900;
+  calls = enqueue (pk 11 0 7) ∷ enqueue (pk 139 0 900) ∷ prepare 900 ∷ prepare 3 ∷ prepare 2 ∷ enqueue (pk 140 0 900) ∷ prepare 900 ∷ [];
+  said = filed Events 900 ∷ filed Events 900 ∷ answer true ∷ answer true ∷ answer false ∷ filed Events 900 ∷ answer false ∷ [];
 }
 
 -- sending leaves the last read, by which alone NoReply is said
@@ -314,18 +318,20 @@ row34 = record {
 -- a packet's number stands in the order of the connection
 abbrev row35 : Row
 row35 = record {
-  start = Model.fresh 66 4 500;
-  calls = send NoReply ∷ enqueue (0 ∷ 7 ∷ 0 ∷ 1 ∷ replicate 28 0) ∷ enqueue (2 ∷ 0 ∷ 1 ∷ 2 ∷ replicate 28 0) ∷ [];
-  said = number 1 ∷ filed Replies 1 ∷ filed Events 258 ∷ [];
+  start = setNumbers (Model.fresh 66 4 500) (record { written = 257; expected = 0; read = 0 });
+  calls = send NoReply ∷ enqueue (2 ∷ 0 ∷ 0 ∷ 1 ∷ replicate 28 0) ∷ enqueue (0 ∷ 7 ∷ 1 ∷ 2 ∷ replicate 28 0) ∷ [];
+  said = number 258 ∷ filed Events 1 ∷ filed Replies 258 ∷ [];
 }
 
--- 3 before 5
+-- 3 before 5, and 20 before 5; a packet that is ahead has no request and claims nothing, so that 4 never meets 20
+abbrev fullStore : ℕ → ℕ → Client
+fullStore w r = setEvents (setNumbers (Model.fresh 108 4 48) (record { written = w; expected = 0; read = r })) (heldPacket 5 (pk 2 0 5) [] ∷ [])
+
 abbrev row36 : Row
-row36 = record {
-  start = setEvents (setNumbers (Model.fresh 108 4 48) (record { written = 9; expected = 0; read = 9223372036854775807 })) (heldPacket 5 (pk 2 0 5) [] ∷ []);
-  calls = enqueue (pk 2 0 0) ∷ enqueue (pk 2 0 65535) ∷ [];
-  said = refused 3 ∷ refused 5 ∷ [];
-}
+row36 = record { start = fullStore 9223372036854775807 9223372036854775807; calls = enqueue (pk 2 0 0) ∷ enqueue (pk 2 0 65535) ∷ []; said = refused 3 ∷ refused 5 ∷ [] }
+
+abbrev row38 : Row
+row38 = record { start = fullStore 9 5; calls = enqueue (pk 2 0 10) ∷ enqueue (pk 2 0 9) ∷ []; said = refused 20 ∷ refused 5 ∷ [] }
 
 -- codes 128 and 129 are no error and no reply, though 0 and 1 with the top bit
 abbrev row37 : Row
@@ -336,12 +342,12 @@ row37 = record {
 }
 
 abbrev pub table : List Row
-table = row1 ∷ row2 ∷ row3 ∷ row4 ∷ row5 ∷ row6 ∷ row7 ∷ row8 ∷ row9 ∷ row10 ∷ row11 ∷ row12 ∷ row13 ∷ row14 ∷ row15 ∷ row16 ∷ row17 ∷ row18 ∷ row19 ∷ row20 ∷ row21 ∷ row22 ∷ row23 ∷ row24 ∷ row25 ∷ row26 ∷ row27 ∷ row28 ∷ row29 ∷ row30 ∷ row31 ∷ row32 ∷ row33 ∷ row34 ∷ row35 ∷ row36 ∷ row37 ∷ []
+table = row1 ∷ row2 ∷ row3 ∷ row4 ∷ row5 ∷ row6 ∷ row7 ∷ row8 ∷ row9 ∷ row10 ∷ row11 ∷ row12 ∷ row13 ∷ row14 ∷ row15 ∷ row16 ∷ row17 ∷ row18 ∷ row19 ∷ row20 ∷ row21 ∷ row22 ∷ row23 ∷ row24 ∷ row25 ∷ row26 ∷ row27 ∷ row28 ∷ row29 ∷ row30 ∷ row31 ∷ row32 ∷ row33 ∷ row34 ∷ row35 ∷ row36 ∷ row37 ∷ row38 ∷ []
 
 -- THE EXAMPLES: each row runs as it says.
 pub examples : All table
 unfolding run step Model.sendRequest Model.enqueueFds Model.enqueuePacket Model.discardReply Model.takeClosed Model.pollForReplyOrError Model.pollCheck Model.pollForReply Model.prepareCheck Model.pollForEvent Model.find pass refuse sending mustSync both either choose numberAfter unnumbered inRange full field numberIn cut turned bytesOf lowBytes lowNumber Model.numbered Model.askedOf Model.headOf Model.placeOf Model.claimed Model.takeIn Model.decide Model.ahead Model.decideBy costs descriptorsOf Model.withMode underMode Model.ofNumber Model.notOf Model.above Model.errorsOf Model.closingOrder
-examples = (refl, (refl, (refl, (refl, (refl, (refl, (refl, (refl, (refl, (refl, (refl, (refl, (refl, (refl, (refl, (refl, (refl, (refl, (refl, (refl, (refl, (refl, (refl, (refl, (refl, (refl, (refl, (refl, (refl, (refl, (refl, (refl, (refl, (refl, (refl, (refl, (refl, tt)))))))))))))))))))))))))))))))))))))
+examples = (refl, (refl, (refl, (refl, (refl, (refl, (refl, (refl, (refl, (refl, (refl, (refl, (refl, (refl, (refl, (refl, (refl, (refl, (refl, (refl, (refl, (refl, (refl, (refl, (refl, (refl, (refl, (refl, (refl, (refl, (refl, (refl, (refl, (refl, (refl, (refl, (refl, (refl, tt))))))))))))))))))))))))))))))))))))))
 
 -- the least store, as the rules have it
 pub least-store : _≡_ {A = ℕ} Model.leastStore 48

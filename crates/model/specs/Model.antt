@@ -163,7 +163,7 @@ taskBy p n a = record { place = placeOf (codeOf p) a; number = n; claimed = clai
 
 -- 02, M-103: "A numbered packet whose full number is above the last written must be refused": by its code, its number and the last written
 unfoldable pub ahead : ℕ → ℕ → ℕ → Bool
-ahead code n written = both (not (unnumbered code)) (ltb written n)
+ahead code n written = both (ltb written n) (not (unnumbered code))
 
 -- A packet that has its number and whose request is known: 20 where it answers what was not asked, 4 where it claims more descriptors than wait, 5 where it is to be held and its cost does not fit.
 unfoldable pub decideBy : Client → List ℕ → ℕ → Asked → Answer Task

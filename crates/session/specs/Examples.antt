@@ -34,8 +34,12 @@ event code wire = code ∷ 0 ∷ (bytesOf 108 2 wire ++ replicate 28 0)
 abbrev taken : ℕ → List ℕ → ℕ → Entry
 taken t p n = took t p (record { place = Events; number = n })
 
+-- so many requests were sent
+abbrev asked : ℕ → Client
+asked n = setNumbers (Model.fresh 108 4 500) (record { written = n; expected = 0; read = 0 })
+
 -- true numbers 70, 80, 85 and 90 of a run of four events, of which those of codes 11 and 139 carry no number; the engine reads 1 and 2 from the wire
-pub fed : noteFed (70 ∷ 80 ∷ 85 ∷ 90 ∷ []) (Model.fresh 108 4 500) (event 2 1 ++ (event 11 0 ++ (event 139 5 ++ event 3 2))) (gives (tt {0})) [] ≡ taken 90 (event 3 2) 2 ∷ taken 70 (event 2 1) 1 ∷ []
+pub fed : noteFed (70 ∷ 80 ∷ 85 ∷ 90 ∷ []) (asked 2) (event 2 1 ++ (event 11 0 ++ (event 139 5 ++ event 3 2))) (gives (tt {0})) [] ≡ taken 90 (event 3 2) 2 ∷ taken 70 (event 2 1) 1 ∷ []
 unfolding noteFed notes notePacket tookOf noteTook enqueuePackets cutPackets cuts aim totalOf total hasLength field numberIn cut lowNumber turned bytesOf lowBytes choose both either many onTurn modelTook stopAt Model.enqueuePacket numberAfter unnumbered inRange full Model.numbered Model.askedOf Model.headOf Model.placeOf Model.claimed Model.takeIn Model.decide Model.ahead Model.decideBy costs refuse pass
 fed = refl
 
@@ -57,10 +61,10 @@ abbrev bringing : ℕ → Packet
 bringing t = record { true-number = t; bytes = event 2 7 }
 
 abbrev afterSeven : Client
-afterSeven = setEvents (setNumbers (Model.fresh 108 4 500) (record { written = 0; expected = 7; read = 7 })) (heldPacket 7 (event 2 7) [] ∷ [])
+afterSeven = setEvents (setNumbers (Model.fresh 108 4 500) (record { written = 7; expected = 7; read = 7 })) (heldPacket 7 (event 2 7) [] ∷ [])
 
 -- it is filed under its true number where that is 7, and not where it is 8
-pub filings : FiledAll (Model.fresh 108 4 500) (bringing 7 ∷ []) afterSeven × (FiledAll (Model.fresh 108 4 500) (bringing 8 ∷ []) afterSeven → ⊥)
+pub filings : FiledAll (asked 7) (bringing 7 ∷ []) afterSeven × (FiledAll (asked 7) (bringing 8 ∷ []) afterSeven → ⊥)
 unfolding Model.enqueuePacket numberAfter unnumbered inRange full field numberIn cut lowNumber turned bytesOf lowBytes choose both either Model.numbered Model.askedOf Model.headOf Model.placeOf Model.claimed Model.takeIn Model.decide Model.ahead Model.decideBy costs refuse pass
 filings = (
   ((record { place = Events; number = 7 }, afterSeven), refl, λ e. record { number = refl; last-read = refl; record-is = (refl, refl) }, refl),

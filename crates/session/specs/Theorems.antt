@@ -3,7 +3,7 @@ use mathlib.Core.Bool.{false}
 use mathlib.Core.List.{List, _∷_}
 use mathlib.Core.Logic.{_⊎_}
 use mathlib.Core.Path.{_≡_, sym}
-use Prim.Native.Nat.{ℕ}
+use Prim.Native.Nat.{ℕ, _≤_}
 use lib.ListN.{length}
 use Rattle.refusal.specs.Answer.{Answer, gives, refuses}
 use Rattle.packet.specs.Packet.{codeOf, unnumbered}
@@ -79,6 +79,10 @@ session-public (new o r c h) = opens o _ _ (opens-fresh o r c h)
 session-public (call x b ts a r' o h k) = call-public x b ts a r' o h (session-sound k) (session-public k)
 session-public (restored {c = c} {r = r} reader buffer ids out n out' s q b v q' b' t k) = again (v .0) q' (sym (again-alike (laid c r reader buffer ids) out n out' s q b v q' b' t .same)) (session-public k)
 
+-- NEVER PAST: whatever the server sends, honest or not, the last read does not pass next reply expected, nor that the last written.
+pub session-never-past : {c : Connection} {r : Rooms} {l : List Entry} → Session c r l → (c .read ≤ c .expected) × (c .expected ≤ c .written)
+session-never-past k = Any.public-never-past (session-public k)
+
 -- TRUE NUMBERS: with an honest server the number of each packet taken in is its true one, however long the session is.
 pub session-true : {c : Connection} {r : Rooms} {l : List Entry} → Session c r l → Honest (c .order) l → Right l
 session-true k h = Any.public-true (session-public k) h
@@ -90,6 +94,6 @@ module _ {c : Connection} {r : Rooms} {l : List Entry} (k : Session c r l) (h : 
   pub session-filed : (f : Filing) (s : Connection) → a ≡ gives (f, s) → Filed (reads c r) p t (f, reads s r')
   session-filed = Any.public-filed (session-public k) h t p carries fair (enqueueExact c r p) a r' enqueues
 
-  -- NEVER ENDED: it is refused by 1, 2, 4 and 5 alone.
+  -- NEVER ENDED, NEVER AHEAD: it is refused by 1, 2, 4 and 5 alone.
   pub session-never-ended : (n : ℕ) → a ≡ refuses n → n ≡ 1 ⊎ n ≡ 2 ⊎ n ≡ 4 ⊎ n ≡ 5
   session-never-ended = Any.public-never-ended (session-public k) h t p carries fair (enqueueExact c r p) a r' enqueues (is-sound c r (session-sound k))

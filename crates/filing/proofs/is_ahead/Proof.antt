@@ -8,14 +8,14 @@ use Rattle.filing.proofs.is_ahead.Tie as tie
 
 returns : tie.Need-returns
 unfolding ahead both
-returns c = search needs
+returns c = simp (le-ltb _ _ (c .if1 .taken))
 
 is-unnumbered-requires : tie.Need-is-unnumbered-requires
 is-unnumbered-requires c κs = search needs
 
 returns-2 : tie.Need-returns-2
 unfolding ahead both
-returns-2 c = simp (c .is-unnumbered .ensures, lt-ltb _ _ (c .before .if1 .left))
+returns-2 c = simp (lt-ltb _ _ (c .before .if1 .left), c .is-unnumbered .ensures)
 
 pub is-ahead-spec : {M : Type 1} → statement M
 is-ahead-spec = tie.close (tie.spec returns is-unnumbered-requires returns-2)

@@ -38,10 +38,13 @@ enum-told : tie.Need-enum-told
 enum-told c = search needs
 
 returns-3 : tie.Need-returns-3
-returns-3 c = plain-numbered _ _ _ _ (c .before .before .before .number-after .ensures) _ (c .before .number .given .1) (omega arith) (omega arith) (omega arith) (sym (c .before .before .before .before .before .stays .ensures) ∙ not-false _ (c .before .before .before .before .if2 .left))
+returns-3 c = search needs
 
 returns-4 : tie.Need-returns-4
-returns-4 c = search needs
+returns-4 c = plain-numbered _ _ _ _ (c .before .before .before .before .before .before .number-after .ensures) _ (c .before .before .before .before .number .given .1) (sym (c .before .is-ahead .ensures) ∙ c .if3 .left) (omega arith) (omega arith) (omega arith) (sym (c .before .before .before .before .before .before .before .before .stays .ensures) ∙ not-false _ (c .before .before .before .before .before .before .before .if2 .left))
+
+returns-5 : tie.Need-returns-5
+returns-5 c = search needs
 
 pub plain-of-spec : {M : Type 1} → statement M
 plain-of-spec =
@@ -54,6 +57,9 @@ plain-of-spec =
     returns-2
     number-after-requires
     enum-known-number
+    shared-slice-read-is-ahead
+    is-ahead-requires
     enum-told
     returns-3
-    returns-4)
+    returns-4
+    returns-5)
