@@ -41,7 +41,7 @@ within-refuse false n h k w = w
 
 within-ahead : {m : ℕ} {A : Type 0} {a : Answer A} (b : Bool) → Within m a → Within m (refuse b 20 a)
 unfolding refuse
-within-ahead true w = named (omega arith) (inr refl)
+within-ahead true w = named {n = 20} (omega arith) (inr refl)
 within-ahead false w = w
 
 pub within-pass : {m : ℕ} {A B : Type 0} {a : Answer A} {f : A → Answer B} → Within m a → ((x : A) → Within m (f x)) → Within m (pass a f)

@@ -59,22 +59,19 @@ impl Many for Rust {
     }
 }
 
-/// So many requests, then an event that clears them away.
+/// So many requests; then one more, and an event of its number that clears the others away.
 fn sends<C: Many>(c: &mut C, on: &mut u64, kinds: &[u8], see: &mut impl See) -> Duration {
     let time = timed(|| c.sends(kinds, see));
     *on += kinds.len() as u64 + 1;
-    c.feed(&packet(2, *on));
     c.sends(&[1], see);
+    c.feed(&packet(2, *on));
     c.events(see);
     time
 }
 
-/// So many events in and out.
+/// So many events in and out, all with the number last read: 0, so that nothing is outstanding.
 fn burst<C: Many>(c: &mut C, on: &mut u64, events: usize, see: &mut impl See) -> Duration {
-    let bytes: Vec<u8> = (0..events as u64)
-        .flat_map(|i| packet(2, *on + i / 64))
-        .collect();
-    *on += events as u64 / 64;
+    let bytes = packet(2, *on).repeat(events);
     timed(|| {
         c.feed(&bytes);
         c.events(see);

@@ -67,13 +67,11 @@ pub trait Work {
     fn run<C: Client>(&self, on: &mut [On<C>], see: &mut impl See) -> Duration;
 }
 
-/// Events with the numbers after the last read.
-fn packets<C>(on: &mut On<C>, code: u8, n: usize) -> Vec<[u8; 32]> {
+/// Replies with the numbers after the last read, to requests that are sent before each.
+fn replies<C>(on: &mut On<C>, n: usize) -> Vec<[u8; 32]> {
     let first = on.read + 1;
     on.read += n as u64;
-    (first..=on.read)
-        .map(|number| packet(code, number))
-        .collect()
+    (first..=on.read).map(|number| packet(1, number)).collect()
 }
 
 fn drain<C: Client>(c: &mut C, see: &mut impl See) {
@@ -106,17 +104,17 @@ impl Work for Sends {
         });
         for on in on {
             on.read += self.each as u64 + 1;
-            // The number after the last written: all that is outstanding goes, and one more send
-            // makes the numbers meet again.
-            on.c.packet(&packet(2, on.read));
+            // All that is outstanding goes but one more request, whose number the event has.
             on.c.send(1);
+            on.c.packet(&packet(2, on.read));
             drain(&mut on.c, see);
         }
         time
     }
 }
 
-/// One packet in and out by turns, beside so many held events.
+/// One packet in and out by turns, beside so many held events, all with the number last read. That is 0, for which
+/// nothing was sent, so that nothing is outstanding.
 pub struct OneByOne {
     pub code: u8,
     pub beside: usize,
@@ -130,16 +128,15 @@ impl Work for OneByOne {
 
     fn run<C: Client>(&self, on: &mut [On<C>], see: &mut impl See) -> Duration {
         let on = &mut on[0];
-        for held in packets(on, 2, self.beside) {
-            on.c.packet(&held);
+        for _ in 0..self.beside {
+            on.c.packet(&packet(2, on.read));
         }
-        let first = on.read + 1;
-        let all = packets(on, self.code, self.turns);
+        let all = vec![packet(self.code, on.read); self.turns];
         let time = timed(|| {
-            for (packet, number) in all.iter().zip(first..) {
+            for packet in &all {
                 on.c.packet(packet);
                 match self.code {
-                    1 => on.c.reply(number, see),
+                    1 => on.c.reply(on.read, see),
                     _ => assert!(on.c.event(see)),
                 }
             }
@@ -161,7 +158,7 @@ impl Work for RoundTrips {
 
     fn run<C: Client>(&self, on: &mut [On<C>], see: &mut impl See) -> Duration {
         let on = &mut on[0];
-        let all = packets(on, 1, self.turns);
+        let all = replies(on, self.turns);
         timed(|| {
             for packet in &all {
                 let number = on.c.send(1).unwrap();
@@ -172,7 +169,7 @@ impl Work for RoundTrips {
     }
 }
 
-/// So many events in, then all of them out, a call for each.
+/// So many such events in, then all of them out, a call for each.
 pub struct Burst {
     pub events: usize,
 }
@@ -184,7 +181,7 @@ impl Work for Burst {
 
     fn run<C: Client>(&self, on: &mut [On<C>], see: &mut impl See) -> Duration {
         let on = &mut on[0];
-        let all = packets(on, 2, self.events);
+        let all = vec![packet(2, on.read); self.events];
         timed(|| {
             for packet in &all {
                 on.c.packet(packet);
@@ -217,7 +214,8 @@ impl Work for Held {
     fn run<C: Client>(&self, on: &mut [On<C>], see: &mut impl See) -> Duration {
         let on = &mut on[0];
         let first = on.read + 1;
-        for held in packets(on, 1, self.replies()) {
+        for held in replies(on, self.replies()) {
+            on.c.send(1);
             on.c.packet(&held);
         }
         let numbers = first..=on.read;

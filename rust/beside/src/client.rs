@@ -3,10 +3,11 @@
 use std::cell::RefCell;
 use std::panic::{catch_unwind, AssertUnwindSafe};
 
-use xiengmado::engine::{Engine, Halt, Place, Stop, RECORD_HEADER};
+use xiengmado::engine::{Engine, Fed, Halt, Place, Stop, RECORD_HEADER};
 use xiengmado::{ByteOrder, Refusal};
 
 use crate::connection::{self, Connection, PollReply, ReplyFdKind};
+use crate::protocol::xproto::KEYMAP_NOTIFY_EVENT;
 use crate::utils::{number, take_closed, RawFdContainer};
 use crate::DiscardMode;
 
@@ -24,6 +25,7 @@ pub struct Met {
     pub most_held: usize,
     pub long: Long,
     pub keymaps: Keymaps,
+    pub ahead: Ahead,
 }
 
 /// KeymapNotify events that SendEvent made: compared like any packet, left out of a run, and at the end of
@@ -34,6 +36,17 @@ pub struct Keymaps {
     pub left_out: u64,
     pub alike: u64,
     pub parted: u64,
+}
+
+/// Packets ahead of the requests: left out of a run; and at the end of one, where packets of any number are offered,
+/// refused by 20, some of these in a row, or by 3. Alike are the ends at which all were taken.
+#[derive(Default)]
+pub struct Ahead {
+    pub left_out: u64,
+    pub refused: u64,
+    pub in_rows: u64,
+    pub passed: u64,
+    pub alike: u64,
 }
 
 /// Packets over 65,536 bytes among them.
@@ -110,14 +123,47 @@ pub fn report_keymaps() -> String {
     })
 }
 
+/// The same of packets ahead of the requests.
+pub fn report_ahead() -> String {
+    MET.with(|met| {
+        let ahead = &met.borrow().ahead;
+        format!(
+            "packets ahead of the requests: left out {}, at the end of a run refused by 20 {}, in rows {}, by 3 {}, \
+             all taken {}",
+            ahead.left_out, ahead.refused, ahead.in_rows, ahead.passed, ahead.alike,
+        )
+    })
+}
+
 /// The code of a KeymapNotify that SendEvent made.
 pub const SENT_KEYMAP: u8 = 139;
 
-/// Whether the sides part on a packet: a KeymapNotify that SendEvent made, where the Rust, which numbers it by its
-/// key bits, changes next reply expected or the last read by it.
-pub fn parts(packet: &[u8], expected: u64, read: u64) -> bool {
+/// The number that the Rust gives to a packet.
+fn number_after(read: u64, packet: &[u8]) -> u64 {
     let bits = u16::from_le_bytes([packet[2], packet[3]]);
-    packet[0] == SENT_KEYMAP && (bits != read as u16 || expected < read)
+    match packet[0] {
+        KEYMAP_NOTIFY_EVENT => read,
+        _ => read + u64::from(bits.wrapping_sub(read as u16)),
+    }
+}
+
+/// Whether the sides part on a packet: on a KeymapNotify that SendEvent made, which the Rust numbers by its key
+/// bits, where these are not the last read's; and on any other that the Rust numbers above the last written, which
+/// the engine refuses by 20.
+fn parts(packet: &[u8], written: u64, read: u64) -> bool {
+    let number = number_after(read, packet);
+    match packet[0] {
+        SENT_KEYMAP => number != read,
+        _ => written < number,
+    }
+}
+
+/// A packet was left out of a run, since the sides part on it.
+fn left_out(packet: &[u8]) {
+    met(|met| match packet[0] {
+        SENT_KEYMAP => met.keymaps.left_out += 1,
+        _ => met.ahead.left_out += 1,
+    });
 }
 
 /// The most bytes of a packet that the engine takes, and how many it takes of a longer one.
@@ -246,8 +292,10 @@ impl Both {
 
     fn compare_state(&self, what: &str) {
         let engine = &self.engine;
-        let theirs = connection::numbers(&self.rust);
-        same(what, "numbers", self.numbers(), theirs);
+        let (written, expected, read) = connection::numbers(&self.rust);
+        same(what, "numbers", self.numbers(), (written, expected, read));
+        let in_order = read <= expected && expected <= written;
+        assert!(in_order, "{what}: read ahead of what was written");
         let outstanding = connection::outstanding(&self.rust);
         same(
             what,
@@ -338,7 +386,7 @@ impl Both {
     /// refused by 4.
     pub fn packet(&mut self, packet: &[u8]) -> bool {
         if self.parts(packet) {
-            met(|met| met.keymaps.left_out += 1);
+            left_out(packet);
             return true;
         }
         match self.enqueue(packet) {
@@ -389,21 +437,22 @@ impl Both {
         }
     }
 
-    pub fn parts(&self, packet: &[u8]) -> bool {
-        let (_, expected, read) = self.numbers();
-        parts(packet, expected, read)
+    fn parts(&self, packet: &[u8]) -> bool {
+        let (written, _, read) = self.numbers();
+        parts(packet, written, read)
     }
 
     /// The end of a run is a KeymapNotify that SendEvent made, with any bits: it is filed under the last read
     /// and changes no number, and the Rust does the same exactly where it does not part the sides.
     pub fn end_with_keymap(mut self, packet: &[u8]) -> u64 {
-        let (parts, numbers) = (self.parts(packet), self.numbers());
-        let Ok(filed) = self.engine.enqueue_packet(packet) else {
-            return self.finish();
-        };
-        self.rust.enqueue_packet(packet.to_vec());
         let what = "KeymapNotify by SendEvent";
-        same(what, "filed", filed, (Place::Events, numbers.2));
+        let (parts, numbers) = (self.parts(packet), self.numbers());
+        let filed = self.engine.enqueue_packet(packet);
+        if filed == Err(Refusal::NoRoom) {
+            return self.finish();
+        }
+        self.rust.enqueue_packet(packet.to_vec());
+        same(what, "filed", filed, Ok((Place::Events, numbers.2)));
         same(what, "numbers", self.numbers(), numbers);
         let theirs = connection::numbers(&self.rust);
         same(what, "whether the sides part", numbers != theirs, parts);
@@ -416,16 +465,84 @@ impl Both {
         self.finish()
     }
 
-    /// A row of packets as one run of bytes, up to the first that is refused.
+    /// The end of a run is a packet of any number.
+    pub fn end_with_packet(mut self, packet: &[u8]) -> u64 {
+        let answer = self.enqueue(packet);
+        if answer.is_ok() {
+            self.rust.enqueue_packet(packet.to_vec());
+        }
+        self.compare("enqueue_packet");
+        match answer {
+            Ok(_) => self.end_alike(),
+            Err(refusal) => self.end_refused(packet, refusal),
+        }
+    }
+
+    /// The end of a run is a row of packets of any numbers.
+    pub fn end_with_row(mut self, packets: &[Vec<u8>]) -> u64 {
+        let fed = self.row(packets);
+        let Halt::Refused(refusal) = fed.halt else {
+            return self.end_alike();
+        };
+        met(|met| met.ahead.in_rows += u64::from(refusal == Refusal::Ahead));
+        self.end_refused(&packets[fed.packets], refusal)
+    }
+
+    /// All was taken.
+    fn end_alike(self) -> u64 {
+        met(|met| met.ahead.alike += 1);
+        self.finish()
+    }
+
+    /// A packet was refused, and has changed nothing: by 3 exactly where the Rust takes it under a number that passes
+    /// 2^63 - 1, and otherwise by 20 exactly where that number is above the last written.
+    fn end_refused(mut self, packet: &[u8], refusal: Refusal) -> u64 {
+        let rust = &mut self.rust;
+        let _ = catch_unwind(AssertUnwindSafe(|| rust.enqueue_packet(packet.to_vec())));
+        let (written, _, read) = connection::numbers(&self.rust);
+        let passes = read >= 1 << 63;
+        let ours = [Refusal::NumberEnd, Refusal::Ahead].map(|by| refusal == by);
+        met(|met| {
+            met.ahead.passed += u64::from(ours[0]);
+            met.ahead.refused += u64::from(ours[1]);
+        });
+        same(
+            "refused",
+            "by 3, by 20",
+            ours,
+            [passes, !passes && written < read],
+        );
+        self.calls
+    }
+
+    /// A row of packets, without those on which the sides part.
     pub fn packets(&mut self, packets: &[Vec<u8>]) {
+        let (written, _, mut read) = self.numbers();
+        let kept = |packet: &&Vec<u8>| {
+            let parts = parts(packet, written, read);
+            match parts {
+                true => left_out(packet),
+                false => read = number_after(read, packet),
+            }
+            !parts
+        };
+        let kept: Vec<_> = packets.iter().filter(kept).cloned().collect();
+        self.row(&kept);
+    }
+
+    /// A row of packets as one run of bytes, up to the first that is refused.
+    fn row(&mut self, packets: &[Vec<u8>]) -> Fed {
         let fed = self.engine.enqueue_packets(&packets.concat()).unwrap();
-        let whole = fed.packets == packets.len();
+        let taken = &packets[..fed.packets];
+        let whole = taken.len() == packets.len();
         same("enqueue_packets", "end", fed.halt == Halt::End, whole);
-        for packet in &packets[..fed.packets] {
+        same("enqueue_packets", "bytes", fed.bytes, taken.concat().len());
+        for packet in taken {
             met(|met| met.keymaps.compared += u64::from(packet[0] == SENT_KEYMAP));
             self.rust.enqueue_packet(packet.clone());
         }
         self.compare("enqueue_packets");
+        fed
     }
 
     /// As many events as go into an output of so many bytes.

@@ -7,7 +7,7 @@ use xiengmado::{ByteOrder, Refusal};
 use crate::chance::Chance;
 use crate::client::{met, Both};
 use crate::connection::ReplyFdKind;
-use crate::sessions::long_size;
+use crate::sessions::{long_size, sent_number, set_number};
 
 /// The longest packet that is compared. A greater length that a damaged packet claims the Rust takes in memory.
 const MOST: usize = 500_000;
@@ -75,6 +75,13 @@ impl Reader {
         Ok(ours)
     }
 
+    /// Part of a damaged packet is forgotten: what comes next begins a packet.
+    fn begin_again(&mut self) {
+        let calls = self.calls;
+        *self = Reader::new(65_536);
+        self.calls = calls;
+    }
+
     /// How long the packet is that a piece makes 32 bytes long.
     fn wanted(&self, piece: &[u8]) -> usize {
         let head = [self.ours.filled(), piece].concat();
@@ -139,6 +146,9 @@ pub fn streams(chance: &mut Chance) -> u64 {
         if !through(&mut reader, &mut both, chance, &bytes, &mut next_fd) {
             return reader.calls + both.calls;
         }
+        if !reader.ours.filled().is_empty() {
+            reader.begin_again();
+        }
         match chance.below(4) {
             0 => both.poll_event(),
             1 => both.poll_reply(number),
@@ -162,12 +172,9 @@ fn ask(both: &mut Both, chance: &mut Chance) {
 
 /// What the server sends next, now and then damaged, and its number: one from the last read to the last written.
 fn sent(both: &Both, chance: &mut Chance) -> (Vec<u8>, u64) {
-    let written = both.engine.last_sequence_written();
-    let read = both.engine.last_sequence_read();
-    let mut bytes = whole(chance);
-    let number = read + chance.below(written.saturating_sub(read) + 1);
+    let (mut bytes, number) = (whole(chance), sent_number(both, chance));
     bytes[1] = chance.below(3) as u8;
-    bytes[2..4].copy_from_slice(&(number as u16).to_le_bytes());
+    set_number(&mut bytes, number);
     if chance.once(30) {
         damage(chance, &mut bytes);
     }

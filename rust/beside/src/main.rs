@@ -67,6 +67,7 @@ fn main() {
     println!("{}", client::report());
     println!("{}", client::report_long());
     println!("{}", client::report_keymaps());
+    println!("{}", client::report_ahead());
     println!("beside: {calls} calls compared, no difference");
 }
 

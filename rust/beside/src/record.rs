@@ -44,14 +44,19 @@ pub fn record(folder: &str) {
     }
 }
 
+/// A fresh connection; in some rounds one shortly before the numbers' low 16 bits go round.
+fn begin(s: &mut Script, round: usize) {
+    s.op(["new", "new 65536 4194304 l"][round % 2]);
+    if round % 5 == 4 {
+        s.op("send reply 65530");
+        s.intake(28, 65_530, 32);
+    }
+}
+
 /// All calls of a connection in any order.
 fn calls(s: &mut Script) {
     for round in 0..40 {
-        s.op(if round % 2 == 0 {
-            "new"
-        } else {
-            "new 65536 4194304 l"
-        });
+        begin(s, round);
         for _ in 0..45 {
             let state = s.state();
             match s.chance.below(26) {
@@ -61,11 +66,11 @@ fn calls(s: &mut Script) {
                     s.fds(count);
                 }
                 7..=13 => {
-                    let ahead = state.written.saturating_sub(state.read) + 1;
+                    let more = s.chance.below(state.written - state.read + 1);
                     let number = match s.chance.below(12) {
-                        0 => s.chance.next(),
+                        0 => state.read + more,
                         1..=4 => state.read,
-                        _ => state.read + s.chance.below(ahead).min(s.chance.below(5)),
+                        _ => state.read + more.min(s.chance.below(5)),
                     };
                     let code = s.code();
                     let size = s.chance.pick(&[32, 32, 32, 32, 36, 60]);
@@ -81,7 +86,7 @@ fn calls(s: &mut Script) {
     }
 }
 
-/// Many requests: to the sync and past it, over several wraps of 65,536, and answers ahead of them.
+/// Many requests: to the sync and past it, over several wraps of 65,536, and answers to any of them.
 fn numbers(s: &mut Script) {
     for round in 0..10 {
         s.op("new");
@@ -101,12 +106,12 @@ fn numbers(s: &mut Script) {
                 s.op("send reply");
             }
             let state = s.state();
-            let ahead = state.written.saturating_sub(state.read);
+            let unread = state.written - state.read;
             let number = match s.chance.below(9) {
                 1 => state.read,
-                2 => state.read + s.chance.below(65_536),
-                3 => state.read + ahead.min(65_535),
-                4 => state.written - state.written.min(s.chance.below(3)),
+                2 => state.read + s.chance.below(unread + 1),
+                3 => state.read + unread.min(65_535),
+                4 => state.written - unread.min(s.chance.below(3)),
                 _ => state.written,
             };
             let code = s.chance.pick(&[0, 1, 1, 28, 11]);
@@ -189,8 +194,7 @@ fn streams(s: &mut Script) {
             let state = s.state();
             let count = s.chance.below(3) as u32;
             s.fds(count);
-            let ahead = state.written.saturating_sub(state.read) + 1;
-            let number = state.read + s.chance.below(ahead);
+            let number = state.read + s.chance.below(state.written - state.read + 1);
             let bytes = whole(s, number);
             pieces(s, "feedin", &bytes);
             s.poll();

@@ -1,7 +1,7 @@
 //! A script of a recorded run while it is written.
 
 use crate::chance::Chance;
-use crate::client::parts;
+use crate::client::SENT_KEYMAP;
 use crate::oracle::Oracle;
 use crate::replay::{self, hex, Side, State};
 
@@ -39,6 +39,10 @@ impl Script {
         if answer.contains("panic") {
             fail(&format!("outside the domain: {line}"));
         }
+        let state = self.rust.state();
+        if state.read > state.written {
+            fail(&format!("ahead of the requests: {line}"));
+        }
     }
 
     pub fn ops(&mut self, line: &str, times: u64) {
@@ -75,16 +79,17 @@ impl Script {
     }
 
     /// A packet of a code and a number. One that takes descriptors claims no more than wait. A KeymapNotify that
-    /// SendEvent made is one of the server's instead where the sides part on it.
+    /// SendEvent made has the last read's number, since the sides part on any other.
     pub fn packet(&mut self, code: u8, number: u64, size: usize) -> Vec<u8> {
+        let state = self.state();
+        let number = match code {
+            SENT_KEYMAP => state.read,
+            _ => number,
+        };
         let mut bytes = self.chance.bytes(size);
         bytes[0] = code;
         bytes[1] = self.chance.below(4) as u8;
         bytes[2..4].copy_from_slice(&(number as u16).to_le_bytes());
-        let state = self.state();
-        if parts(&bytes, state.expected, state.read) {
-            bytes[0] = 11;
-        }
         let full = state.read + u64::from((number as u16).wrapping_sub(state.read as u16));
         let takes = state
             .outstanding

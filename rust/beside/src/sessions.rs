@@ -7,8 +7,9 @@ use crate::leaves;
 use crate::DiscardMode;
 
 type Kind = fn(&mut Chance) -> u64;
+type End = fn(Both, &mut Chance) -> u64;
 
-pub const KINDS: [(&str, Kind); 11] = [
+pub const KINDS: [(&str, Kind); 12] = [
     ("mixed", mixed),
     ("descriptors", descriptors),
     ("same number", same_number),
@@ -16,6 +17,7 @@ pub const KINDS: [(&str, Kind); 11] = [
     ("sync bursts", sync_bursts),
     ("long packets", long_packets),
     ("sent keymaps", sent_keymaps),
+    ("packets ahead", packets_ahead),
     ("streams", leaves::streams),
     ("readers", leaves::readers),
     ("handshakes", leaves::handshakes),
@@ -89,7 +91,18 @@ pub fn long_size(chance: &mut Chance) -> usize {
     65_537 + chance.below(more) as usize
 }
 
-/// A packet: mostly of a number that the server could send, at times of any. One in so many is long.
+pub fn set_number(packet: &mut [u8], number: u64) {
+    packet[2..4].copy_from_slice(&(number as u16).to_le_bytes());
+}
+
+/// Any number from the last read to the last written.
+pub fn sent_number(both: &Both, chance: &mut Chance) -> u64 {
+    let read = both.engine.last_sequence_read();
+    read + chance.below(both.engine.last_sequence_written() - read + 1)
+}
+
+/// A packet of a number that was sent, mostly near the last read; at times one at the edge, where those above the
+/// last written are left out. Mostly it claims no more descriptors than wait. One in so many is long.
 fn packet(both: &Both, chance: &mut Chance, long: u64) -> Vec<u8> {
     let code = match chance.below(10) {
         0..=3 => 1,
@@ -105,23 +118,19 @@ fn packet(both: &Both, chance: &mut Chance, long: u64) -> Vec<u8> {
     };
     let mut bytes = chance.bytes(size);
     bytes[0] = code;
-    bytes[1] = match chance.below(6) {
+    let waiting = both.engine.waiting().len() as u64;
+    bytes[1] = match chance.below(100) {
         0 => chance.next() as u8,
-        _ => chance.below(4) as u8,
+        _ => chance.below(4).min(waiting) as u8,
     };
-    let engine = &both.engine;
-    let (written, read) = (engine.last_sequence_written(), engine.last_sequence_read());
-    let full = match chance.below(16) {
-        0 => chance.next(),
-        1 => written + 1 + chance.below(3),
+    let read = both.engine.last_sequence_read();
+    let number = match chance.below(16) {
+        0 => both.engine.last_sequence_written() + chance.below(3),
+        1 => sent_number(both, chance),
         2..=6 => read,
-        _ => {
-            read + chance
-                .below(written.saturating_sub(read) + 1)
-                .min(chance.below(6))
-        }
+        _ => sent_number(both, chance).min(read + chance.below(6)),
     };
-    bytes[2..4].copy_from_slice(&(full as u16).to_le_bytes());
+    set_number(&mut bytes, number);
     bytes
 }
 
@@ -175,26 +184,30 @@ fn step(both: &mut Both, chance: &mut Chance, w: &Weights, next_fd: &mut u32) ->
     true
 }
 
-fn run(mut both: Both, chance: &mut Chance, weights: &Weights, steps: u64) -> u64 {
+fn run(mut both: Both, chance: &mut Chance, steps: u64, end: End) -> u64 {
     let mut next_fd = 1000;
     for _ in 0..steps {
-        if !step(&mut both, chance, weights, &mut next_fd) {
+        if !step(&mut both, chance, &MIXED, &mut next_fd) {
             return both.calls;
         }
     }
+    end(both, chance)
+}
+
+fn finish(both: Both, _: &mut Chance) -> u64 {
     both.finish()
 }
 
-fn rooms(chance: &mut Chance) -> (usize, usize) {
-    (
-        chance.pick(&[1, 7, 64, 65_536]),
+/// A fresh connection. A request room of 1 takes one request and no second, since the last one stays outstanding.
+fn fresh(chance: &mut Chance) -> Both {
+    Both::new(
+        chance.pick(&[1, 2, 7, 64, 65_536]),
         chance.pick(&[48, 96, 500, 4096, 100_000]),
     )
 }
 
 fn mixed(chance: &mut Chance) -> u64 {
-    let (requests, store) = rooms(chance);
-    run(Both::new(requests, store), chance, &MIXED, 4000)
+    run(fresh(chance), chance, 4000, finish)
 }
 
 fn ask(both: &mut Both, requests: u64) {
@@ -212,7 +225,7 @@ fn answer(chance: &mut Chance, number: u64) -> Vec<u8> {
     };
     let mut bytes = chance.bytes(size);
     bytes[0] = chance.pick(&[1, 1, 1, 0]);
-    bytes[2..4].copy_from_slice(&(number as u16).to_le_bytes());
+    set_number(&mut bytes, number);
     bytes
 }
 
@@ -231,20 +244,20 @@ fn descriptors(chance: &mut Chance) -> u64 {
 }
 
 /// Answers to the last requests, some of which are discarded first. A run that ends on the way gives way to a fresh
-/// one: how many calls were compared in those.
+/// one: how many calls were compared in it.
 fn answered(both: &mut Both, chance: &mut Chance, next_fd: &mut u32, requests: u64) -> u64 {
     let last = both.engine.last_sequence_written();
-    let mut ended = 0;
     for number in last + 1 - requests..=last {
         if chance.once(8) {
             both.discard(number, mode(chance));
         }
         if !claimed(both, chance, next_fd, number) {
-            ended += both.calls;
+            let ended = both.calls;
             both.restart(512, 100_000);
+            return ended;
         }
     }
-    ended
+    0
 }
 
 /// Answers to one request, which claim as many descriptors as came, or fewer, or one more; false ends the run.
@@ -311,8 +324,8 @@ fn discard_one(both: &mut Both, chance: &mut Chance) {
     }
 }
 
-/// Runs that start shortly before the numbers' low 16 bits, or their low 32, are all ones.
-fn wraps(chance: &mut Chance) -> u64 {
+/// A connection shortly before the numbers' low 16 bits, or their low 32, are all ones.
+fn at_an_edge(chance: &mut Chance) -> Both {
     let edge = chance.pick(&[
         1 << 16,
         1 << 17,
@@ -320,33 +333,45 @@ fn wraps(chance: &mut Chance) -> u64 {
         1 << 33,
         (1 << 32) + (1 << 16),
         1 << 62,
+        (1 << 63) - (1 << 16),
     ]);
     let start = edge - 1 - chance.below(40);
-    let both = Both::after(start, chance.pick(&[8, 256, 65_536]), 100_000);
-    run(both, chance, &MIXED, 2000)
+    Both::after(start, chance.pick(&[8, 256, 65_536]), 100_000)
+}
+
+fn wraps(chance: &mut Chance) -> u64 {
+    run(at_an_edge(chance), chance, 2000, finish)
+}
+
+/// So many requests, up to the first that is not accepted.
+fn burst(both: &mut Both, kind: ReplyFdKind, requests: u64) {
+    let mut sent = 0;
+    while sent < requests && both.send_unseen(kind) {
+        sent += 1;
+    }
+    both.compare("after a burst");
 }
 
 /// Requests without a reply up to the sync, some replies, and on past several wraps.
 fn sync_bursts(chance: &mut Chance) -> u64 {
     let mut both = Both::new(65_536, 4096);
     for _ in 0..4 {
-        let burst = chance.pick(&[1000, 20_000, 65_530, 65_533, 65_534, 65_535, 65_600]);
-        let mut sent = 0;
-        while sent < burst && both.send_unseen(ReplyFdKind::NoReply) {
-            sent += 1;
-        }
-        both.compare("after a burst");
+        let requests = chance.pick(&[1000, 20_000, 65_530, 65_533, 65_534, 65_535, 65_600]);
+        burst(&mut both, ReplyFdKind::NoReply, requests);
         both.send(ReplyFdKind::ReplyWithoutFDs);
         both.send(ReplyFdKind::NoReply);
-        let written = both.engine.last_sequence_written();
-        let answered = match chance.below(3) {
-            0 => written - chance.below(3).min(written),
-            1 => both.engine.last_sequence_read() + chance.below(65_536),
-            _ => written - chance.below(2000).min(written),
+        let (written, read) = (
+            both.engine.last_sequence_written(),
+            both.engine.last_sequence_read(),
+        );
+        let back = match chance.below(3) {
+            0 => chance.below(3),
+            1 => chance.below(65_536),
+            _ => chance.below(2000),
         };
         let mut bytes = chance.bytes(32);
         bytes[0] = chance.pick(&[0, 1, 28]);
-        bytes[2..4].copy_from_slice(&(answered as u16).to_le_bytes());
+        set_number(&mut bytes, written - back.min(written - read));
         both.packet(&bytes);
         both.poll_check(written);
         both.poll_event();
@@ -367,8 +392,7 @@ fn long_session(chance: &mut Chance) -> u64 {
             both.poll_events(chance.pick(&[31, 100, 70_000, 400_000]));
         }
         if chance.once(12) {
-            let row: Vec<_> = (0..chance.below(4)).map(|_| event(&both, chance)).collect();
-            both.packets(&row);
+            both.packets(&row(&both, chance));
         }
         if !step(&mut both, chance, &LONG, &mut next_fd) {
             return both.calls;
@@ -377,40 +401,82 @@ fn long_session(chance: &mut Chance) -> u64 {
     both.finish()
 }
 
-/// An error or an event of 32 bytes, with the number last read.
-fn event(both: &Both, chance: &mut Chance) -> Vec<u8> {
-    let mut bytes = chance.bytes(32);
-    bytes[0] = chance.pick(&[0, 2, 11, 28, 129, SENT_KEYMAP]);
-    let number = both.engine.last_sequence_read() as u16;
-    bytes[2..4].copy_from_slice(&number.to_le_bytes());
-    if both.parts(&bytes) {
-        bytes[0] = 2;
-    }
-    bytes
+/// Up to five packets of 32 bytes that claim no descriptors, with numbers from the last read on.
+fn row(both: &Both, chance: &mut Chance) -> Vec<Vec<u8>> {
+    let (mut number, count) = (both.engine.last_sequence_read(), chance.below(6));
+    let next = |_| {
+        let mut bytes = chance.bytes(32);
+        bytes[0] = chance.pick(&[0, 1, 2, 11, 28, 35, 129, SENT_KEYMAP]);
+        bytes[1] = 0;
+        bytes[4..8].fill(0);
+        number += chance.below(2);
+        set_number(&mut bytes, number);
+        bytes
+    };
+    (0..count).map(next).collect()
 }
 
 /// Short runs that end with a KeymapNotify that SendEvent made, with the last read's bits, bits near them, or any.
 fn sent_keymaps(chance: &mut Chance) -> u64 {
-    (0..100).map(|_| to_a_keymap(chance)).sum()
+    (0..100)
+        .map(|_| short(Both::new(64, 4096), chance, a_keymap))
+        .sum()
 }
 
-fn to_a_keymap(chance: &mut Chance) -> u64 {
-    let (mut both, mut next_fd) = (Both::new(64, 4096), 1000);
-    for _ in 0..chance.below(40) {
-        if !step(&mut both, chance, &MIXED, &mut next_fd) {
-            return both.calls;
-        }
-    }
+/// A run of few calls.
+fn short(both: Both, chance: &mut Chance, end: End) -> u64 {
+    let steps = chance.below(40);
+    run(both, chance, steps, end)
+}
+
+fn a_keymap(both: Both, chance: &mut Chance) -> u64 {
     let mut bytes = chance.bytes(32);
     bytes[0] = SENT_KEYMAP;
-    let read = both.engine.last_sequence_read() as u16;
+    let read = both.engine.last_sequence_read();
     let bits = match chance.below(4) {
         0 | 1 => read,
-        2 => read.wrapping_add(chance.pick(&[1, 2, u16::MAX])),
-        _ => chance.next() as u16,
+        2 => read.wrapping_add(chance.pick(&[1, 2, u64::MAX])),
+        _ => chance.next(),
     };
-    bytes[2..4].copy_from_slice(&bits.to_le_bytes());
+    set_number(&mut bytes, bits);
     both.end_with_keymap(&bytes)
+}
+
+/// Short runs that end with packets of any number; some shortly before 2^63, where that can pass the last there is.
+fn packets_ahead(chance: &mut Chance) -> u64 {
+    let run = |_| {
+        let both = match chance.below(5) {
+            0 | 1 => fresh(chance),
+            2 | 3 => at_an_edge(chance),
+            _ => Both::after((1 << 63) - 200, 64, 4096),
+        };
+        short(both, chance, any_number)
+    };
+    (0..100).map(run).sum()
+}
+
+/// A row of packets, or one: of a number that was sent, of one at the edge, or of any; at times after many requests.
+fn any_number(mut both: Both, chance: &mut Chance) -> u64 {
+    if chance.once(50) {
+        let requests = chance.pick(&[10_000, 65_000]);
+        burst(&mut both, ReplyFdKind::ReplyWithoutFDs, requests);
+    }
+    if chance.once(2) {
+        let mut row = row(&both, chance);
+        row.retain(|packet| packet[0] != SENT_KEYMAP);
+        return both.end_with_row(&row);
+    }
+    let mut bytes = packet(&both, chance, 20);
+    let number = match chance.below(3) {
+        0 => sent_number(&both, chance),
+        1 => both.engine.last_sequence_written() + chance.below(3),
+        _ => chance.next(),
+    };
+    set_number(&mut bytes, number);
+    match bytes[0] {
+        SENT_KEYMAP => both.end_with_keymap(&bytes[..32]),
+        _ => both.end_with_packet(&bytes),
+    }
 }
 
 /// More than 2^32 requests from a fresh connection, in bulk; the state is compared now and then.
@@ -426,7 +492,7 @@ pub fn long() {
         let written = both.engine.last_sequence_written();
         let mut bytes = [0; 32];
         bytes[0] = 1;
-        bytes[2..4].copy_from_slice(&(written as u16).to_le_bytes());
+        set_number(&mut bytes, written);
         both.packet(&bytes);
         both.poll_reply_or_error(written);
         if written % (1 << 28) < 60 {
