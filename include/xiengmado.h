@@ -61,7 +61,8 @@ enum xm_refusal {
     XM_INCOMPLETE = 15,      /* a setup asked for too early */
     XM_LONG_AUTH = 16,       /* an authorization name or data over 65,535 bytes */
     XM_HAS_DESCRIPTORS = 18, /* a savepoint asked for while a descriptor is inside */
-    XM_BAD_SAVEPOINT = 19    /* bytes that are no savepoint */
+    XM_BAD_SAVEPOINT = 19,   /* bytes that are no savepoint */
+    XM_AHEAD = 20            /* a packet whose number is above the last written */
 };
 
 /* The archive answers 32 bits. */
@@ -93,6 +94,7 @@ static inline const char *xm_refusal_text(uint32_t number) {
     case XM_LONG_AUTH: return "LongAuth: an authorization name or data over 65,535 bytes";
     case XM_HAS_DESCRIPTORS: return "HasDescriptors: no savepoint while a descriptor is inside";
     case XM_BAD_SAVEPOINT: return "BadSavepoint: bytes that are no savepoint";
+    case XM_AHEAD: return "Ahead: a packet that answers what was not asked";
     default: return "no refusal has this number";
     }
 }
@@ -451,10 +453,11 @@ enum xm_refusal xm_enqueue_fds(uint64_t *state, size_t state_len, const uint8_t 
 
 /*
  * A packet came: where it was filed, and under which number. A KeymapNotify (code 11, or 139 by SendEvent)
- * has key bits where others have their number, and gets the last one read. At 4 hand in the descriptors
- * that came with its bytes, at 5 poll or discard what is held, and then offer it again. Only its first 32
- * bytes are looked at, so that a packet of over 65,536 bytes can be taken in by those alone
- * (docs/LIMITS.md). Refused by 9, 1, 2, 3, 4, 5.
+ * has key bits where others have their number, and gets the last one read; it is never refused by 20. At 20
+ * the packet's number is above the last written: the server answered what was not asked. At 4 hand in the
+ * descriptors that came with its bytes, at 5 poll or discard what is held, and then offer it again. Only its
+ * first 32 bytes are looked at, so that a packet of over 65,536 bytes can be taken in by those alone
+ * (docs/LIMITS.md). Refused by 9, 1, 2, 3, 20, 4, 5.
  */
 enum xm_refusal xm_enqueue_packet(uint64_t *state, size_t state_len, const uint8_t *requests,
                                   size_t requests_len, uint8_t *store, size_t store_len,
@@ -463,9 +466,10 @@ enum xm_refusal xm_enqueue_packet(uint64_t *state, size_t state_len, const uint8
 
 /*
  * Bytes came from the server: each whole packet that they begin with is taken in as xm_enqueue_packet
- * does, up to the first that is refused by 2, 3, 4 or 5. How many bytes (size) and packets (count) were
- * taken, and what stopped it: XM_STOP_END where no byte is left, XM_STOP_PART where part of a packet is,
- * otherwise the refusal of the next packet. What is left is to be offered again. Refused by 9.
+ * does, up to the first that is refused by 2, 3, 20, 4 or 5. How many bytes (size) and packets (count)
+ * were taken, and what stopped it: XM_STOP_END where no byte is left, XM_STOP_PART where part of a packet
+ * is, otherwise the refusal of the next packet. What is left is to be offered again, at 20 without its
+ * first packet, if at all. Refused by 9.
  */
 enum xm_refusal xm_enqueue_packets(uint64_t *state, size_t state_len, const uint8_t *requests,
                                    size_t requests_len, uint8_t *store, size_t store_len,

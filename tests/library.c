@@ -1,5 +1,5 @@
 /* The header and the static library from C: names and version, a request, its reply with a descriptor, many at once, a reader, a savepoint, an
- * unsound state, a full room, long packets, events without a number; and the bytes of setup and XC-MISC, which no field of is like another, in both byte orders. */
+ * unsound state, a full room, long packets, events without a number, an answer to nothing; and the bytes of setup and XC-MISC, which no field of is like another, in both byte orders. */
 #include <stdio.h>
 #include <string.h>
 
@@ -31,9 +31,9 @@ static const struct xm_rooms rooms = {.state = state,
 
 /* The archive is that of the header; each refusal has a text of its own, and other numbers have another. */
 static void named(void) {
-    const char *texts[20], *other = xm_refusal_text(20);
+    const char *texts[21], *other = xm_refusal_text(21);
     expect("version", xm_version(), XM_VERSION);
-    for (uint32_t i = 0; i < 20; i++) {
+    for (uint32_t i = 0; i < 21; i++) {
         texts[i] = xm_refusal_text(i);
         expect("a number without a refusal", strcmp(texts[i], other) == 0, i == 17);
         for (uint32_t j = 0; j < i; j++) expect("a text that stands twice", strcmp(texts[i], texts[j]) == 0, 0);
@@ -325,6 +325,7 @@ static void given_ids(void) {
 /* A KeymapNotify has key bits in the place of its number: of either code it gets the last read, and moves no number. */
 static void keymaps(void) {
     uint8_t run[128] = {2, 0, 0, 7}, place = 9;
+    const uint8_t kinds[8] = {XM_NO_REPLY};
     uint64_t number = 9, marks[8] = {0};
     const uint64_t due[8] = {7, 32, 7, 32, 7, 32, 8, 32};
     size_t size = 9, count = 9;
@@ -336,6 +337,7 @@ static void keymaps(void) {
     run[96] = 140;
     run[99] = 8;
     expect("new", xm_connection_new(XM_STATE(&rooms), XM_BIG, XM_ROOMS(&rooms)), XM_DONE);
+    expect("sends", xm_send_requests(CONNECTION, kinds, sizeof kinds, &count, &number, &stop), XM_DONE);
     expect("run", xm_enqueue_packets(CONNECTION, run, sizeof run, &size, &count, &stop), XM_DONE);
     expect("packets", count, 4);
     expect("events", xm_poll_for_events(CONNECTION, out, sizeof out, marks, 8, &count, &size, &stop), XM_DONE);
@@ -345,6 +347,67 @@ static void keymaps(void) {
     expect("its place", place, XM_EVENTS);
     expect("next reply expected", state[XM_STATE_EXPECTED], 8);
     expect("last read", state[XM_STATE_READ], 8);
+}
+
+/* The state and what the rooms hold, to be compared after a refusal. */
+struct held {
+    uint64_t state[XM_CONNECTION_SLOTS];
+    uint8_t requests[sizeof requests], store[sizeof store];
+    uint32_t slots[XM_DESCRIPTORS];
+};
+
+static struct held held(void) {
+    struct held all;
+    memcpy(all.state, state, sizeof state);
+    memcpy(all.requests, requests, sizeof requests);
+    memcpy(all.store, store, sizeof store);
+    memcpy(all.slots, slots, sizeof slots);
+    return all;
+}
+
+/* A packet of each kind that answers request 3 is refused, alone and in a run, and nothing is changed. */
+static void refused_ahead(void) {
+    const uint8_t codes[5] = {0, 1, 2, 35, 163};
+    struct held before = held();
+    for (int i = 0; i < 5; i++) {
+        const uint8_t answer[32] = {codes[i], 1, 3};
+        uint8_t place = 9;
+        uint64_t number = 9;
+        size_t size = 9, count = 9;
+        uint32_t stop = 9;
+        expect("ahead", xm_enqueue_packet(CONNECTION, answer, 32, &place, &number), XM_AHEAD);
+        expect("its place", place, 9);
+        expect("its number", number, 9);
+        expect("in a run", xm_enqueue_packets(CONNECTION, answer, 32, &size, &count, &stop), XM_DONE);
+        expect("bytes taken", size, 0);
+        expect("stop", stop, XM_AHEAD);
+        struct held after = held();
+        expect("changed bytes", memcmp(&before, &after, sizeof after) != 0, 0);
+    }
+}
+
+/* What answers no request that was sent: a run stops before it, and it is taken in once one more was. A KeymapNotify never is such. */
+static void ahead(void) {
+    const uint8_t run[128] = {[0] = 2, [2] = 2, [32] = 11, [34] = 3, [64] = 139, [66] = 3, [96] = 1, [97] = 1, [98] = 3};
+    const uint8_t kinds[2] = {XM_NO_REPLY, XM_REPLY_WITH_FDS};
+    const uint32_t seven = 7;
+    uint64_t number = 9;
+    uint8_t place = 9;
+    size_t size = 9, count = 9;
+    uint32_t stop = 9;
+    expect("new", xm_connection_new(XM_STATE(&rooms), XM_LITTLE, XM_ROOMS(&rooms)), XM_DONE);
+    expect("sends", xm_send_requests(CONNECTION, kinds, sizeof kinds, &count, &number, &stop), XM_DONE);
+    expect("fds", xm_enqueue_fds(CONNECTION, &seven, 1), XM_DONE);
+    refused_ahead();
+    expect("run", xm_enqueue_packets(CONNECTION, run, sizeof run, &size, &count, &stop), XM_DONE);
+    expect("bytes of the run", size, 96);
+    expect("packets of the run", count, 3);
+    expect("stop", stop, XM_AHEAD);
+    refused_ahead();
+    expect("one more", xm_send_request(CONNECTION, XM_REPLY_WITH_FDS, &number), XM_DONE);
+    expect("asked for", xm_enqueue_packet(CONNECTION, run + 96, 32, &place, &number), XM_DONE);
+    expect("its number", number, 3);
+    expect("its place", place, XM_REPLIES);
 }
 
 int main(void) {
@@ -360,6 +423,7 @@ int main(void) {
     filled();
     long_packets();
     keymaps();
+    ahead();
     opened();
     asked_for_ids();
     given_ids();

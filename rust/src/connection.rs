@@ -174,9 +174,10 @@ impl Connection {
     ///
     /// # Panics
     ///
-    /// For under 32 bytes (1), where it claims more descriptors than wait (4), where the store has no
-    /// room for it (5) and past the last number (3). `try_enqueue_packet` and `try_enqueue_long_packet` answer
-    /// the refusal. The original panics at 4 as well.
+    /// For under 32 bytes (1), where it answers what was not asked (20), where it claims more descriptors than
+    /// wait (4), where the store has no room for it (5) and past the last number (3). `try_enqueue_packet` and
+    /// `try_enqueue_long_packet` answer the refusal. The original panics at 4 as well, and takes in what was
+    /// not asked.
     #[inline]
     pub fn enqueue_packet(&mut self, packet: Vec<u8>) {
         match self.try_enqueue_packet(&packet) {
@@ -194,7 +195,8 @@ impl Connection {
     }
 
     /// The same for at most 65,536 bytes: where it was filed, and under which number. Refused by 1, 2, 3,
-    /// 4, 5. At 5 poll, then try again.
+    /// 20, 4, 5. At 20 its number is above the last written: drop it, or take no more of that server's packets
+    /// in. At 5 poll, then try again.
     #[inline]
     pub fn try_enqueue_packet(
         &mut self,
@@ -203,7 +205,7 @@ impl Connection {
         self.engine.enqueue_packet(packet)
     }
 
-    /// The same for any length; a refusal, by 1, 3, 4, 5, hands the packet back.
+    /// The same for any length; a refusal, by 1, 3, 20, 4, 5, hands the packet back.
     #[inline]
     pub fn try_enqueue_long_packet(
         &mut self,
@@ -213,9 +215,9 @@ impl Connection {
     }
 
     /// Bytes were received: each whole packet that they begin with is taken in, up to the first that is
-    /// refused by 2, 3, 4, 5. What is left behind the bytes taken is to be offered again, with more behind
+    /// refused by 2, 3, 20, 4, 5. What is left behind the bytes taken is to be offered again, with more behind
     /// it or once there is room; at 2 by [`crate::packet_reader::PacketReader::advance`] and
-    /// [`Connection::enqueue_packet`]. The original has no such call; this one looks at the rooms once.
+    /// [`Connection::enqueue_packet`]; at 20 without its first packet, if at all. The original has no such call; this one looks at the rooms once.
     pub fn enqueue_packets(&mut self, bytes: &[u8]) -> Fed {
         let fed = whole(self.engine.enqueue_packets(bytes));
         self.close();
@@ -402,6 +404,7 @@ mod test {
     #[test]
     fn a_keymap_notify_has_the_last_number() {
         let mut c = Connection::new();
+        c.send_requests(&[ReplyFdKind::NoReply; 8]);
         let run = [(2, 7), (11, 3), (139, 9), (140, 8)].map(|(kind, bits)| packet(kind, 255, bits));
         run.iter().for_each(|p| c.enqueue_packet(p.clone()));
         let fed = c.engine.enqueue_packets(&run[2..].concat()).unwrap();
@@ -412,6 +415,37 @@ mod test {
             found,
             [(2, 7), (11, 7), (139, 7), (140, 8), (139, 8), (140, 8)]
         );
+    }
+
+    /// What answers no request that was sent comes back, and goes in once one more was.
+    #[test]
+    fn an_answer_to_nothing_is_refused() {
+        let mut c = Connection::with_rooms(ByteOrder::NATIVE, 1024, 480).unwrap();
+        c.send_requests(&[ReplyFdKind::ReplyWithFDs; 800]);
+        let ahead = Halt::Refused(Refusal::Ahead);
+        let before = format!("{c:?}");
+        for kind in [0, 1, 2, 35, 163] {
+            let packet = packet(kind, 1, 900);
+            assert_eq!(c.try_enqueue_packet(&packet), Err(Refusal::Ahead));
+            assert_eq!(c.enqueue_packets(&packet).halt, ahead);
+            let refused = c.try_enqueue_long_packet(packet.clone());
+            assert_eq!(refused, Err((Refusal::Ahead, packet)));
+        }
+        assert!(format!("{c:?}") == before);
+        let run = [(2, 800), (11, 900), (139, 801), (2, 801)].map(|(k, n)| packet(k, 0, n));
+        let fed = c.enqueue_packets(&run.concat());
+        assert_eq!((fed.bytes, fed.packets, fed.halt), (96, 3, ahead));
+        c.send_request(ReplyFdKind::NoReply);
+        let fed = c.enqueue_packets(&run[3]);
+        assert_eq!((fed.packets, fed.halt), (1, Halt::End));
+        let numbers: Vec<_> = c.poll_for_events().iter().map(|event| event.1).collect();
+        assert_eq!(numbers, [800, 800, 800, 801]);
+    }
+
+    #[test]
+    #[should_panic(expected = "(refusal 20)")]
+    fn an_answer_to_nothing_panics() {
+        Connection::new().enqueue_packet(packet(2, 0, 1));
     }
 
     #[test]
@@ -425,6 +459,8 @@ mod test {
                 halt,
             };
             let mut engine = Engine::new(order, 8, 160).unwrap();
+            engine.send_requests(&[ReplyFdKind::NoReply; 3]).unwrap();
+            let mut single = engine.clone();
             assert_eq!(engine.enqueue_packets(&run), Ok(fed(68, 2, Halt::Part)));
             assert_eq!(engine.enqueue_packets(&[]), Ok(fed(0, 0, Halt::End)));
             // the store has room for one more event, and not for two
@@ -433,7 +469,6 @@ mod test {
             assert_eq!(engine.enqueue_packets(&two), Ok(fed(32, 1, full)));
             assert_eq!(engine.last_sequence_read(), 2);
             // one by one it comes to the same
-            let mut single = Engine::new(order, 8, 160).unwrap();
             for packet in [&reply, &event, &long(order, 2, 2, 0)] {
                 single.enqueue_packet(packet).unwrap();
             }
@@ -448,6 +483,7 @@ mod test {
     fn a_run_with_a_long_packet_stops_at_its_first_bytes() {
         let order = ByteOrder::NATIVE;
         let mut engine = Engine::new(order, 8, 1024).unwrap();
+        engine.send_request(ReplyFdKind::ReplyWithoutFDs).unwrap();
         let run = [long(order, 2, 1, 0), long(order, 1, 1, 16_377)].concat();
         for (end, bytes, halt) in [
             (31, 0, Halt::Part),
@@ -467,7 +503,7 @@ mod test {
     fn many_events_come_in_order() {
         let mut c = Connection::new();
         assert_eq!(c.poll_for_events(), vec![]);
-        c.send_request(ReplyFdKind::ReplyWithoutFDs);
+        c.send_requests(&[ReplyFdKind::ReplyWithoutFDs; 5]);
         c.enqueue_packet(packet(1, 0, 1));
         let packets: Vec<_> = (0..5000)
             .map(|n| packet(2, n as u8, n / 1000 + 1))
@@ -483,6 +519,7 @@ mod test {
     #[test]
     fn events_stop_where_an_output_ends() {
         let mut engine = Engine::new(ByteOrder::NATIVE, 8, 1024).unwrap();
+        engine.send_requests(&[ReplyFdKind::NoReply; 4]).unwrap();
         let short = Stop::Refused(Refusal::OutShort);
         for n in 1..=4 {
             engine.enqueue_packet(&packet(2, n, n.into())).unwrap();
@@ -523,9 +560,12 @@ mod test {
     #[test]
     fn refusals_change_nothing() {
         let mut c = Connection::with_rooms(ByteOrder::Little, 1, 48).unwrap();
+        let event = packet(28, 28, 0);
         assert_eq!(c.try_enqueue_packet(&[0; 31]), Err(Refusal::ShortPacket));
-        assert_eq!(c.try_enqueue_packet(&[28; 32]), Ok((Place::Events, 0x1c1c)));
-        assert_eq!(c.try_enqueue_packet(&[28; 32]), Err(Refusal::NoRoom));
+        assert_eq!(c.try_enqueue_packet(&[28; 32]), Err(Refusal::Ahead));
+        assert_eq!(c.try_enqueue_packet(&event), Ok((Place::Events, 0)));
+        assert_eq!(c.try_enqueue_packet(&event), Err(Refusal::NoRoom));
+        assert_eq!(c.try_enqueue_packet(&[28; 32]), Err(Refusal::Ahead));
         assert_eq!(c.engine().records().count(), 1);
         assert_eq!(c.engine().used(), 48);
         assert!(Connection::with_rooms(ByteOrder::Big, 0, 48).is_err());

@@ -226,7 +226,8 @@ impl Engine {
         ffi::enqueue_fds(&mut self.state, &mut self.rooms, fds)
     }
 
-    /// A packet came: where it was filed, and under which number. Refused by 1, 2, 3, 4, 5.
+    /// A packet came: where it was filed, and under which number. Refused by 1, 2, 3, 20, 4,
+    /// 5. At 20 that number is above the last written: the server answered what was not asked.
     #[inline]
     pub fn enqueue_packet(&mut self, packet: &[u8]) -> Result<(Place, SequenceNumber), Refusal> {
         let (place, number) = ffi::enqueue_packet(&mut self.state, &mut self.rooms, packet)?;
@@ -244,7 +245,7 @@ impl Engine {
         debug_assert!(self.rests_fit());
     }
 
-    /// The same for a packet of any length; a refusal, by 1, 3, 4, 5, hands it back.
+    /// The same for a packet of any length; a refusal, by 1, 3, 20, 4, 5, hands it back.
     ///
     /// Of one over 65,536 bytes the engine takes the first 32, by which it is numbered and filed. It is
     /// kept whole beside the engine until these are handed out, discarded or dropped. So it takes 48 bytes
@@ -297,7 +298,7 @@ impl Engine {
     }
 
     /// Bytes came from the server: each whole packet that they begin with is taken in, up to the first
-    /// that is refused by 2, 3, 4, 5. Far quicker than as many calls of `enqueue_packet`.
+    /// that is refused by 2, 3, 20, 4, 5. Far quicker than as many calls of `enqueue_packet`.
     pub fn enqueue_packets(&mut self, bytes: &[u8]) -> Result<Fed, Refusal> {
         let (bytes, packets, stop) = ffi::enqueue_packets(&mut self.state, &mut self.rooms, bytes)?;
         if !self.rests.is_empty() {

@@ -68,6 +68,7 @@ refusals! {
     LongAuth = 16, "An authorization name or data over 65,535 bytes";
     HasDescriptors = 18, "A descriptor is inside, and descriptors can't be saved";
     BadSavepoint = 19, "Bytes that are no savepoint";
+    Ahead = 20, "A packet whose number is above the last written";
 }
 
 impl Refusal {
@@ -260,7 +261,7 @@ mod test {
     #[test]
     fn numbers_and_refusals_are_one_to_one() {
         let all: Vec<_> = (0..100).filter_map(Refusal::from_number).collect();
-        assert_eq!(all.len(), 18);
+        assert_eq!(all.len(), 19);
         assert!(all
             .iter()
             .all(|r| Refusal::from_number(r.number()) == Some(*r)));

@@ -11,6 +11,8 @@
 //!   `try_` call beside it answers the refusal instead.
 //! - A KeymapNotify that SendEvent made (code 139) carries no number, as one of the server's; the original
 //!   takes its key bits for one.
+//! - A packet whose number is above that of the last request sent is refused ([`Refusal::Ahead`]); the original
+//!   takes it in.
 //!
 //! [`engine::Engine`] is the connection without those habits: every call answers its refusal,
 //! descriptors are opaque numbers, and everything that is held can be looked at.

@@ -61,6 +61,7 @@ fn the_least_long_packet() {
     for size in [65_535, 65_536, 65_537] {
         let packet = packet(2, 1, 7, size);
         let mut engine = Engine::new(ByteOrder::NATIVE, 1, 65_552).unwrap();
+        engine.send_request(ReplyFdKind::NoReply).unwrap();
         let refused = engine.enqueue_packet(&packet) == Err(Refusal::LongPacket);
         assert_eq!(refused, size > 65_536);
         if refused {
@@ -189,12 +190,28 @@ fn dropped_at_intake() {
 #[test]
 fn without_room_it_comes_back() {
     let mut engine = Engine::new(ByteOrder::NATIVE, 1, 48).unwrap();
+    engine.send_request(ReplyFdKind::NoReply).unwrap();
     engine.enqueue_packet(&short(2, 1, 1)).unwrap();
     let (refusal, packet) = engine.enqueue_long_packet(long(2, 1, 2)).unwrap_err();
     assert!((refusal, &packet) == (Refusal::NoRoom, &long(2, 1, 2)));
     assert_eq!(event(&mut engine), Some(short(2, 1, 1)));
     engine.enqueue_long_packet(packet).unwrap();
     assert!(event(&mut engine) == Some(long(2, 1, 2)));
+}
+
+/// Also where others are kept: nothing is changed until one more request was sent.
+#[test]
+fn an_answer_to_nothing_comes_back() {
+    let mut engine = engine(1, &[long(2, 1, 1)]);
+    let before = format!("{engine:?}");
+    let (refusal, packet) = engine.enqueue_long_packet(long(1, 2, 2)).unwrap_err();
+    assert!((refusal, &packet) == (Refusal::Ahead, &long(1, 2, 2)));
+    assert!(format!("{engine:?}") == before);
+    let keymap = engine.enqueue_long_packet(long(11, 2, 3));
+    assert_eq!(keymap.unwrap(), (Place::Events, 1));
+    engine.send_request(ReplyFdKind::ReplyWithoutFDs).unwrap();
+    engine.enqueue_long_packet(packet).unwrap();
+    assert!(engine.poll_for_reply(2) == Ok(PollReply::Reply(long(1, 2, 2))));
 }
 
 #[test]

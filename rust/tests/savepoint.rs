@@ -35,7 +35,7 @@ fn used(requests: usize, store: usize, buffer: usize) -> Player {
     for number in 1..=requests.min(1000) as u64 {
         client.engine.discard_reply(number, BOTH).unwrap();
     }
-    let event = [0xee; 32];
+    let event = packet(0xee, 0xee, 1, 0xee, 32);
     let count = store / 48;
     let fed = client.engine.enqueue_packets(&event.repeat(count)).unwrap();
     assert_eq!(fed.packets, count);
@@ -431,6 +431,24 @@ fn any_byte_changed() {
     assert!(kept > 10_000);
 }
 
+/// A client that has read more than was written, which no run leads to: it refuses every packet that has a number.
+#[test]
+fn read_above_written() {
+    let mut bytes = block();
+    bytes[20..28].copy_from_slice(&70_001u64.to_le_bytes());
+    let (mut engine, reader, ids) = Engine::restore(&bytes).unwrap();
+    for number in 0..1 << 16 {
+        let refused = engine.enqueue_packet(&packet(2, 0, number, 0, 32));
+        assert_eq!(refused, Err(Refusal::Ahead), "{number}");
+    }
+    assert_eq!(engine.save(&reader, &ids), Ok(bytes));
+    let keymap = engine.enqueue_packet(&packet(139, 0, 0, 0, 32));
+    assert_eq!(keymap.unwrap().1, 70_001);
+    engine.send_request(ReplyFdKind::ReplyWithoutFDs).unwrap();
+    let reply = engine.enqueue_packet(&packet(1, 0, 70_001, 0, 32));
+    assert_eq!(reply.unwrap().1, 70_001);
+}
+
 /// The same state by three ways: records at other places, replies among the events otherwise.
 #[test]
 fn equal_states_have_equal_bytes() {
@@ -556,9 +574,10 @@ fn long_packets() {
         PacketReader::with_buffer(ByteOrder::Little, 64).unwrap(),
     );
     let ids = IdAllocator::new(0, 0xff).unwrap();
+    engine.send_request(ReplyFdKind::NoReply).unwrap();
     let empty = engine.save(&reader, &ids).unwrap();
     let (long, mut out) = (Err(SaveError::LongPacket), [0; 200]);
-    let (event, mut reply) = (vec![2; 70_000], vec![1; 100]);
+    let (event, mut reply) = (packet(2, 0, 1, 0, 70_000), vec![1; 100]);
     reply[4..8].copy_from_slice(&17u32.to_le_bytes());
 
     engine.enqueue_long_packet(event.clone()).unwrap();
@@ -594,6 +613,7 @@ fn long_packets() {
 fn a_connection_with_a_long_packet() {
     let (mut connection, reader) = (Connection::new(), PacketReader::new());
     let ids = IdAllocator::new(0, 0xff).unwrap();
+    connection.send_requests(&[ReplyFdKind::NoReply; 0x202]);
     connection.enqueue_packet(vec![2; 65_536]);
     assert!(savepoint::save(&connection, &reader, &ids).is_ok());
     connection.enqueue_packet(vec![2; 65_537]);

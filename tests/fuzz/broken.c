@@ -86,3 +86,24 @@ uint32_t __wrap_xm_restore(const uint8_t *bytes, size_t bytes_len, STATE, REQUES
     if (broken() == 26 && answer == XM_BAD_ROOM) ids[0] = 7;                           /* a change by a refusal */
     return answer;
 }
+
+uint32_t __real_xm_enqueue_packet(STATE, REQUESTS, STORE, SLOTS, const uint8_t *packet, size_t packet_len,
+                                  uint8_t *place, uint64_t *number);
+uint32_t __wrap_xm_enqueue_packet(STATE, REQUESTS, STORE, SLOTS, const uint8_t *packet, size_t packet_len,
+                                  uint8_t *place, uint64_t *number) {
+    uint32_t answer = __real_xm_enqueue_packet(LENT, packet, packet_len, place, number);
+    if (broken() == 27 && answer == XM_AHEAD && store_len == 48) return XM_NO_ROOM; /* 5 before 20 */
+    if (broken() == 28 && answer == XM_FEW_DESCRIPTORS) return XM_AHEAD;            /* 20 for what was asked */
+    return answer;
+}
+
+uint32_t __real_xm_enqueue_packets(STATE, REQUESTS, STORE, SLOTS, const uint8_t *bytes, size_t bytes_len,
+                                   size_t *size, size_t *count, uint32_t *stop);
+uint32_t __wrap_xm_enqueue_packets(STATE, REQUESTS, STORE, SLOTS, const uint8_t *bytes, size_t bytes_len,
+                                   size_t *size, size_t *count, uint32_t *stop) {
+    uint32_t answer = __real_xm_enqueue_packets(LENT, bytes, bytes_len, size, count, stop);
+    if (answer != 0 || *stop != XM_AHEAD) return answer;
+    if (broken() == 29) *stop = XM_NO_ROOM;                                     /* 5 before 20 */
+    if (broken() == 30) state[XM_STATE_READ] = state[XM_STATE_WRITTEN] + 1;     /* what is ahead, read */
+    return answer;
+}

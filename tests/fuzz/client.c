@@ -112,8 +112,10 @@ void enqueue_packet(void) {
     size_t size = some_packet();
     uint8_t *packet = lend(INPUT, bytes, size, READ), *place = lend_number(1);
     uint64_t *number = lend_number(8);
+    bool ahead = sound && size >= 32 && size <= XM_MOST_PACKET && packet_ahead(lent.state, packet);
     uint32_t answer = xm_enqueue_packet(LENT, packet, size, place, number);
     settle(answer, sound);
+    if ((answer == XM_AHEAD) != ahead) report_fault("refused by 20 elsewhere than ahead");
     report_outcome(answer, *place);
 }
 

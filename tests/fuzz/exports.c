@@ -39,7 +39,7 @@ const struct export exports[] = {
     {"xm_send_request", send_request, 40, TESTED, R(9) | R(3) | R(6) | R(5), 0},
     {"xm_discard_reply", discard_reply, 14, TESTED, R(9), 0},
     {"xm_enqueue_fds", enqueue_fds, 14, TESTED, R(9) | R(5), 0},
-    {"xm_enqueue_packet", enqueue_packet, 60, TESTED, R(9) | R(1) | R(2) | R(3) | R(4) | R(5), 3},
+    {"xm_enqueue_packet", enqueue_packet, 60, TESTED, R(9) | R(1) | R(2) | R(3) | R(20) | R(4) | R(5), 3},
     {"xm_poll_for_reply_or_error", poll_for_reply_or_error, 16, TESTED, R(9) | R(8), 2},
     {"xm_prepare_check_for_reply_or_error", prepare_check, 4, TESTED, R(9), 2},
     {"xm_poll_check_for_reply_or_error", poll_check, 10, TESTED, R(9) | R(8), 3},

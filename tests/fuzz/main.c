@@ -1,7 +1,7 @@
 /*
  * fuzz SEED COUNT: so many seeded calls of all exports, with states, rooms and inputs of every kind,
- * sound and spoilt. After each call all lent memory is looked over, and refusal 9 must have come exactly
- * where sound.c says so; at the end every export must have met each refusal that the header lists.
+ * sound and spoilt. After each call all lent memory is looked over, and refusals 9 and 20 must have come
+ * exactly where sound.c says so; at the end every export must have met each refusal that the header lists.
  */
 #include <stdio.h>
 #include <stdlib.h>

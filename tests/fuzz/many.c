@@ -43,8 +43,17 @@ static size_t some_packet(uint8_t *at) {
     return at[0] == 1 || (at[0] & 0x7f) == 35 ? 32 + 4 * units : 32;
 }
 
+/* Behind this last read a run took in nothing that is ahead, and stopped by 20 where the next packet is. */
+static void look_ahead(uint64_t read, const uint8_t *next, uint32_t stop) {
+    const uint64_t *s = lent.state;
+    if (s[XM_STATE_READ] != read && s[XM_STATE_READ] > s[XM_STATE_WRITTEN]) report_fault("what is ahead was taken in");
+    if (stop != XM_AHEAD && stop != XM_FEW_DESCRIPTORS && stop != XM_NO_ROOM) return;
+    if ((stop == XM_AHEAD) != packet_ahead(s, next)) report_fault("stopped by 20 elsewhere than ahead");
+}
+
 void enqueue_packets(void) {
     bool sound = lend_some(W_STATE | W_STORE | W_SLOTS);
+    uint64_t read = sound ? lent.state[XM_STATE_READ] : 0;
     size_t packets = below(8), size = 0, *took = lend_number(sizeof *took), *count = lend_number(sizeof *count);
     for (size_t i = 0; i < packets; i++) size += some_packet(bytes + size);
     if (once(3)) size -= below(size < 40 ? size + 1 : 40);
@@ -53,6 +62,7 @@ void enqueue_packets(void) {
     settle(answer, sound);
     report_outcome(answer, outcome(*stop, XM_STOP_PART));
     if (answer == 0 && (*took > size || *took < 32 * *count)) report_fault("other bytes were taken than packets");
+    if (answer == 0) look_ahead(read, run + *took, *stop);
 }
 
 void poll_for_events(void) {

@@ -6,7 +6,7 @@
 
 #include "lent.h"
 
-enum { EXPORTS = 45, ANSWERS = 20, OUTCOMES = 4, BAD_ROOM = 9 };
+enum { EXPORTS = 45, ANSWERS = 21, OUTCOMES = 4, BAD_ROOM = 9 };
 
 static struct met {
     uint64_t answers[ANSWERS], outcomes[OUTCOMES], sound, unsound;

@@ -126,14 +126,15 @@ static void spoil_partial(size_t filled) {
     if (filled > 0) file[at + below(filled < 8 ? filled : 8)] ^= (uint8_t)(1u << below(8));
 }
 
-/* A whole file with a fault of its own. */
-static void spoil_whole(size_t filled) {
+/* A whole file with a fault of its own, or a buffer that the partial packet just fits, or just not. */
+static void spoil_whole(const uint64_t *partial) {
     uint64_t outstanding = number_at(file + 72, 4, true);
-    switch (below(5)) {
+    switch (below(6)) {
     case 0: stretch(); break;
-    case 1: spoil_partial(filled); break;
+    case 1: spoil_partial(partial[XM_READER_FILLED]); break;
     case 3: if (outstanding > 0) file[76 + below(outstanding)] = (uint8_t)below(8); break;
     case 2: put(file_size - 8, 1ull << below(34), 8); break;
+    case 4: put(64, partial[XM_READER_TARGET] - below(2), 8); break;
     default: put(once(2) ? 32 : 56, below(256), 8);
     }
 }
@@ -186,7 +187,7 @@ static void some_file(void) {
     } else if (due == XM_DONE && saved_size(&s) <= MOST_SAVED) {
         saved_write(&s, file);
         file_size = saved_size(&s);
-        if (once(4)) spoil_whole(s.reader[XM_READER_FILLED]);
+        if (once(4)) spoil_whole(s.reader);
     } else {
         idle();
     }

@@ -93,6 +93,14 @@ bool client_sound(const struct client *c) {
            outstanding(c) && records(c) && descriptors(c->state);
 }
 
+/* "A numbered packet whose full number is above the last written": that number is the least at or above
+ * the last read that has the packet's 16 bits, unless it would pass the last one of all, which is 3. */
+bool packet_ahead(const uint64_t *s, const uint8_t *packet) {
+    uint64_t wire = number_at(packet + 2, 2, s[ORDER] == 'l');
+    uint64_t number = s[LAST_READ] + (uint16_t)(wire - s[LAST_READ]);
+    return (packet[0] & 0x7f) != 11 && number > s[WRITTEN] && number <= most_number;
+}
+
 /* How long a packet is that begins so, all of its first 32 bytes being there. */
 static uint64_t packet_target(const uint8_t *buf, bool little) {
     if (buf[0] != 1 && (buf[0] & 0x7f) != 35) return 32;

@@ -153,12 +153,12 @@ row13 = record { start = numbersAt 9223372036854775807 0 0; calls = send NoReply
 abbrev row14 : Row
 row14 = record { start = fullAt 65534 0 0; calls = send NoReply ∷ send ReplyWithoutFds ∷ []; said = refused 6 ∷ refused 5 ∷ [] }
 
--- on intake 1 (31 bytes are too few) before 3, and 3 before 20; where the last read is above the last written, 20 for every numbered packet,
+-- on intake 1 (31 bytes are too few) before 3, and 3 before 20; where the last read is above the last written, 20 for every numbered packet and for none else,
 abbrev row15 : Row
 row15 = record {
   start = numbersAt 0 0 9223372036854775807;
-  calls = enqueue (2 ∷ replicate 30 0) ∷ enqueue (pk 2 0 0) ∷ enqueue (pk 2 0 65535) ∷ enqueue (pk 11 0 0) ∷ [];
-  said = refused 1 ∷ refused 3 ∷ refused 20 ∷ filed Events 9223372036854775807 ∷ [];
+  calls = enqueue (2 ∷ replicate 30 0) ∷ enqueue (pk 2 0 0) ∷ enqueue (pk 2 0 65535) ∷ enqueue (pk 11 0 0) ∷ enqueue (pk 139 0 0) ∷ [];
+  said = refused 1 ∷ refused 3 ∷ refused 20 ∷ filed Events 9223372036854775807 ∷ filed Events 9223372036854775807 ∷ [];
 }
 
 -- and 4 before 5.

@@ -483,17 +483,19 @@ mod test {
     }
 
     /// An engine that is led astray, by a packet that is not the server's or by a request that is not the
-    /// client's, is found out.
+    /// client's, refuses what comes or is found out.
     #[test]
     fn a_wrong_number_is_a_difference() {
         let order = ByteOrder::Little;
         let mut check = open(order);
-        check.client(&requests(order, 9, NOTHING)).unwrap();
-        let stray = packet(order, EVENT, 5, 0);
+        check.client(&requests(order, 9, FOCUS)).unwrap();
+        let (stray, event) = (packet(order, EVENT, 5, 0), packet(order, EVENT, 1, 0));
         let server = check.server.as_mut().unwrap();
         server.file(&stray, None, 0).unwrap();
-        check.server(&packet(order, EVENT, 4, 0)).unwrap();
-        assert_eq!((check.counts.last, check.counts.differences), (65_540, 1));
+        assert_eq!(check.server(&event), Err(Refusal::Ahead));
+        check.client(&requests(order, 65_528, NOTHING)).unwrap();
+        check.server(&event).unwrap();
+        assert_eq!((check.counts.last, check.counts.differences), (65_537, 1));
         let mut check = open(order);
         let server = check.server.as_mut().unwrap();
         server.engine.send_request(ReplyFdKind::NoReply).unwrap();
