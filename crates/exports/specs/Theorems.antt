@@ -14,7 +14,7 @@ use Rattle.model.specs.Feed.{ShownFed}
 use Rattle.model.specs.Reading.{Rooms, rooms}
 use Rattle.model.specs.declared.Connection.{Connection}
 use Rattle.connection.specs.Calls.{Enqueues, EnqueuesMany}
-use Rattle.honest.specs.Run.{Entry, Fair, Honest, Right, Filed}
+use Rattle.honest.specs.Run.{Entry, Fair, Honest, Right, Ordinary, Filed}
 use Rattle.honest.specs.Public.{stateOf}
 use Rattle.honest.specs.Server.{Packet, packetsIn}
 use Rattle.honest.specs.Origins.{Lists, Traced, AllTied}
@@ -90,13 +90,13 @@ module _ {state requests store slots : List ℕ} {l : List Entry} (k : Run state
   exports-filed z = filed (enqueues .exported .answer) (enqueues .exported .promise) (enqueues .exported .number) (enqueues .exported .values) (enqueues .state) z
 
   -- NEVER ENDED, NEVER AHEAD: otherwise it returned 1, 2, 4 or 5.
-  pub exports-never-ended : r ≡ 0 ⊎ r ≡ 1 ⊎ r ≡ 2 ⊎ r ≡ 4 ⊎ r ≡ 5
+  pub exports-never-ended : r ≡ 0 ⊎ Ordinary r
   exports-never-ended = go (enqueues .exported .answer) (enqueues .exported .promise) (enqueues .exported .number)
     where
-      go : (a : Answer (Filing × Connection)) → Enqueues (connectionOf state) (rooms requests store slots) packet a (rooms requests store' slots') → r ≡ returned a → r ≡ 0 ⊎ r ≡ 1 ⊎ r ≡ 2 ⊎ r ≡ 4 ⊎ r ≡ 5
+      go : (a : Answer (Filing × Connection)) → Enqueues (connectionOf state) (rooms requests store slots) packet a (rooms requests store' slots') → r ≡ returned a → r ≡ 0 ⊎ Ordinary r
       go (gives y) p e = inl e
       go (refuses n) p e =
-          inr (subst (λ (z : ℕ). z ≡ 1 ⊎ z ≡ 2 ⊎ z ≡ 4 ⊎ z ≡ 5) (sym e) (session-never-ended (run-session k) h t packet carries fair (refuses n) (rooms requests store' slots') p n refl))
+          inr (subst Ordinary (sym e) (session-never-ended (run-session k) h t packet carries fair (refuses n) (rooms requests store' slots') p n refl))
 
 -- A run, and the `xm_enqueue_packets` that brings bytes that are cut into the packets ps.
 module _ {state requests store slots : List ℕ} {l : List Entry} (k : Run state requests store slots l) (ps : List Packet) (bytes : List ℕ) (are : Bytes bytes) (cuts : bytesIn ps ≡ cutPackets (connectionOf state .order) bytes .packets)

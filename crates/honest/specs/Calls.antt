@@ -2,7 +2,7 @@
 use mathlib.Core.Bool.{Bool, true, false}
 use mathlib.Core.List.{List, [], _∷_, _++_}
 use mathlib.Core.Path.{_≡_, refl, sym, ap, _∙_}
-use mathlib.Core.Logic.{_⊎_, inl, inr}
+use mathlib.Core.Logic.{inl, inr}
 use Prim.Native.Nat.{ℕ, _≤_, max}
 use native.Mathlib.Omega.{arith}
 use lib.ListN.{drop}
@@ -20,7 +20,7 @@ use Rattle.model.specs.declared.DiscardMode.{DiscardMode}
 use Rattle.model.specs.declared.DiscardMode.the-variants as DiscardMode
 use Rattle.model.specs.declared.Place.{Place}
 use Rattle.model.specs.declared.Place.the-variants as Place
-use Rattle.honest.specs.Run.{Entry, took, noteSent, noteTook, noted, Runs, start, call, Lands, heldAs}
+use Rattle.honest.specs.Run.{Entry, took, noteSent, noteTook, noted, Runs, start, call, Ordinary, Lands, heldAs}
 use Rattle.honest.specs.Rules.{Ruled, none, sends-one, takes-one}
 
 -- ---- calls that touch neither byte order nor numbers
@@ -218,7 +218,7 @@ runs-ruled (call {c = c} {log = l} (poll-event bytes) t r) = ruled-kept _ c l (p
 runs-ruled (call {c = c} {log = l} (take-closed places) t r) = ruled-kept _ c l (takeClosed c places) (keeps-closed c places) (runs-ruled r)
 
 -- a refusal that is one of four
-pub one-of : {A : Type 0} (b1 b2 b4 b5 : Bool) (x : A) (n : ℕ) → refuse b1 1 (refuse b2 2 (refuse b4 4 (refuse b5 5 (gives x)))) ≡ refuses n → n ≡ 1 ⊎ n ≡ 2 ⊎ n ≡ 4 ⊎ n ≡ 5
+pub one-of : {A : Type 0} (b1 b2 b4 b5 : Bool) (x : A) (n : ℕ) → refuse b1 1 (refuse b2 2 (refuse b4 4 (refuse b5 5 (gives x)))) ≡ refuses n → Ordinary n
 unfolding refuse
 one-of true b2 b4 b5 x n e = inl (cc)
 one-of false true b4 b5 x n e = inr (inl (cc))

@@ -11,10 +11,10 @@ use Rattle.octets.specs.Put.{cut}
 use Rattle.octets.specs.Field.{field}
 use Rattle.refusal.specs.Answer.{gives, refuses}
 use Rattle.packet.specs.Packet.{unnumbered, wireOf}
-use Rattle.model.specs.Client.{Client, heldPacket, setReplies, setEvents}
+use Rattle.model.specs.Client.{Numbers, Client, heldPacket, setReplies, setEvents}
 use Rattle.model.specs.Model.{fresh, askedOf, claimed}
 use Rattle.model.specs.declared.Place.the-variants as Place
-use Rattle.honest.specs.Run.{Entry, sent, took, noteSent, noteTook, sends, Wire, Right, Lands}
+use Rattle.honest.specs.Run.{Entry, sent, took, noteSent, noteTook, sends, Wire, Right, Ordered, Lands}
 use Rattle.honest.specs.Server.{Packet, carrying, packetsIn}
 use Rattle.honest.specs.Origins.{Followed, Lists, lists, none, stays, moves, goes, Moved, joinedBy, Tied}
 use Rattle.honest.specs.Test.{numbersAsked, numbersHeard, every, among, fairb, honestb}
@@ -65,6 +65,13 @@ honesty = (refl, refl, refl)
 -- the conclusions say no of a wrong number, and of a record in the other list or that is lost
 pub right : Right (came 4 4 ∷ sent true ∷ came 3 3 ∷ []) × (Right (came 4 4 ∷ sent true ∷ came 3 2 ∷ []) → ⊥)
 right = ((refl, (refl, tt)), λ r. let z : _≡_ {A = ℕ} 2 3 = r .1 .0 in omega arith)
+
+-- numbers may be equal, and none may pass the next
+abbrev at : ℕ → ℕ → ℕ → Numbers
+at w e r = record { written = w; expected = e; read = r }
+
+pub ordered : Ordered (at 7 7 7) × (Ordered (at 7 7 8) → ⊥) × (Ordered (at 7 8 7) → ⊥)
+ordered = (record { read-most = omega arith; expected-most = omega arith }, λ w. omega (arith, w .read-most), λ w. omega (arith, w .expected-most))
 
 abbrev empty : Client
 empty = fresh 108 4 500

@@ -116,6 +116,10 @@ pub record Ordered (n : Numbers) : Type 0 where
   pub read-most : n .read ≤ n .expected
   pub expected-most : n .expected ≤ n .written
 
+-- the refusals that an honest packet can meet: for its length, for want of descriptors or of room
+abbrev pub Ordinary : ℕ → Type 0
+Ordinary n = n ≡ 1 ⊎ n ≡ 2 ⊎ n ≡ 4 ⊎ n ≡ 5
+
 -- From c to c' the record h went to the end of its list, or nowhere where it was dropped; nothing else is held or gone.
 abbrev pub Lands : Place → Held → Client → Client → Type 0
 Lands Place.Replies h c c' = (c' .replies ≡ c .replies ++ (h ∷ [])) × (c' .events ≡ c .events)

@@ -1,8 +1,7 @@
 -- DEMAND 3: with an honest server every packet is filed under its true number, however long the run and whatever calls it mixes. Assumes nothing.
-use mathlib.Core.Bool.{true, false}
+use mathlib.Core.Bool.{Bool, true, false, not}
 use mathlib.Core.List.{List}
-use mathlib.Core.Logic.{_⊎_}
-use mathlib.Core.Path.{_≡_, sym, ap, _∙_}
+use mathlib.Core.Path.{_≡_, refl, sym, ap, _∙_}
 use Prim.Native.Nat.{ℕ, _≤_}
 use native.Mathlib.Omega.{arith}
 use lib.Dec.{ltb}
@@ -12,7 +11,7 @@ use Rattle.octets.specs.Logic.{both}
 use Rattle.refusal.specs.Answer.{Answer, gives, refuses, refuse, pass, gives-same}
 use Rattle.packet.specs.Packet.{leastPacket, mostPacket, codeOf, unnumbered}
 use Rattle.model.specs.Client.{Client}
-use Rattle.packet.specs.Laws.{number-full}
+use Rattle.packet.specs.Laws.{number-last, number-full}
 use Rattle.model.specs.Model.{packetNumber, askedOf, Filing, ahead, enqueuePacket}
 use Rattle.model.specs.Deciding.{fittedBy, enqueue-chain}
 use Rattle.model.specs.Calls.{Call, step}
@@ -20,7 +19,7 @@ use Rattle.model.specs.Promise.{Done, Promise}
 use Rattle.model.specs.Reading.{Rooms, reads}
 use Rattle.model.specs.Sound.{soundb}
 use Rattle.model.specs.declared.Connection.{Connection}
-use Rattle.honest.specs.Run.{Entry, Runs, Fair, Honest, Right, Ordered, Filed, Hands}
+use Rattle.honest.specs.Run.{Entry, Runs, Fair, Honest, Right, Ordered, Ordinary, Filed, Hands}
 use Rattle.honest.specs.Rules.{Inv, ruled-inv, ruled-ordered, true-range}
 use Rattle.honest.specs.Calls.{Taking, taking, lands, counted, runs-ruled, one-of}
 use Rattle.honest.specs.Server.{packetsIn}
@@ -30,6 +29,24 @@ use Rattle.honest.specs.Public.{Public, public-runs, came, given-so, ref
 use Rattle.honest.specs.Handing.{hands}
 
 -- ---- Over the model
+
+-- With any server a packet that carries no number is taken in under the last read, 1 and 2 apart:
+module _ (c : Client) (p : List ℕ) (h : unnumbered (codeOf p) ≡ true) where
+  last-asked : ahead (codeOf p) (c .numbers .read) (c .numbers .written) ≡ false
+  unfolding ahead both
+  last-asked = go (ltb (c .numbers .written) (c .numbers .read))
+    where
+      go : (b : Bool) → both b (not (unnumbered (codeOf p))) ≡ false
+      go true = simp h
+      go false = refl
+
+  last-packet : enqueuePacket c p ≡ refuse (ltb (length p) leastPacket) 1 (refuse (ltb mostPacket (length p)) 2 (fittedBy c p (c .numbers .read) (askedOf c (c .numbers .read))))
+  unfolding pass refuse
+  last-packet = enqueue-chain c p ∙ rw (number-last (c .order) (c .numbers .read) p h, last-asked)
+
+  -- UNNUMBERED: it is refused by 1, 2, 4 and 5 alone, and never by 3 or 20.
+  pub unnumbered-refused : (n : ℕ) → enqueuePacket c p ≡ refuses n → Ordinary n
+  unnumbered-refused n e = one-of _ _ _ _ _ n (sym last-packet ∙ e)
 
 -- NEVER PAST: whatever the server sends, the last read does not pass next reply expected, nor that the last written.
 pub never-past : {c : Client} {log : List Entry} → Runs c log → Ordered (c .numbers)
@@ -58,7 +75,7 @@ module _ {c : Client} {log : List Entry} (r : Runs c log) (h : Honest (c .order)
   next-packet = enqueue-chain c p ∙ rw (next-number, next-asked)
 
   -- NEVER ENDED, NEVER AHEAD: it is refused by 1, 2, 4 and 5 alone, and never by 3 or 20.
-  pub never-ended : (n : ℕ) → enqueuePacket c p ≡ refuses n → n ≡ 1 ⊎ n ≡ 2 ⊎ n ≡ 4 ⊎ n ≡ 5
+  pub never-ended : (n : ℕ) → enqueuePacket c p ≡ refuses n → Ordinary n
   never-ended n e = one-of _ _ _ _ _ n (sym next-packet ∙ e)
 
   -- FILED: where it is taken in, it is filed under its true number, or if dropped was reckoned by it.
@@ -101,6 +118,6 @@ module _ {c : Connection} {r : Rooms} {log : List Entry} (k : Public c r log) (h
   public-filed f s q = next-filed (public-runs k) h t p carries fair (f, reads s r') (sym (given-so (came _ e (λ m. enqueuePacket m p) c r a r' promise) f s q))
 
   -- a state that is not sound is refused by 9
-  pub public-never-ended : soundb c r ≡ true → (n : ℕ) → a ≡ refuses n → n ≡ 1 ⊎ n ≡ 2 ⊎ n ≡ 4 ⊎ n ≡ 5
+  pub public-never-ended : soundb c r ≡ true → (n : ℕ) → a ≡ refuses n → Ordinary n
   unfolding reads
   public-never-ended s n q = never-ended (public-runs k) h t p carries fair n (refused-so _ e (λ m. enqueuePacket m p) c r a r' s promise n q)

@@ -6,7 +6,7 @@ use Prim.Native.Nat.{ℕ}
 use native.Mathlib.Omega.{arith}
 use lib.ListN.{replicate}
 use Rattle.refusal.specs.Answer.{gives, refuses, refuse, pass, gives-same}
-use Rattle.octets.specs.Logic.{choose, both, either}
+use Rattle.octets.specs.Logic.{choose, both, either, apart}
 use Rattle.octets.specs.Bytes.{bytesOf, numberIn, lowBytes, lowNumber, turned}
 use Rattle.octets.specs.Put.{cut}
 use Rattle.octets.specs.Field.{field}
@@ -22,7 +22,7 @@ use Rattle.batch.specs.Feed.{stopAt, enqueuePackets}
 use Rattle.honest.specs.Run.{Entry, sent, took, noteTook}
 use Rattle.honest.specs.Server.{Packet}
 use Rattle.session.specs.Ask.{poll-for-reply-or-error, poll-check-for-reply-or-error, poll-for-reply, poll-for-event-with-sequence, poll-for-events}
-use Rattle.session.specs.Serving.{FiledAll, handedOut}
+use Rattle.session.specs.Serving.{FiledAll, NextFair, handedOut}
 use Rattle.session.specs.Noting.{next, rest, notePacket, tookOf, noteFed}
 use Rattle.session.specs.Session.{sentAll, noteSends}
 
@@ -70,6 +70,11 @@ filings = (
   ((record { place = Events; number = 7 }, afterSeven), refl, λ e. record { number = refl; last-read = refl; record-is = (refl, refl) }, refl),
   λ k. let z : k .0 .0 .number ≡ 7 = ap (λ y. y .0 .number) (gives-same (k .1)) in omega (arith, z, k .2 refl .number),
 )
+
+-- the next packet is asked for a number that was sent, a KeymapNotify for none
+pub next-fair : NextFair 108 [] (record { true-number = 8; bytes = event 11 7 } ∷ []) × (NextFair 108 (sent false ∷ []) (bringing 8 ∷ []) → ⊥)
+unfolding unnumbered either
+next-fair = (λ e. apart refl e, λ f. omega (arith, f refl .known))
 
 -- the records that each call hands out
 pub handings : (h g : Held) → (handedOut (poll-for-reply-or-error 5 [] []) (Model.packet h) ≡ h ∷ []) × (handedOut (poll-check-for-reply-or-error 5 []) (Model.reply h) ≡ h ∷ []) × (handedOut (poll-for-reply 5 []) (Model.reply h) ≡ h ∷ [])

@@ -1,11 +1,11 @@
 -- DEMAND 3, WORD FOR WORD, for the public calls: of the answers and the rooms as they are, with the server's own list of packets. Assumes nothing.
 use mathlib.Core.Bool.{Bool, true, false}
 use mathlib.Core.List.{List, [], _∷_, _++_}
-use mathlib.Core.Path.{_≡_, refl, sym, ap, subst}
+use mathlib.Core.Path.{_≡_, refl, sym, ap, _∙_, subst}
 use Prim.Native.Nat.{ℕ}
 use native.Mathlib.Omega.{arith}
 use lib.Dec.{ltb}
-use lib.ListN.{length, take}
+use lib.ListN.{length, take, drop}
 use Rattle.refusal.specs.Answer.{Answer, gives, refuses, refuse, gives-rest, gives-same}
 use Rattle.packet.specs.Packet.{codeOf, unnumbered}
 use Rattle.packet_reader.specs.Frame.{cutPackets}
@@ -15,6 +15,7 @@ use Rattle.model.specs.Model.{Filing, Taken, PollReply, eventBy, pollForEvent}
 use Rattle.model.specs.Calls as Calls
 use Rattle.model.specs.Calls.{saysTaken, saysPoll, step, outcome}
 use Rattle.model.specs.Batch.{Each, Many, many, onTurn, onward, modelTurn, Stop, ended, refused, meaningless, notes}
+use Rattle.model.specs.Feed as Feed
 use Rattle.model.specs.Feed.{Took, ShownFed, shownFed}
 use Rattle.model.specs.PollForEvents.{turns, Lent, lent, roomFor, handing, eventTurn, orRefused, handed, pollForEvents, Handings}
 use Rattle.model.specs.Promise.{Done, answerOf, modelOf, guarded}
@@ -22,7 +23,7 @@ use Rattle.model.specs.Reading.{Rooms, reads}
 use Rattle.model.specs.declared.Connection.{Connection}
 use Rattle.batch.specs.Feed.{enqueuePackets, feedExact}
 use Rattle.connection.specs.Calls.{Enqueues, EnqueuesMany}
-use Rattle.honest.specs.Run.{Entry, Runs, noteTook, Honest, Right, Filed, Holds, Hands}
+use Rattle.honest.specs.Run.{Entry, Runs, noteTook, Honest, Right, Ordinary, Filed, Holds, Hands}
 use Rattle.honest.specs.Public.{Came, gave, kept, came, public-runs}
 use Rattle.honest.specs.Handing.{hands}
 use Rattle.honest.specs.Server.{Packet, packetsIn, carrying, HonestServer}
@@ -34,8 +35,8 @@ use Rattle.session.specs.AskLaws.{HasForm, outputsOf, has-form}
 use Rattle.session.specs.Noting.{noting, notePacket, noteFed, tookOf}
 use Rattle.session.specs.Session.{Session}
 use Rattle.session.specs.Theorems.{session-public, session-true, session-filed}
-use Rattle.session.specs.FeedFiled.{noted-honest, run-fed}
-use Rattle.session.specs.Serving.{bytesIn, numbersIn, Serves, call, FiledAll, handedOut, HandsTied, ofTaken, ofPoll}
+use Rattle.session.specs.FeedFiled.{noted-honest, run-fed, run-refused}
+use Rattle.session.specs.Serving.{bytesIn, numbersIn, Serves, call, FiledAll, NextFair, handedOut, HandsTied, ofTaken, ofPoll}
 use Rattle.session.specs.ServingLaws.{serves-session, serves-in-order, serves-honest}
 
 -- ---- The records of a session, followed
@@ -142,6 +143,22 @@ pub session-fed : {c : Connection} {r : Rooms} {l : List Entry} (k : Session c r
     → Honest (c .order) (noteFed (numbersIn ps) (reads c r) bytes a l) → (f : ShownFed) (s : Connection) → a ≡ gives (f, s) → FiledAll (reads c r) (take (f .packets) ps) (reads s r')
 unfolding reads
 session-fed {c} {r} {l} k bytes ps cuts a r' p h f s e = fed-came (session-runs k) bytes ps cuts (came shownFed (feedExact c r bytes) (λ m. enqueuePackets m bytes) c r a r' p) h f s e
+
+refused-came : {m : Client} {l : List Entry} (k : Runs m l) (bytes : List ℕ) (ps : List Packet) → bytesIn ps ≡ cutPackets (m .order) bytes .packets → {r : Rooms} {a : Answer (ShownFed × Connection)} {r' : Rooms} → Came shownFed (enqueuePackets m bytes) r a r'
+    → Honest (m .order) (noteFed (numbersIn ps) m bytes a l) → (f : ShownFed) (s : Connection) → a ≡ gives (f, s) → NextFair (m .order) (noteFed (numbersIn ps) m bytes a l) (drop (f .packets) ps) → (n : ℕ) → f .stopped ≡ Feed.refused n → Ordinary n
+unfolding noteFed tookOf
+refused-came {m} {l} k bytes ps cuts (gave v s' r' q) h f s e i n t =
+    let g = ap (λ (y : ShownFed × Connection). y .0) (gives-same e) in
+    let log : List Took → List Entry = λ vs. notes notePacket (cutPackets (m .order) bytes .packets) vs (noting (numbersIn ps) l) .log in
+    run-refused k bytes ps cuts v (reads s' r') q (subst (λ (vs : List Took). Honest (m .order) (log vs)) (ap tookOf q) h)
+    (subst (λ (vs : List Took). NextFair (m .order) (log vs) (drop (length (v .packets)) ps)) (ap tookOf q) (subst (λ (y : ShownFed). NextFair (m .order) (log (tookOf (enqueuePackets m bytes))) (drop (y .packets) ps)) (sym g) i)) n (ap (λ (y : ShownFed). y .stopped) g ∙ t)
+refused-came k bytes ps cuts (kept j) h f s e i n t = absurd (let z : _≡_ {A = ℕ} 0 1 = cc in omega arith)
+
+-- NEVER ENDED, NEVER AHEAD: where the next packet behind those taken is the honest server's too, no refusal stops it but 1, 2, 4 and 5.
+pub session-fed-refused : {c : Connection} {r : Rooms} {l : List Entry} (k : Session c r l) (bytes : List ℕ) (ps : List Packet) → bytesIn ps ≡ cutPackets (c .order) bytes .packets → (a : Answer (ShownFed × Connection)) (r' : Rooms) → EnqueuesMany c r bytes a r'
+    → Honest (c .order) (noteFed (numbersIn ps) (reads c r) bytes a l) → (f : ShownFed) (s : Connection) → a ≡ gives (f, s) → NextFair (c .order) (noteFed (numbersIn ps) (reads c r) bytes a l) (drop (f .packets) ps) → (n : ℕ) → f .stopped ≡ Feed.refused n → Ordinary n
+unfolding reads
+session-fed-refused {c} {r} {l} k bytes ps cuts a r' p h f s e = refused-came (session-runs k) bytes ps cuts (came shownFed (feedExact c r bytes) (λ m. enqueuePackets m bytes) c r a r' p) h f s e
 
 -- ---- Word for word
 

@@ -18,7 +18,7 @@ use Rattle.model.specs.Reading.{Rooms, reads}
 use Rattle.model.specs.declared.Connection.{Connection}
 use Rattle.savepoint.specs.Calls.{laid, Values, Saves, Restores}
 use Rattle.connection.specs.Calls.{Opens}
-use Rattle.honest.specs.Run.{Entry, Filed}
+use Rattle.honest.specs.Run.{Entry, Fair, Filed}
 use Rattle.honest.specs.Public.{stateOf}
 use Rattle.honest.specs.Server.{Packet}
 use Rattle.honest.specs.Origins.{each, Lists, OneOf}
@@ -89,6 +89,11 @@ abbrev pub FiledAll : Client → List Packet → Client → Type 0
 FiledAll m [] m' = m' ≡ m
 FiledAll m (p ∷ ps) m' =
     (x : Filing × Client) × (gives x ≡ enqueuePacket m (p .bytes)) × (unnumbered (codeOf (p .bytes)) ≡ false → Filed m (p .bytes) (p .true-number) x) × FiledAll (x .1) ps m'
+
+-- the next of these packets, if there is one and it carries a number, is as an honest server's after l
+abbrev pub NextFair : ℕ → List Entry → List Packet → Type 0
+NextFair o l [] = Unit {0}
+NextFair o l (q ∷ qs) = unnumbered (codeOf (q .bytes)) ≡ false → Fair o l (q .true-number) (q .bytes)
 
 -- the records that a call hands out, by what the model gives
 abbrev pub ofTaken : Taken → List Held

@@ -1,7 +1,6 @@
 -- DEMAND 3 for the public calls. Assumes nothing.
 use mathlib.Core.Bool.{false}
 use mathlib.Core.List.{List, _∷_}
-use mathlib.Core.Logic.{_⊎_}
 use mathlib.Core.Path.{_≡_, sym}
 use Prim.Native.Nat.{ℕ, _≤_}
 use lib.ListN.{length}
@@ -22,7 +21,7 @@ use Rattle.savepoint.specs.Calls.{laid}
 use Rattle.savepoint.specs.Theorems.{again-sound, again-alike}
 use Rattle.connection.specs.Calls.{Sends, Enqueues}
 use Rattle.connection.specs.Opening.{opens-fresh, opens-sound}
-use Rattle.honest.specs.Run.{Entry, sent, noteSent, noteTook, Fair, Honest, Right, Filed}
+use Rattle.honest.specs.Run.{Entry, sent, noteSent, noteTook, Fair, Honest, Right, Ordinary, Filed}
 use Rattle.honest.specs.Public.{stateOf, Public, opens, sends, takes, others, again}
 use Rattle.honest.specs.Theorems as Any
 use Rattle.session.specs.Ask.{Ask, send-request, enqueue-fds, enqueue-packet, discard-reply, poll-for-reply-or-error, poll-check-for-reply-or-error, poll-for-reply, poll-for-event-with-sequence, take-closed-fds, prepare-check-for-reply-or-error, send-requests, enqueue-packets, poll-for-events, Value, Outputs, Answers, OfBytes}
@@ -95,5 +94,5 @@ module _ {c : Connection} {r : Rooms} {l : List Entry} (k : Session c r l) (h : 
   session-filed = Any.public-filed (session-public k) h t p carries fair (enqueueExact c r p) a r' enqueues
 
   -- NEVER ENDED, NEVER AHEAD: it is refused by 1, 2, 4 and 5 alone.
-  pub session-never-ended : (n : ℕ) → a ≡ refuses n → n ≡ 1 ⊎ n ≡ 2 ⊎ n ≡ 4 ⊎ n ≡ 5
+  pub session-never-ended : (n : ℕ) → a ≡ refuses n → Ordinary n
   session-never-ended = Any.public-never-ended (session-public k) h t p carries fair (enqueueExact c r p) a r' enqueues (is-sound c r (session-sound k))
