@@ -105,8 +105,8 @@ pub fn enqueue_fds(
 }
 
 // A packet came from the server. Answers where it was filed and under which number; refused by 9, 1
-// under 32 bytes, 2 over 65,536, 3 past the last number, 4 where it claims more descriptors than
-// wait, 5 where the store has no room.
+// under 32 bytes, 2 over 65,536, 3 past the last number, 20 where it answers what was not asked, 4
+// where it claims more descriptors than wait, 5 where the store has no room.
 pub fn enqueue_packet(
     c: Connection,
     requests: &[u8],
@@ -125,7 +125,7 @@ pub fn enqueue_packet(
 // Bytes came from the server: each whole packet that they begin with is taken in as
 // `enqueue_packet` does, one after the other, up to the first that is refused, behind one test.
 // Answers how many bytes and packets were taken, and what stopped it: no byte is left, part of a
-// packet is left, or the next packet is refused by 2, 3, 4 or 5. Refused by 9 alone.
+// packet is left, or the next packet is refused by 2, 3, 20, 4 or 5. Refused by 9 alone.
 pub fn enqueue_packets(
     c: Connection,
     requests: &[u8],
