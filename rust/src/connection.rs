@@ -217,7 +217,8 @@ impl Connection {
     /// Bytes were received: each whole packet that they begin with is taken in, up to the first that is
     /// refused by 2, 3, 20, 4, 5. What is left behind the bytes taken is to be offered again, with more behind
     /// it or once there is room; at 2 by [`crate::packet_reader::PacketReader::advance`] and
-    /// [`Connection::enqueue_packet`]; at 20 without its first packet, if at all. The original has no such call; this one looks at the rooms once.
+    /// [`Connection::enqueue_packet`]; at 20 without its first packet, if at all. The original has no such
+    /// call; this one looks at the rooms once.
     pub fn enqueue_packets(&mut self, bytes: &[u8]) -> Fed {
         let fed = whole(self.engine.enqueue_packets(bytes));
         self.close();
