@@ -26,7 +26,7 @@ use Rattle.rows.specs.State.{connectionSlots, connectionOf, connectionRow}
 use Rattle.rows.specs.Theorems.{connection-back}
 use Rattle.answers.specs.Exported.{returned, shownOf, Kept, When, on, off, shown-at}
 use Rattle.answers.specs.Shown.{stateRow, placeNumber, filing, sendings, modeOf, isMode}
-use Rattle.exports.specs.Refusals.{Within, named}
+use Rattle.exports.specs.Refusals.{Within, ofCalls, named}
 use Rattle.exports.specs.Run.{placeAt, Export, xm-send-request, xm-discard-reply, xm-enqueue-fds, xm-enqueue-packet, xm-poll-for-reply-or-error, xm-poll-check-for-reply-or-error, xm-poll-for-reply, xm-poll-for-event-with-sequence, xm-take-closed-fds, xm-prepare-check-for-reply-or-error, xm-send-requests, xm-enqueue-packets, xm-poll-for-events, noted, Meaningless}
 
 -- ---- The row
@@ -82,25 +82,25 @@ place-meant Place.Dropped = refl
 pub filing-meant : (x : Filing × Connection) (place number : ℕ) → (place ∷ number ∷ []) ≡ filing x → record { place = placeAt place; number = number } ≡ x .0
 filing-meant x place number e = λ i. record { place = (ap placeAt (shown-at 0 e) ∙ place-meant (x .0 .place)) i; number = shown-at 1 e i }
 
-sent-noted : {A : Type 0} (b : Bool) (r : ℕ) (a : Answer A) → r ≡ returned a → Within 8 a → (l : List Entry) → noted r (λ k. sent b ∷ k) l ≡ noteSent b a l
+sent-noted : {A : Type 0} (b : Bool) (r : ℕ) (a : Answer A) → r ≡ returned a → Within ofCalls a → (l : List Entry) → noted r (λ k. sent b ∷ k) l ≡ noteSent b a l
 unfolding noteSent
 sent-noted b r (gives x) e w l = noted-given r _ l e
 sent-noted b r (refuses n) e (named p' q') l = noted-refused r n _ l e p'
 
-took-noted : (t : ℕ) (p : List ℕ) (r : ℕ) (a : Answer (Filing × Connection)) (v : List ℕ) (place number : ℕ) → r ≡ returned a → (place ∷ number ∷ []) ≡ shownOf filing a v → Within 8 a → (l : List Entry)
+took-noted : (t : ℕ) (p : List ℕ) (r : ℕ) (a : Answer (Filing × Connection)) (v : List ℕ) (place number : ℕ) → r ≡ returned a → (place ∷ number ∷ []) ≡ shownOf filing a v → Within ofCalls a → (l : List Entry)
     → noted r (λ k. noteTook t p (gives (record { place = placeAt place; number = number }, tt {0})) k) l ≡ noteTook t p a l
 unfolding noteTook
 took-noted t p r (gives x) v place number e s w l =
     noted-given r _ l e ∙ ap (λ (f : Filing). noteTook t p (gives (f, tt {0})) l) (filing-meant x place number s)
 took-noted t p r (refuses n) v place number e s (named p' q') l = noted-refused r n _ l e p'
 
-sends-noted : (kinds : List ℕ) (r : ℕ) (a : Answer (ShownSendings × Connection)) (v : List ℕ) (count number stop : ℕ) → r ≡ returned a → (count ∷ number ∷ stop ∷ []) ≡ shownOf sendings a v → Within 8 a → (l : List Entry)
+sends-noted : (kinds : List ℕ) (r : ℕ) (a : Answer (ShownSendings × Connection)) (v : List ℕ) (count number stop : ℕ) → r ≡ returned a → (count ∷ number ∷ stop ∷ []) ≡ shownOf sendings a v → Within ofCalls a → (l : List Entry)
     → noted r (λ k. sentAll (take count kinds) k) l ≡ noteSends kinds a l
 unfolding noteSends
 sends-noted kinds r (gives x) v count number stop e s w l = noted-given r _ l e ∙ ap (λ (n : ℕ). sentAll (take n kinds) l) (shown-at 0 s)
 sends-noted kinds r (refuses n) v count number stop e s (named p' q') l = noted-refused r n _ l e p'
 
-fed-noted : {A : Type 0} (ts : List ℕ) (m : Client) (bytes : List ℕ) (r : ℕ) (a : Answer A) → r ≡ returned a → Within 8 a → (l : List Entry)
+fed-noted : {A : Type 0} (ts : List ℕ) (m : Client) (bytes : List ℕ) (r : ℕ) (a : Answer A) → r ≡ returned a → Within ofCalls a → (l : List Entry)
     → noted r (λ k. noteFed ts m bytes (gives (tt {0})) k) l ≡ noteFed ts m bytes a l
 unfolding noteFed
 fed-noted ts m bytes r (gives x) e w l = noted-given r _ l e
@@ -119,7 +119,7 @@ pub record Asked (s : List ℕ) (q : Rooms) (s' : List ℕ) (q' : Rooms) (adds :
   pub row : length s ≡ connectionSlots → stateOf answer (connectionOf s) .order < 256 → Row s' (stateOf answer (connectionOf s))
   pub found : (n : ℕ) → answer ≡ refuses n → s' ≡ s
   pub number : r ≡ returned answer
-  pub notes : Within 8 answer → (l : List Entry) → noted r adds l ≡ logged ask numbers (reads (connectionOf s) q) answer l
+  pub notes : Within ofCalls answer → (l : List Entry) → noted r adds l ≡ logged ask numbers (reads (connectionOf s) q) answer l
 
 -- Or none was, and everything is as found.
 pub record Unasked (s : List ℕ) (q : Rooms) (s' : List ℕ) (q' : Rooms) (r : ℕ) (why : Type 0) : Type 0 where
@@ -140,7 +140,7 @@ tested (off h s) f g = g h s refl
 -- an export that keeps the state in its row
 module _ {s s' : List ℕ} {q q' : Rooms} {adds : List Entry → List Entry} {r : ℕ} {why : Type 0} (x : Ask) (b : OfBytes x) (ts : List ℕ) (o : Outputs x) {P : Answer (Value x × Connection) → Type 0} {show : Value x × Connection → List ℕ} {v v' : List ℕ}
     (k : Kept P show (stateRow s) v v' s s' r) where
-  kept-asks : (Within 8 (k .exported .answer) → (l : List Entry) → noted r adds l ≡ logged x ts (reads (connectionOf s) q) (k .exported .answer) l) → Answers x (connectionOf s) q (k .exported .answer) q' o
+  kept-asks : (Within ofCalls (k .exported .answer) → (l : List Entry) → noted r adds l ≡ logged x ts (reads (connectionOf s) q) (k .exported .answer) l) → Answers x (connectionOf s) q (k .exported .answer) q' o
       → Came s q s' q' adds r why
   kept-asks notes h =
       asked

@@ -2,7 +2,6 @@
 use mathlib.Core.Bool.{Bool, true, false, not}
 use mathlib.Core.List.{List, [], _∷_}
 use mathlib.Core.Option.{Option, none, some}
-use mathlib.Core.Logic.{inl}
 use mathlib.Core.Path.{_≡_, refl, sym, ap, _∙_, subst}
 use Prim.Native.Nat.{ℕ}
 use native.Mathlib.Omega.{arith}
@@ -26,31 +25,31 @@ use Rattle.rows.specs.Theorems.{connection-back}
 use Rattle.answers.specs.Exported.{returned, shownOf, shown-at}
 use Rattle.answers.specs.Shown.{number}
 use Rattle.xiengmado.specs.ExportsSavepoint.{laidIn, rowsFit, restoredIn, restored-fit, GivesLaid, XmSave, XmRestore}
-use Rattle.exports.specs.Refusals.{Within, given, named, within-refuse, within-pass}
+use Rattle.exports.specs.Refusals.{Within, upTo, given, named, within-refuse, within-pass}
 use Rattle.exports.specs.Asking.{legal-small, row-long}
 
 -- ---- Neither is refused by 0.
 
-within-count : (m : ℕ) (a : Answer (List ℕ)) → Within m a → Within m (countOf a)
+within-count : (these : ℕ → Bool) (a : Answer (List ℕ)) → Within these a → Within these (countOf a)
 unfolding countOf
-within-count m (gives b) w = given
-within-count m (refuses n) (named p q) = named p q
+within-count these (gives b) w = given
+within-count these (refuses n) (named p q) = named p q
 
-saved-within : (x : Laid) (room : ℕ) → Within 19 (countOf (bytesOf x room))
+saved-within : (x : Laid) (room : ℕ) → Within (upTo 19) (countOf (bytesOf x room))
 unfolding bytesOf lengthOf
 saved-within x room =
-    within-count 19 (bytesOf x room) (within-pass (within-refuse _ 9 refl refl (within-refuse _ 18 refl refl given)) (λ n. within-refuse _ 8 refl refl given))
+    within-count (upTo 19) (bytesOf x room) (within-pass (within-refuse _ 9 refl refl (within-refuse _ 18 refl refl given)) (λ n. within-refuse _ 8 refl refl given))
 
-taken-within : (o : Option (Sections × List ℕ)) → Within 19 (taken o)
+taken-within : (o : Option (Sections × List ℕ)) → Within (upTo 19) (taken o)
 unfolding taken
-taken-within none = named {n = 19} (omega arith) (inl (omega arith))
+taken-within none = named {n = 19} (omega arith) refl
 taken-within (some p) = within-refuse _ 19 refl refl given
 
-restored-within : (fit : Bool) (bytes : List ℕ) (r : Rooms) (b : List ℕ) → Within 19 (restoredIn fit bytes r b)
+restored-within : (fit : Bool) (bytes : List ℕ) (r : Rooms) (b : List ℕ) → Within (upTo 19) (restoredIn fit bytes r b)
 unfolding restoredIn decode
 restored-within fit bytes r b = within-pass (taken-within _) (λ s. within-refuse _ 9 refl refl given)
 
-never : {A : Type 0} {n : ℕ} → Within 19 {A = A} (refuses n) → 0 ≡ n → ⊥
+never : {A : Type 0} {n : ℕ} → Within (upTo 19) {A = A} (refuses n) → 0 ≡ n → ⊥
 never (named p q) e = omega arith
 
 -- ---- What is restored
@@ -106,12 +105,12 @@ module _ (state requests store slots reader buf ids out out' : List ℕ) (size s
         (ap length (g .connection) ∙ row-long row (x .connection) long, subst (λ (c : Connection). Session c (rooms requests' store' slots₁) l) (sym b) s)
 
   -- both were given, as 0 was returned
-  read : (a : Answer Laid) → a ≡ answer → Within 19 a → GivesLaid a row requests₁ store₁ reader₁ buf₁ ids₁ row' requests' store' reader' buf' ids' 0 → Saves (laidIn state requests store slots reader buf ids) out (gives size') out'
+  read : (a : Answer Laid) → a ≡ answer → Within (upTo 19) a → GivesLaid a row requests₁ store₁ reader₁ buf₁ ids₁ row' requests' store' reader' buf' ids' 0 → Saves (laidIn state requests store slots reader buf ids) out (gives size') out'
       → (length row' ≡ connectionSlots) × Session (connectionOf row') (rooms requests' store' slots₁) l
   read (gives x) e w g p = on x e g p
   read (refuses m) e w g p = absurd (never w (g .returns))
 
-  wrote : (a : Answer ℕ) → Saves (laidIn state requests store slots reader buf ids) out a out' → Within 19 a → 0 ≡ returned a → (size' ∷ []) ≡ shownOf number a (size ∷ []) → Saves (laidIn state requests store slots reader buf ids) out (gives size') out'
+  wrote : (a : Answer ℕ) → Saves (laidIn state requests store slots reader buf ids) out a out' → Within (upTo 19) a → 0 ≡ returned a → (size' ∷ []) ≡ shownOf number a (size ∷ []) → Saves (laidIn state requests store slots reader buf ids) out (gives size') out'
   wrote (gives n) p w z v = subst (λ (m : ℕ). Saves (laidIn state requests store slots reader buf ids) out (gives m) out') (sym (shown-at 0 v)) p
   wrote (refuses m) p w z v = absurd (never w z)
 
@@ -120,4 +119,4 @@ module _ (state requests store slots reader buf ids out out' : List ℕ) (size s
       → (length row' ≡ connectionSlots) × Session (connectionOf row') (rooms requests' store' slots₁) l
   restored-session y g =
       read answer refl (restored-within (rowsFit row reader₁ ids₁) (take size' out') (rooms requests₁ store₁ slots₁) buf₁) g
-      (wrote (y .answer) (y .promise) (subst (λ (a : Answer ℕ). Within 19 a) (sym (y .promise .answers)) (saved-within (laidIn state requests store slots reader buf ids) (length out))) (y .number) (y .values))
+      (wrote (y .answer) (y .promise) (subst (λ (a : Answer ℕ). Within (upTo 19) a) (sym (y .promise .answers)) (saved-within (laidIn state requests store slots reader buf ids) (length out))) (y .number) (y .values))

@@ -1,12 +1,13 @@
 -- Export by export a run goes on as a session. Assumes nothing.
+use mathlib.Core.Bool.{true}
 use mathlib.Core.List.{List, []}
-use mathlib.Core.Logic.{inl, inr}
 use mathlib.Core.Path.{_≡_, refl, sym, ap, _∙_, subst}
 use Prim.Native.Nat.{ℕ}
 use native.Mathlib.Omega.{arith}
 use lib.Dec.{eqb}
 use lib.ListN.{length}
 use borrow.Author.Tests.{eqb-true}
+use Rattle.octets.specs.Logic.{either, apart}
 use Rattle.refusal.specs.Answer.{Answer, gives, refuses}
 use Rattle.model.specs.Reading.{Rooms, rooms}
 use Rattle.model.specs.declared.Connection.{Connection}
@@ -23,7 +24,7 @@ use Rattle.rows.specs.State.{connectionSlots, connectionOf}
 use Rattle.rows.specs.Theorems.{connection-back}
 use Rattle.answers.specs.Exported.{returned, shownOf, When, on, off}
 use Rattle.answers.specs.Shown.{stateRow}
-use Rattle.exports.specs.Refusals.{Within, given, named, call-within, open-within}
+use Rattle.exports.specs.Refusals.{Within, upTo, ofCalls, given, named, call-within, open-within}
 use Rattle.exports.specs.Run as Exports
 use Rattle.exports.specs.Run.{noted, Run, xm-connection-new}
 use Rattle.exports.specs.Restoring.{restored-session}
@@ -40,7 +41,7 @@ opened s s' o q (gives y) (on h p) z e =
     (ap length e ∙ row-long s (y .1) n, subst (λ (c : Connection). Session c q []) (sym b) (new o q (y .1) p))
 opened s s' o q (refuses n) (on h p) z e = absurd (none (open-within o q (refuses n) p))
   where
-    none : Within 13 {A = Unit × Connection} (refuses n) → ⊥
+    none : Within (upTo 13) {A = Unit × Connection} (refuses n) → ⊥
     none (named i j) = omega arith
 opened s s' o q (refuses n) (off h p) z e = absurd (omega (arith, z))
 
@@ -94,10 +95,10 @@ run-row
 -- ---- What an export of it comes to
 
 -- 9 is for what means nothing
-nine : {A : Type 0} {a : Answer A} → Within 8 a → returned a ≡ 9 → ⊥
+nine : {A : Type 0} {a : Answer A} → Within ofCalls a → returned a ≡ 9 → ⊥
+unfolding either
 nine given e = omega (arith, e)
-nine (named p (inl q)) e = omega arith
-nine (named p (inr q)) e = omega arith
+nine (named p q) e = let z = subst (λ (k : ℕ). ofCalls k ≡ true) e q in apart z refl
 
 pub came-nine : {s s' : List ℕ} {q q' : Rooms} {l : List Entry} {adds : List Entry → List Entry} {r : ℕ} {why : Type 0} → Session (connectionOf s) q l → Came s q s' q' adds r why → r ≡ 9 → why
 came-nine {s} {q = q} {q' = q'} k (asked x) e =

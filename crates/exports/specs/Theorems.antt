@@ -28,7 +28,7 @@ use Rattle.rows.specs.State.{connectionSlots, connectionOf}
 use Rattle.answers.specs.Exported.{returned, shownOf, shown-at}
 use Rattle.answers.specs.Shown.{stateRow, filing, fed}
 use Rattle.xiengmado.specs.Exports.{XmEnqueuePacket, XmEnqueuePackets}
-use Rattle.exports.specs.Refusals.{Within, named, call-within}
+use Rattle.exports.specs.Refusals.{Within, ofCalls, named, call-within}
 use Rattle.exports.specs.Run.{Bytes, clientOf, placeAt, Export, Run, Meaningless}
 use Rattle.exports.specs.Running.{run-row, came-nine, came-found}
 use Rattle.exports.specs.Asking.{legal-small, row-left, filing-meant, export-came}
@@ -82,7 +82,7 @@ module _ {state requests store slots : List ℕ} {l : List Entry} (k : Run state
       rw (filing-meant y place' number' v, w .is) (session-filed (run-session k) h t packet carries fair (gives y) (rooms requests store' slots') p (y .0) (y .1) refl)
   filed (refuses n) p e v s z = absurd (none (call-within (enqueue-packet packet) (connectionOf state) (rooms requests store slots) (session-sound (run-session k)) (refuses n) (rooms requests store' slots') tt p))
     where
-      none : Within 8 {A = Filing × Connection} (refuses n) → ⊥
+      none : Within ofCalls {A = Filing × Connection} (refuses n) → ⊥
       none (named i j) = omega arith
 
   -- FILED: where it returned 0 the packet is the last of the list that `place` says, whole and under its true number, which `number` is; or if dropped was reckoned by it.
@@ -111,7 +111,7 @@ module _ {state requests store slots : List ℕ} {l : List Entry} (k : Run state
       rw (shown-at 1 v, w .is) (session-fed (run-session k) bytes ps cuts (gives y) (rooms requests store' slots') p h (y .0) (y .1) refl)
   fed-all (refuses n) p e v s z h = absurd (none (call-within (enqueue-packets bytes) (connectionOf state) (rooms requests store slots) (session-sound (run-session k)) (refuses n) (rooms requests store' slots') tt p))
     where
-      none : Within 8 {A = ShownFed × Connection} (refuses n) → ⊥
+      none : Within ofCalls {A = ShownFed × Connection} (refuses n) → ⊥
       none (named i j) = omega arith
 
   -- FED: where it returned 0, the first `count` of them were taken: with an honest server each stands in the rooms as they are now, or was dropped, under its true number.
