@@ -9,6 +9,7 @@ use lib.ListN.{drop}
 use Rattle.octets.specs.Logic.{choose}
 use Rattle.refusal.specs.Answer.{Answer, gives, refuses, refuse, gives-past, gives-rest, gives-same, pass-given}
 use Rattle.sequence.specs.Numbering.{full, inRange}
+use Rattle.sequence.specs.Sending.{sending-by}
 use Rattle.model.specs.Client.{Held, Client, setWaiting}
 use Rattle.packet.specs.Packet.{codeOf, unnumbered, wireOf}
 use Rattle.packet.specs.Laws.{number-last, number-full}
@@ -120,7 +121,7 @@ ruled-send : (f : ℕ → Said) (c : Client) (l : List Entry) (kind : ReplyFdKin
 unfolding sendRequest noteSent
 ruled-send f c l kind (gives x) e r =
     let g = pass-given _ _ e in
-    rw (gives-same (gives-rest _ 5 _ (g .2))) (sends-one (hasReply kind) (g .0) (g .1) r)
+    rw (gives-same (gives-rest _ 5 _ (g .2))) (sends-one (hasReply kind) (g .0) (g .1 ∙ sending-by _ _ _) r)
 ruled-send f c l kind (refuses n) e r = r
 
 -- the state once a packet has its number and its descriptors

@@ -7,8 +7,10 @@ pub mod Origins
 pub mod OriginsLaws
 pub mod Public
 pub mod Theorems
+pub mod Span
 pub mod Computing
 pub mod Needed
 pub mod Test
 pub mod Witness
+pub mod SpanWitness
 pub mod Examples

@@ -11,19 +11,23 @@ use Rattle.octets.specs.Logic.{choose, both}
 use Rattle.refusal.specs.Answer.{gives, refuse, gives-past, gives-rest, gives-same}
 use Rattle.sequence.specs.Numbering.{lastNumber, wireValues, full, inRange, full-near}
 use Rattle.sequence.specs.Sending as Sending
-use Rattle.sequence.specs.Sending.{sending, mustSync, syncSpan}
+use Rattle.sequence.specs.Sending.{sending, sendingBy, mustSync, syncSpan}
 use Rattle.packet.specs.Packet.{wireOf}
 use Rattle.model.specs.Client.{Numbers}
 use Rattle.model.specs.Model.{Filing}
 use Rattle.honest.specs.Run.{Entry, sent, took, sends, WithReply, Heard, Fair, Honest, Right, Ordered}
 
--- What accepted sends and accepted packets make of the three numbers, on a connection of byte order o.
-pub data Ruled (o : ℕ) : Numbers → List Entry → Type 0 where
-  none : Ruled o (record { written = 0; expected = 0; read = 0 }) []
-  sends-one : {n : Numbers} {l : List Entry} (has-reply : Bool) (x : Sending.Numbers) → gives x ≡ sending (n .written) (n .expected) has-reply → Ruled o n l
-      → Ruled o (record { written = x .number; expected = x .expected; read = n .read }) (sent has-reply ∷ l)
-  takes-one : {n : Numbers} {l : List Entry} (t : ℕ) (p : List ℕ) (f : Filing) → gives (f .number) ≡ inRange (full (n .read) (wireOf o p)) → f .number ≤ n .written → Ruled o n l
-      → Ruled o (record { written = n .written; expected = max (n .expected) (f .number); read = f .number }) (took t p f ∷ l)
+-- What accepted sends and accepted packets make of the three numbers, on a connection of byte order o, where 6 is given from a span on.
+pub data RuledBy (span o : ℕ) : Numbers → List Entry → Type 0 where
+  none : RuledBy span o (record { written = 0; expected = 0; read = 0 }) []
+  sends-one : {n : Numbers} {l : List Entry} (has-reply : Bool) (x : Sending.Numbers) → gives x ≡ sendingBy span (n .written) (n .expected) has-reply → RuledBy span o n l
+      → RuledBy span o (record { written = x .number; expected = x .expected; read = n .read }) (sent has-reply ∷ l)
+  takes-one : {n : Numbers} {l : List Entry} (t : ℕ) (p : List ℕ) (f : Filing) → gives (f .number) ≡ inRange (full (n .read) (wireOf o p)) → f .number ≤ n .written → RuledBy span o n l
+      → RuledBy span o (record { written = n .written; expected = max (n .expected) (f .number); read = f .number }) (took t p f ∷ l)
+
+-- the rule of sending as it is: from 65,534 on
+abbrev pub Ruled : ℕ → Numbers → List Entry → Type 0
+Ruled o n l = RuledBy syncSpan o n l
 
 -- FREED: once a request with a reply was sent, no sync is asked for.
 pub sync-frees : (w e : ℕ) (x : Sending.Numbers) → gives x ≡ sending w e true → mustSync (x .number) (x .expected) ≡ false
@@ -37,15 +41,29 @@ sync-frees w e x q =
 -- ---- with any server
 
 -- ORDERED, whatever packets come: one that is ahead is not taken in.
-pub ruled-ordered : {o : ℕ} {n : Numbers} {l : List Entry} → Ruled o n l → Ordered n
-unfolding sending choose
+pub ruled-ordered : {span o : ℕ} {n : Numbers} {l : List Entry} → RuledBy span o n l → Ordered n
+unfolding sendingBy choose
 ruled-ordered none = record { read-most = omega arith; expected-most = omega arith }
-ruled-ordered (sends-one {n = n} has-reply x e r) = go has-reply x e (ruled-ordered r)
+ruled-ordered {span} (sends-one {n = n} has-reply x e r) = go has-reply x e (ruled-ordered r)
   where
-    go : (b : Bool) (y : Sending.Numbers) → gives y ≡ sending (n .written) (n .expected) b → Ordered n → Ordered (record { written = y .number; expected = y .expected; read = n .read })
+    go : (b : Bool) (y : Sending.Numbers) → gives y ≡ sendingBy span (n .written) (n .expected) b → Ordered n → Ordered (record { written = y .number; expected = y .expected; read = n .read })
     go true y q w = let g = gives-same (gives-rest _ 6 _ (gives-rest _ 3 _ q)) in rw g (record { read-most = omega (arith, w .read-most, w .expected-most); expected-most = omega (arith, w .expected-most) })
     go false y q w = let g = gives-same (gives-rest _ 6 _ (gives-rest _ 3 _ q)) in rw g (record { read-most = omega (arith, w .read-most, w .expected-most); expected-most = omega (arith, w .expected-most) })
 ruled-ordered (takes-one t p f e h r) = let w = ruled-ordered r in record { read-most = omega arith; expected-most = omega (arith, h, w .expected-most) }
+
+-- NEAR: the last written is at most a span past next reply expected.
+pub ruled-near : {span o : ℕ} {n : Numbers} {l : List Entry} → RuledBy span o n l → n .written ≤ n .expected + span
+unfolding sendingBy choose both
+ruled-near none = omega arith
+ruled-near {span} (sends-one {n = n} has-reply x e r) = go has-reply x e
+  where
+    go : (b : Bool) (y : Sending.Numbers) → gives y ≡ sendingBy span (n .written) (n .expected) b → y .number ≤ y .expected + span
+    go true y q = let g = gives-same (gives-rest _ 6 _ (gives-rest _ 3 _ q)) in rw g (omega arith)
+    go false y q =
+        let s = gives-rest _ 3 _ q in
+        let free : n .written < n .expected + span = leb-false _ _ (gives-past _ 6 _ s) in
+        rw (gives-same (gives-rest _ 6 _ s)) (omega (arith, free))
+ruled-near (takes-one t p f e h r) = omega (arith, ruled-near r)
 
 -- ---- the invariant
 
@@ -60,7 +78,6 @@ pub record Before (l : List Entry) (t : ℕ) : Type 0 where
 pub record Inv (n : Numbers) (l : List Entry) : Type 0 where
   pub counted : n .written ≡ sends l
   pub fits : n .written ≤ lastNumber
-  pub near : n .written ≤ n .expected + syncSpan
   pub anchor : (n .expected ≤ n .read) ⊎ WithReply l (n .expected)
   pub last : (n .read ≡ 0) ⊎ Heard l (n .read)
   pub heard : (u : ℕ) → Heard l u → u ≤ n .read
@@ -73,7 +90,6 @@ inv-start =
     record {
       counted = refl;
       fits = omega arith;
-      near = omega arith;
       anchor = inl (omega arith);
       last = inl refl;
       heard = λ u h. absurd h;
@@ -122,7 +138,6 @@ module _ (o : ℕ) (n : Numbers) (l : List Entry) (i : Inv n l) where
       record {
         counted = i .counted;
         fits = i .fits;
-        near = omega (arith, i .near);
         anchor = elim (decLe (n .expected) (f .number)) [ yes h ↦ inl (omega arith) | no h ↦ inr (still up h) ];
         last = inr (inl e);
         heard = λ u h. ⊎-elim (λ (z : u ≡ t). omega arith) (λ h′. omega (arith, i .heard u h′)) h;
@@ -137,7 +152,7 @@ module _ (o : ℕ) (n : Numbers) (l : List Entry) (i : Inv n l) where
 
 -- ---- a send
 
-module _ (n : Numbers) (l : List Entry) (i : Inv n l) (w : Ordered n) where
+module _ (n : Numbers) (l : List Entry) (i : Inv n l) (w : Ordered n) (near : n .written ≤ n .expected + syncSpan) where
   -- The request that is sent next is at most 65,535 past a request with a reply, or past the last read.
   covered-next : (t : ℕ) → n .read + wireValues ≤ t → t ≤ n .written + 1 → Before l t
   covered-next t far p = elim (decLe t (n .written)) [ yes q ↦ i .covered t far q | no new ↦ here new ]
@@ -145,8 +160,8 @@ module _ (n : Numbers) (l : List Entry) (i : Inv n l) (w : Ordered n) where
       here : ¬ (t ≤ n .written) → Before l t
       here new =
           ⊎-elim
-          (λ (le : n .expected ≤ n .read). absurd (omega (arith, i .near)))
-          (λ a. record { q = n .expected; asked = a; less = omega (arith, w .expected-most); near = omega (arith, i .near) })
+          (λ (le : n .expected ≤ n .read). absurd (omega (arith, near)))
+          (λ a. record { q = n .expected; asked = a; less = omega (arith, w .expected-most); near = omega (arith, near) })
           (i .anchor)
 
   asks : n .written < lastNumber → Inv (record { written = n .written + 1; expected = n .written + 1; read = n .read }) (sent true ∷ l)
@@ -154,7 +169,6 @@ module _ (n : Numbers) (l : List Entry) (i : Inv n l) (w : Ordered n) where
       record {
         counted = omega (arith, i .counted);
         fits = omega arith;
-        near = omega arith;
         anchor = inr (inl (omega (arith, i .counted)));
         last = i .last;
         heard = i .heard;
@@ -162,12 +176,11 @@ module _ (n : Numbers) (l : List Entry) (i : Inv n l) (w : Ordered n) where
         right = i .right;
       }
 
-  tells : n .written < lastNumber → n .written < n .expected + syncSpan → Inv (record { written = n .written + 1; expected = n .expected; read = n .read }) (sent false ∷ l)
-  tells fits free =
+  tells : n .written < lastNumber → Inv (record { written = n .written + 1; expected = n .expected; read = n .read }) (sent false ∷ l)
+  tells fits =
       record {
         counted = omega (arith, i .counted);
         fits = omega arith;
-        near = omega arith;
         anchor = i .anchor;
         last = i .last;
         heard = i .heard;
@@ -176,24 +189,22 @@ module _ (n : Numbers) (l : List Entry) (i : Inv n l) (w : Ordered n) where
       }
 
   -- what an accepted send comes to
-  inv-sent : (has-reply : Bool) (x : Sending.Numbers) → gives x ≡ sending (n .written) (n .expected) has-reply
+  inv-sent : (has-reply : Bool) (x : Sending.Numbers) → gives x ≡ sendingBy syncSpan (n .written) (n .expected) has-reply
       → Inv (record { written = x .number; expected = x .expected; read = n .read }) (sent has-reply ∷ l)
-  unfolding sending mustSync choose both
+  unfolding sendingBy choose both
   inv-sent true x e =
       let h : n .written < lastNumber = leb-false _ _ (gives-past _ 3 _ e) in
       let g = gives-same (gives-rest _ 6 _ (gives-rest _ 3 _ e)) in
       rw g (asks h)
   inv-sent false x e =
       let h : n .written < lastNumber = leb-false _ _ (gives-past _ 3 _ e) in
-      let r = gives-rest _ 3 _ e in
-      let free : n .written < n .expected + syncSpan = leb-false _ _ (gives-past _ 6 _ r) in
-      let g = gives-same (gives-rest _ 6 _ r) in
-      rw g (tells h free)
+      let g = gives-same (gives-rest _ 6 _ (gives-rest _ 3 _ e)) in
+      rw g (tells h)
 
 -- THE INVARIANT holds with an honest server, however long the run.
 pub ruled-inv : {o : ℕ} {n : Numbers} {l : List Entry} → Ruled o n l → Honest o l → Inv n l
 ruled-inv none h = inv-start
-ruled-inv (sends-one {n = n} {l = l} has-reply x e r) h = inv-sent n l (ruled-inv r h) (ruled-ordered r) has-reply x e
+ruled-inv (sends-one {n = n} {l = l} has-reply x e r) h = inv-sent n l (ruled-inv r h) (ruled-ordered r) (ruled-near r) has-reply x e
 ruled-inv {o} (takes-one {n = n} {l = l} t p f e s r) h =
     let i = ruled-inv r (h .1) in
     inv-took o n l i t p f (h .0) (gives-same (e ∙ true-range o n l i t p (h .0)))

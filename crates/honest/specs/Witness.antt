@@ -26,7 +26,7 @@ use Rattle.model.specs.declared.DiscardMode.the-variants.{DiscardReply}
 use Rattle.model.specs.declared.Place.{Place}
 use Rattle.model.specs.declared.Place.the-variants.{Replies, Events, Dropped}
 use Rattle.honest.specs.Run.{Entry, sent, took, noted, Runs, start, call, sends, WithReply, Heard, Wire, Fair, Honest}
-use Rattle.honest.specs.Computing.{computing, packetOf, send-to, packet-to, poll-to}
+use Rattle.honest.specs.Computing.{computing, packetOf, packet-wire, send-to, packet-to, poll-to}
 use Rattle.honest.specs.Server.{Packet, carrying, HonestServer}
 use Rattle.honest.specs.Theorems.{next-number}
 use Rattle.honest.specs.Test.{numbersAsked, numbersHeard, every, among, fairb, honestb, honest-by}
@@ -113,59 +113,58 @@ quiet-honest =
 abbrev last : Request
 last = joining ReplyWithoutFds
 
--- the state between rounds: the request that was answered last is still outstanding
-abbrev between : ℕ → List Request → Client
-between n rest = setOutstanding (setNumbers (fresh 108 5 100) (record { written = n; expected = n; read = n })) rest
+-- the state between rounds, in a request room of k: the request that was answered last is still outstanding
+abbrev pub between : ℕ → ℕ → List Request → Client
+between k n rest = setOutstanding (setNumbers (fresh 108 k 100) (record { written = n; expected = n; read = n })) rest
 
 -- the same once the next request went out, and once its reply came
-abbrev sentOne : ℕ → List Request → Client
-sentOne n rest = setOutstanding (setNumbers (fresh 108 5 100) (record { written = n + 1; expected = n + 1; read = n })) (rest ++ (last ∷ []))
+abbrev sentOne : ℕ → ℕ → List Request → Client
+sentOne k n rest = setOutstanding (setNumbers (fresh 108 k 100) (record { written = n + 1; expected = n + 1; read = n })) (rest ++ (last ∷ []))
 
 -- the reply to request t
 abbrev replyTo : ℕ → List ℕ
 replyTo t = packetOf 1 0 (t % wireValues)
 
-abbrev tookOne : ℕ → Client
-tookOne n = setReplies (between n (last ∷ [])) (heldPacket n (replyTo n) [] ∷ [])
+abbrev tookOne : ℕ → ℕ → Client
+tookOne k n = setReplies (between k n (last ∷ [])) (heldPacket n (replyTo n) [] ∷ [])
 
-abbrev inReplies : ℕ → Filing
+abbrev pub inReplies : ℕ → Filing
 inReplies n = record { place = Replies; number = n }
 
 pub rounds : ℕ → List Entry
 rounds zero = []
 rounds (suc n) = took (suc n) (replyTo (suc n)) (inReplies (suc n)) ∷ sent true ∷ rounds n
 
-module _ (n : ℕ) (rest : List Request) (short : length rest ≤ 1) (fewer : length rest ≤ n) (fits : n < lastNumber) where
-  send-one : sendRequest (between n rest) ReplyWithoutFds ≡ gives (n + 1, sentOne n rest)
+module _ (k n : ℕ) (rest : List Request) (room : 2 ≤ k) (short : length rest ≤ 1) (fewer : length rest ≤ n) (fits : n < lastNumber) where
+  send-one : sendRequest (between k n rest) ReplyWithoutFds ≡ gives (n + 1, sentOne k n rest)
   unfolding computing
-  send-one = rw (lt-leb lastNumber n fits, lt-leb 5 (length rest) (omega arith))
+  send-one = rw (lt-leb lastNumber n fits, lt-leb k (length rest) (omega arith))
 
   -- the request is the one behind the rest
   way : n + 1 - (n + 1 + 1 - length (rest ++ (last ∷ []))) ≡ length rest
   way = simp length-append (omega arith)
 
-  asked-one : Model.askedOf (sentOne n rest) (n + 1) ≡ somebody last
+  asked-one : Model.askedOf (sentOne k n rest) (n + 1) ≡ somebody last
   unfolding Model.askedOf Model.headOf choose
   asked-one =
       let h : n + 1 + 1 - length (rest ++ (last ∷ [])) ≤ n + 1 = simp length-append (omega arith) in
       rw (le-ltb (n + 1) (n + 1 + 1 - length (rest ++ (last ∷ []))) h, way, drop-at rest (last ∷ []) (length rest) refl)
 
-  take-one : packetNumber (sentOne n rest) (replyTo (n + 1)) ≡ gives (n + 1) → enqueuePacket (sentOne n rest) (replyTo (n + 1)) ≡ gives (inReplies (n + 1), tookOne (n + 1))
+  take-one : packetNumber (sentOne k n rest) (replyTo (n + 1)) ≡ gives (n + 1) → enqueuePacket (sentOne k n rest) (replyTo (n + 1)) ≡ gives (inReplies (n + 1), tookOne k (n + 1))
   unfolding enqueuePacket pass refuse bytesOf turned lowBytes choose Model.takeIn Model.decide Model.ahead Model.decideBy Model.placeOf Model.claimed both either costs Model.numbered unnumbered
   take-one e =
       let m : max (n + 1) (n + 1) ≡ n + 1 = omega arith in
       rw (e, le-ltb (n + 1) (n + 1) (omega arith), asked-one, way, drop-at rest (last ∷ []) (length rest) refl, m)
 
-poll-one : (n : ℕ) → pollForReplyOrError (tookOne n) n 32 0 ≡ gives (packet (heldPacket n (replyTo n) []), between n (last ∷ []))
+poll-one : (k n : ℕ) → pollForReplyOrError (tookOne k n) n 32 0 ≡ gives (packet (heldPacket n (replyTo n) []), between k n (last ∷ []))
 unfolding computing
-poll-one n = rw (eq-eqb n n refl)
+poll-one k n = rw (eq-eqb n n refl)
 
 -- the server is honest in it
-reply-wire : (t : ℕ) → wireOf 108 (replyTo t) ≡ t % wireValues
-unfolding computing
-reply-wire t = omega arith
+pub reply-wire : (t : ℕ) → wireOf 108 (replyTo t) ≡ t % wireValues
+reply-wire t = packet-wire 108 1 0 (t % wireValues) (omega arith)
 
-rounds-sends : (n : ℕ) → sends (rounds n) ≡ n
+pub rounds-sends : (n : ℕ) → sends (rounds n) ≡ n
 unfolding rounds unnumbered either
 rounds-sends zero = refl
 rounds-sends (suc n) = add-one _ ∙ ap suc (rounds-sends n)
@@ -197,37 +196,37 @@ rounds-honest zero = tt
 rounds-honest (suc n) = (rounds-fair n, rounds-honest n)
 
 -- a run through n rounds
-pub record Through (n : ℕ) : Type 0 where
+pub record Through (k n : ℕ) : Type 0 where
   pub rest : List Request
   pub short : length rest ≤ 1
   pub fewer : length rest ≤ n
-  pub run : Runs (between n rest) (rounds n)
+  pub run : Runs (between k n rest) (rounds n)
 
-round : (n : ℕ) → n < lastNumber → Through n → Through (suc n)
+round : (k n : ℕ) → 2 ≤ k → n < lastNumber → Through k n → Through k (suc n)
 unfolding rounds unnumbered either
-round n h k =
+round k n room h m =
     let fair : Fair 108 (sent true ∷ rounds n) (n + 1) (replyTo (n + 1)) = rw add-one (rounds-fair n) in
-    let asks = send-to ReplyWithoutFds (n + 1) (sentOne n (k .rest)) (send-one n (k .rest) (k .short) (k .fewer) h) (k .run) in
+    let asks = send-to ReplyWithoutFds (n + 1) (sentOne k n (m .rest)) (send-one k n (m .rest) room (m .short) (m .fewer) h) (m .run) in
     let e = next-number asks (rounds-honest n) (n + 1) (replyTo (n + 1)) refl fair in
-    let takes = packet-to (n + 1) (replyTo (n + 1)) (inReplies (n + 1)) (tookOne (n + 1)) refl (take-one n (k .rest) (k .short) (k .fewer) h e) asks in
-    let polls = poll-to (n + 1) 32 0 _ (between (n + 1) (last ∷ [])) (poll-one (n + 1)) takes in
+    let takes = packet-to (n + 1) (replyTo (n + 1)) (inReplies (n + 1)) (tookOne k (n + 1)) refl (take-one k n (m .rest) room (m .short) (m .fewer) h e) asks in
+    let polls = poll-to (n + 1) 32 0 _ (between k (n + 1) (last ∷ [])) (poll-one k (n + 1)) takes in
     record { rest = last ∷ []; short = omega arith; fewer = omega arith; run = rw add-one at polls }
 
 -- ANY LENGTH: up to the last number there are rounds, far past where wire numbers begin again.
-pub any-length : (n : ℕ) → n ≤ lastNumber → Through n
+pub any-length : (k n : ℕ) → 2 ≤ k → n ≤ lastNumber → Through k n
 unfolding rounds
-any-length zero h = record { rest = []; short = omega arith; fewer = omega arith; run = start 108 5 100 }
-any-length (suc n) h = round n h (any-length n (omega arith))
+any-length k zero room h = record { rest = []; short = omega arith; fewer = omega arith; run = start 108 k 100 }
+any-length k (suc n) room h = round k n room h (any-length k n room (omega arith))
 
 -- ---- A run with every kind of call and packet past 65,536
 
 -- after as many rounds as there are wire numbers
 abbrev far : Client
-far = between wireValues (last ∷ [])
+far = between 5 wireValues (last ∷ [])
 
 far-run : Runs far (rounds wireValues)
 unfolding round
-far-run = round 65535 (omega arith) (any-length 65535 (omega arith)) .run
+far-run = round 5 65535 (omega arith) (omega arith) (any-length 5 65535 (omega arith) (omega arith)) .run
 
 -- the moves of the first run again: their wire numbers are the same, their true numbers 65,536 greater
 abbrev farMoves : List Move

@@ -7,3 +7,7 @@
 // `specs/Public.antt`, what a run of the public calls is. `specs/Theorems.antt` says what follows,
 // `specs/Needed.antt` that each premise is needed, and `specs/Witness.antt` that there are such
 // runs, of every kind and of any length.
+//
+// The other side of the same number is `specs/Span.antt`: with a request more before a sync it
+// would not be so. To believe are its first part and, in `specs/Rules.antt`, what a run by the
+// rules of sending and numbering alone is (`RuledBy`); `specs/SpanWitness.antt` has the examples.

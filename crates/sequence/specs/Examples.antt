@@ -5,7 +5,7 @@ use Prim.Native.Nat.{ℕ}
 use Rattle.octets.specs.Logic.{choose, both}
 use Rattle.refusal.specs.Answer.{gives, refuses, refuse}
 use Rattle.sequence.specs.Numbering.{lastNumber, inRange, full}
-use Rattle.sequence.specs.Sending.{mustSync, sending}
+use Rattle.sequence.specs.Sending.{mustSync, sending, sendingBy}
 
 -- after 70,000, whose low 16 bits are 4,464: an equal wire number is no step, one more is one, one less is nearly a round
 pub numbers : (full 70000 4464 ≡ 70000) × (full 70000 4465 ≡ 70001) × (full 70000 4463 ≡ 135535) × (full 0 65535 ≡ 65535) × (full 65535 0 ≡ 65536)
@@ -28,3 +28,8 @@ pub sends : (sending 10 7 true ≡ gives (record { number = 11; expected = 11 })
     × (sending lastNumber lastNumber true ≡ refuses 3) × (sending lastNumber 7 false ≡ refuses 3)
 unfolding sending mustSync both choose refuse
 sends = (refl, refl, refl, refl, refl, refl, refl, refl)
+
+-- another span: 6 from there on, and nothing else is other
+pub spans : (sendingBy 5 12 7 false ≡ refuses 6) × (sendingBy 5 11 7 false ≡ gives (record { number = 12; expected = 7 })) × (sendingBy 5 12 7 true ≡ gives (record { number = 13; expected = 13 })) × (sendingBy 5 lastNumber 7 false ≡ refuses 3)
+unfolding sendingBy both choose refuse
+spans = (refl, refl, refl, refl)

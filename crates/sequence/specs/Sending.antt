@@ -24,12 +24,19 @@ pub record Numbers : Type 0 where
   pub number : ℕ
   pub expected : ℕ
 
--- A request gets last written + 1; if it has a reply, next reply expected becomes its number. Refusals in the order of sending: 3 where the number would pass the last one; 6 for a request without a reply where a sync must come first.
-unfoldable pub sending : ℕ → ℕ → Bool → Answer Numbers
-sending written expected has-reply =
+-- A request gets last written + 1; if it has a reply, next reply expected becomes its number. Refusals in the order of sending: 3 where the number would pass the last one; 6 for a request without a reply where `sync` says that a sync must come first.
+abbrev pub sendingIf : Bool → ℕ → ℕ → Bool → Answer Numbers
+sendingIf sync written expected has-reply =
     refuse (leb lastNumber written) 3
-    (refuse (both (not has-reply) (mustSync written expected)) 6
+    (refuse (both (not has-reply) sync) 6
     (gives (record { number = written + 1; expected = choose has-reply (written + 1) expected })))
+
+unfoldable pub sending : ℕ → ℕ → Bool → Answer Numbers
+sending written expected has-reply = sendingIf (mustSync written expected) written expected has-reply
+
+-- The same with any span in the place of 65,534, for theorems about that number.
+unfoldable pub sendingBy : ℕ → ℕ → ℕ → Bool → Answer Numbers
+sendingBy span written expected has-reply = sendingIf (leb (expected + span) written) written expected has-reply
 
 -- what the enum `Sent` says
 abbrev pub saysSent : Sent → Answer Numbers
@@ -37,6 +44,10 @@ saysSent (Sent.Number n e) = gives (record { number = n .0; expected = e .0 })
 saysSent (Sent.Refused r) = refuses (numberOf r)
 
 -- ---- laws
+
+pub sending-by : (written expected : ℕ) (has-reply : Bool) → sending written expected has-reply ≡ sendingBy syncSpan written expected has-reply
+unfolding sending mustSync sendingBy
+sending-by written expected has-reply = refl
 
 -- the test without a sum that could wrap
 pub sync-by-difference : (written expected : ℕ) → syncSpan ≤ written → leb expected (written - syncSpan) ≡ mustSync written expected

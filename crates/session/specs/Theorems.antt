@@ -1,13 +1,15 @@
 -- DEMAND 3 for the public calls. Assumes nothing.
 use mathlib.Core.Bool.{false}
 use mathlib.Core.List.{List, _∷_}
-use mathlib.Core.Path.{_≡_, sym}
-use Prim.Native.Nat.{ℕ, _≤_}
+use mathlib.Core.Path.{_≡_, refl, sym}
+use Prim.Native.Nat.{ℕ, _+_, _-_, _≤_}
 use lib.ListN.{length}
 use Rattle.refusal.specs.Answer.{Answer, gives, refuses}
-use Rattle.packet.specs.Packet.{codeOf, unnumbered}
+use Rattle.sequence.specs.Numbering.{lastNumber, wireValues, full, inRange}
+use Rattle.sequence.specs.Sending.{syncSpan}
+use Rattle.packet.specs.Packet.{codeOf, unnumbered, wireOf}
 use Rattle.model.specs.Client.{Held}
-use Rattle.model.specs.Model.{hasReply, Filing, packet, pollForEvent}
+use Rattle.model.specs.Model.{hasReply, sendRequest, Filing, packet, pollForEvent}
 use Rattle.model.specs.Calls as Calls
 use Rattle.model.specs.Promise.{Promise, same}
 use Rattle.model.specs.Reading.{Rooms, reads}
@@ -15,15 +17,18 @@ use Rattle.model.specs.Says.{shownTaken, shownPoll}
 use Rattle.model.specs.Sound.{Sound, is-sound}
 use Rattle.model.specs.SendRequests.{kindOf}
 use Rattle.model.specs.declared.Connection.{Connection}
+use Rattle.model.specs.declared.ReplyFdKind.the-variants.{NoReply}
 use Rattle.intake.specs.Exact.{enqueueExact}
 use Rattle.polling.specs.Exact.{eventExact}
 use Rattle.savepoint.specs.Calls.{laid}
 use Rattle.savepoint.specs.Theorems.{again-sound, again-alike}
 use Rattle.connection.specs.Calls.{Sends, Enqueues}
 use Rattle.connection.specs.Opening.{opens-fresh, opens-sound}
-use Rattle.honest.specs.Run.{Entry, sent, noteSent, noteTook, Fair, Honest, Right, Ordinary, Filed}
-use Rattle.honest.specs.Public.{stateOf, Public, opens, sends, takes, others, again}
+use Rattle.honest.specs.Run as Run
+use Rattle.honest.specs.Run.{Entry, sent, noteSent, noteTook, Wire, Fair, Honest, Right, Ordinary, Filed}
+use Rattle.honest.specs.Public.{stateOf, Public, opens, sends, takes, others, again, public-runs, refused-so}
 use Rattle.honest.specs.Theorems as Any
+use Rattle.honest.specs.Span.{further, Misreckoned, run-one-too-many}
 use Rattle.session.specs.Ask.{Ask, send-request, enqueue-fds, enqueue-packet, discard-reply, poll-for-reply-or-error, poll-check-for-reply-or-error, poll-for-reply, poll-for-event-with-sequence, take-closed-fds, prepare-check-for-reply-or-error, send-requests, enqueue-packets, poll-for-events, Value, Outputs, Answers, OfBytes}
 use Rattle.session.specs.AskLaws.{has-form, goes-sound}
 use Rattle.session.specs.Noting.{next}
@@ -96,3 +101,10 @@ module _ {c : Connection} {r : Rooms} {l : List Entry} (k : Session c r l) (h : 
   -- NEVER ENDED, NEVER AHEAD: it is refused by 1, 2, 4 and 5 alone.
   pub session-never-ended : (n : ℕ) → a ≡ refuses n → Ordinary n
   session-never-ended = Any.public-never-ended (session-public k) h t p carries fair (enqueueExact c r p) a r' enqueues (is-sound c r (session-sound k))
+
+-- ONE TOO MANY (02, M-111): a session with an honest server in which `send_request` answers 6 and the last read equals next reply expected. With one request more let through, a run that meets every premise misreckons a packet.
+pub session-one-too-many : {c : Connection} {r : Rooms} {l : List Entry} → Session c r l → Honest (c .order) l → (r' : Rooms) → Sends c r NoReply (refuses 6) r' → c .read ≡ c .expected → c .read ≤ lastNumber - wireValues
+    → (p : List ℕ) → Wire (c .order) (Run.sends (further l)) p → (f : Filing) → gives (f .number) ≡ inRange (full (c .read) (wireOf (c .order) p)) → Misreckoned syncSpan (c .order) (record { written = c .written; expected = c .expected; read = c .read }) l p f
+unfolding reads
+session-one-too-many {c} {r} k h r' q level most =
+    run-one-too-many (public-runs (session-public k)) h (refused-so _ _ (λ m. sendRequest m NoReply) c r (refuses 6) r' (is-sound c r (session-sound k)) q 6 refl) level most
