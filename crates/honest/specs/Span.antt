@@ -12,7 +12,7 @@ use Rattle.octets.specs.Logic.{choose, both}
 use Rattle.refusal.specs.Answer.{Answer, gives, refuses, refuse, pass, gives-past, gives-rest, gives-same}
 use Rattle.sequence.specs.Numbering.{lastNumber, wireValues, full, inRange, full-near}
 use Rattle.sequence.specs.Sending as Sending
-use Rattle.sequence.specs.Sending.{sending, sendingBy, sending-by, syncSpan}
+use Rattle.sequence.specs.Sending.{sendingBy, sending-by, syncSpan}
 use Rattle.packet.specs.Packet.{replyCode, wireOf}
 use Rattle.model.specs.Client.{Numbers, Client}
 use Rattle.model.specs.Model.{Filing, sendRequest}
