@@ -25,7 +25,7 @@ use Rattle.honest.specs.Computing.{packetIn, packet-wire}
 
 -- ---- What is claimed
 
--- Demand 3, where 6 is given from a span on: the runs and premises of `true-numbers`, and its conclusion.
+-- Demand 3 over these rules, where 6 is given from a span on: log, premises and conclusion are those of `true-numbers`, whose runs keep the rules with 65,534 (`runs-ruled`).
 abbrev pub TrueBy : ℕ → Type 0
 TrueBy span = (o : ℕ) (n : Numbers) (l : List Entry) → RuledBy span o n l → Honest o l → Right l
 
@@ -83,7 +83,7 @@ wider h none = none
 wider {s} {s'} h (sends-one {n = n} has-reply x e r) = sends-one has-reply x (wider-send s s' (n .written) (n .expected) has-reply x h e) (wider h r)
 wider h (takes-one t p f e k r) = takes-one t p f e k (wider h r)
 
--- (a) At the edge the last written is the span past next reply expected, and no further.
+-- At the edge the last written is the span past next reply expected, and no further.
 pub edge-written : {span o : ℕ} {n : Numbers} {l : List Entry} → RuledBy span o n l → AtEdge span n → n .written ≡ n .expected + span
 edge-written {span} {n = n} r e = omega (arith, never-earlier span (n .written) (n .expected) (e .refused), ruled-near r)
 

@@ -67,7 +67,7 @@ tells n (suc j) h m = go (tells n j h (omega arith))
         let e = tells-one (n + j) n out (omega arith) (omega arith) (omega (arith, t .many)) in
         record { outstanding = out ++ (joining NoReply ∷ []); many = simp length-append (omega (arith, t .many)); run = rw z at (send-to NoReply (n + j + 1) _ e (t .run)) }
 
--- (c), (d) 65,534 requests after the last reply expected went through, and now 6 is given.
+-- 65,534 requests after the last reply expected went through, and now 6 is given.
 pub record Stands (n : ℕ) : Type 0 where
   pub outstanding : List Request
   pub run : Runs (standing (n + 65534) n outstanding) (without 65534 (rounds n))
