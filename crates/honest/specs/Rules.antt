@@ -38,31 +38,34 @@ sync-frees w e x q =
     let m = ap (λ y. y .expected) g in
     lt-leb (x .expected + syncSpan) (x .number) (omega (arith, n, m))
 
+-- what the rule gives, and where it gives it to a request without a reply
+pub given-by : (span w e : ℕ) (b : Bool) {x : Sending.Numbers} → gives x ≡ sendingBy span w e b → x ≡ record { number = w + 1; expected = choose b (w + 1) e }
+unfolding sendingBy
+given-by span w e b q = gives-same (gives-rest _ 6 _ (gives-rest _ 3 _ q))
+
+pub free-by : (span w e : ℕ) {x : Sending.Numbers} → gives x ≡ sendingBy span w e false → w < e + span
+unfolding sendingBy both
+free-by span w e q = leb-false _ _ (gives-past _ 6 _ (gives-rest _ 3 _ q))
+
 -- ---- with any server
 
 -- ORDERED, whatever packets come: one that is ahead is not taken in.
 pub ruled-ordered : {span o : ℕ} {n : Numbers} {l : List Entry} → RuledBy span o n l → Ordered n
-unfolding sendingBy choose
+unfolding choose
 ruled-ordered none = record { read-most = omega arith; expected-most = omega arith }
-ruled-ordered {span} (sends-one {n = n} has-reply x e r) = go has-reply x e (ruled-ordered r)
+ruled-ordered {span} (sends-one {n = n} has-reply x e r) = rw (given-by span (n .written) (n .expected) has-reply e) (go has-reply (ruled-ordered r))
   where
-    go : (b : Bool) (y : Sending.Numbers) → gives y ≡ sendingBy span (n .written) (n .expected) b → Ordered n → Ordered (record { written = y .number; expected = y .expected; read = n .read })
-    go true y q w = let g = gives-same (gives-rest _ 6 _ (gives-rest _ 3 _ q)) in rw g (record { read-most = omega (arith, w .read-most, w .expected-most); expected-most = omega (arith, w .expected-most) })
-    go false y q w = let g = gives-same (gives-rest _ 6 _ (gives-rest _ 3 _ q)) in rw g (record { read-most = omega (arith, w .read-most, w .expected-most); expected-most = omega (arith, w .expected-most) })
+    go : (b : Bool) → Ordered n → Ordered (record { written = n .written + 1; expected = choose b (n .written + 1) (n .expected); read = n .read })
+    go true w = record { read-most = omega (arith, w .read-most, w .expected-most); expected-most = omega arith }
+    go false w = record { read-most = w .read-most; expected-most = omega (arith, w .expected-most) }
 ruled-ordered (takes-one t p f e h r) = let w = ruled-ordered r in record { read-most = omega arith; expected-most = omega (arith, h, w .expected-most) }
 
 -- NEAR: the last written is at most a span past next reply expected.
 pub ruled-near : {span o : ℕ} {n : Numbers} {l : List Entry} → RuledBy span o n l → n .written ≤ n .expected + span
-unfolding sendingBy choose both
+unfolding choose
 ruled-near none = omega arith
-ruled-near {span} (sends-one {n = n} has-reply x e r) = go has-reply x e
-  where
-    go : (b : Bool) (y : Sending.Numbers) → gives y ≡ sendingBy span (n .written) (n .expected) b → y .number ≤ y .expected + span
-    go true y q = let g = gives-same (gives-rest _ 6 _ (gives-rest _ 3 _ q)) in rw g (omega arith)
-    go false y q =
-        let s = gives-rest _ 3 _ q in
-        let free : n .written < n .expected + span = leb-false _ _ (gives-past _ 6 _ s) in
-        rw (gives-same (gives-rest _ 6 _ s)) (omega (arith, free))
+ruled-near {span} (sends-one {n = n} true x e r) = rw (given-by span (n .written) (n .expected) true e) (omega arith)
+ruled-near {span} (sends-one {n = n} false x e r) = rw (given-by span (n .written) (n .expected) false e) (omega (arith, free-by span (n .written) (n .expected) e))
 ruled-near (takes-one t p f e h r) = omega (arith, ruled-near r)
 
 -- ---- the invariant
@@ -191,15 +194,9 @@ module _ (n : Numbers) (l : List Entry) (i : Inv n l) (w : Ordered n) (near : n 
   -- what an accepted send comes to
   inv-sent : (has-reply : Bool) (x : Sending.Numbers) → gives x ≡ sendingBy syncSpan (n .written) (n .expected) has-reply
       → Inv (record { written = x .number; expected = x .expected; read = n .read }) (sent has-reply ∷ l)
-  unfolding sendingBy choose both
-  inv-sent true x e =
-      let h : n .written < lastNumber = leb-false _ _ (gives-past _ 3 _ e) in
-      let g = gives-same (gives-rest _ 6 _ (gives-rest _ 3 _ e)) in
-      rw g (asks h)
-  inv-sent false x e =
-      let h : n .written < lastNumber = leb-false _ _ (gives-past _ 3 _ e) in
-      let g = gives-same (gives-rest _ 6 _ (gives-rest _ 3 _ e)) in
-      rw g (tells h)
+  unfolding sendingBy choose
+  inv-sent true x e = rw (given-by syncSpan (n .written) (n .expected) true e) (asks (leb-false _ _ (gives-past _ 3 _ e)))
+  inv-sent false x e = rw (given-by syncSpan (n .written) (n .expected) false e) (tells (leb-false _ _ (gives-past _ 3 _ e)))
 
 -- THE INVARIANT holds with an honest server, however long the run.
 pub ruled-inv : {o : ℕ} {n : Numbers} {l : List Entry} → Ruled o n l → Honest o l → Inv n l

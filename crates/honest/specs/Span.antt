@@ -7,9 +7,9 @@ use Prim.Native.Nat.{ℕ, _+_, _-_, _%_, _≤_, _<_, max}
 use native.Mathlib.Decide.{decLe}
 use native.Mathlib.Omega.{arith}
 use lib.Dec.{leb}
-use borrow.Author.Tests.{leb-true, leb-false, lt-leb, le-ltb}
+use borrow.Author.Tests.{leb-true, lt-leb, le-ltb}
 use Rattle.octets.specs.Logic.{choose, both}
-use Rattle.refusal.specs.Answer.{Answer, gives, refuses, refuse, pass, gives-past, gives-rest, gives-same}
+use Rattle.refusal.specs.Answer.{Answer, gives, refuses, refuse, pass, gives-same}
 use Rattle.sequence.specs.Numbering.{lastNumber, wireValues, full, inRange, full-near}
 use Rattle.sequence.specs.Sending as Sending
 use Rattle.sequence.specs.Sending.{sendingBy, sending-by, syncSpan}
@@ -19,7 +19,7 @@ use Rattle.model.specs.Model.{Filing, sendRequest}
 use Rattle.model.specs.declared.ReplyFdKind.the-variants.{NoReply}
 use Rattle.model.specs.declared.Place.the-variants.{Replies}
 use Rattle.honest.specs.Run.{Entry, sent, took, Runs, sends, WithReply, Heard, Wire, Fair, Honest, Right}
-use Rattle.honest.specs.Rules.{RuledBy, none, sends-one, takes-one, Ruled, ruled-ordered, ruled-near, Inv, true-range, ruled-inv}
+use Rattle.honest.specs.Rules.{RuledBy, none, sends-one, takes-one, Ruled, given-by, free-by, ruled-ordered, ruled-near, Inv, true-range, ruled-inv}
 use Rattle.honest.specs.Calls.{runs-ruled}
 use Rattle.honest.specs.Computing.{packetIn, packet-wire}
 
@@ -75,7 +75,7 @@ wider-send : (s s' w e : ℕ) (b : Bool) (x : Sending.Numbers) → s ≤ s' → 
 unfolding sendingBy both
 wider-send s s' w e true x h q = q
 wider-send s s' w e false x h q =
-    let free : w < e + s = leb-false _ _ (gives-past _ 6 _ (gives-rest _ 3 _ q)) in
+    let free : w < e + s = free-by s w e q in
     rw (lt-leb (e + s') w (omega arith)) (rw (lt-leb (e + s) w (omega arith)) at q)
 
 pub wider : {s s' o : ℕ} {n : Numbers} {l : List Entry} → s ≤ s' → RuledBy s o n l → RuledBy s' o n l
@@ -95,20 +95,20 @@ record Upto (n : Numbers) (l : List Entry) : Type 0 where
   answered : (q : ℕ) → WithReply l q → q ≤ n .read → Heard l q
 
 upto : {o : ℕ} {n : Numbers} {l : List Entry} → Ruled o n l → Honest o l → Upto n l
-unfolding sendingBy choose
+unfolding choose
 upto none h = record { asked = λ q a. absurd a; answered = λ q a m. absurd a }
 upto (sends-one {n = n} {l = l} true x e r) h =
     let k = upto r h in
     let i = ruled-inv r h in
     let w = ruled-ordered r in
-    rw (gives-same (gives-rest _ 6 _ (gives-rest _ 3 _ e)))
+    rw (given-by syncSpan (n .written) (n .expected) true e)
     (record {
       asked = λ q a. ⊎-elim (λ (z : q ≡ sends l + 1). omega (arith, i .counted)) (λ b. omega (arith, k .asked q b, w .expected-most)) a;
       answered = λ q a m. ⊎-elim (λ (z : q ≡ sends l + 1). absurd (omega (arith, i .counted, w .read-most, w .expected-most))) (λ b. k .answered q b m) a;
     })
-upto (sends-one {n = n} {l = l} false x e r) h =
+upto (sends-one {n = n} false x e r) h =
     let k = upto r h in
-    rw (gives-same (gives-rest _ 6 _ (gives-rest _ 3 _ e))) (record { asked = k .asked; answered = k .answered })
+    rw (given-by syncSpan (n .written) (n .expected) false e) (record { asked = k .asked; answered = k .answered })
 upto {o} (takes-one {n = n} {l = l} t p f e s r) h =
     let k = upto r (h .1) in
     let z : f .number ≡ t = gives-same (e ∙ true-range o n l (ruled-inv r (h .1)) t p (h .0)) in

@@ -11,14 +11,14 @@ use Rattle.refusal.specs.Answer.{gives, refuses}
 use Rattle.sequence.specs.Numbering.{lastNumber, wireValues}
 use Rattle.sequence.specs.Sending.{syncSpan}
 use Rattle.requests.specs.declared.Request.{Request}
-use Rattle.model.specs.Client.{Numbers, Client, setNumbers, setOutstanding}
-use Rattle.model.specs.Model.{fresh, joining, sendRequest}
+use Rattle.model.specs.Client.{Numbers, Client}
+use Rattle.model.specs.Model.{joining, sendRequest}
 use Rattle.model.specs.declared.ReplyFdKind.the-variants.{NoReply}
 use Rattle.honest.specs.Run.{Entry, sent, Runs, sends, Wire, Honest}
 use Rattle.honest.specs.Rules.{ruled-inv}
 use Rattle.honest.specs.Calls.{runs-ruled}
 use Rattle.honest.specs.Computing.{computing, packetOf, send-to}
-use Rattle.honest.specs.Witness.{Through, inReplies, rounds, reply-wire, rounds-sends, rounds-honest, any-length}
+use Rattle.honest.specs.Witness.{clientAt, Through, inReplies, rounds, reply-wire, rounds-sends, rounds-honest, any-length}
 use Rattle.honest.specs.Span.{TrueBy, AtEdge, further, Misreckoned, wider, one-too-many, edge-reckoned, run-edge}
 
 -- j requests without a reply more
@@ -40,7 +40,7 @@ without-honest o (suc j) l h = without-honest o j l h
 
 -- the state on the way, in the largest request room
 abbrev pub standing : ℕ → ℕ → List Request → Client
-standing written n outstanding = setOutstanding (setNumbers (fresh 108 65536 100) (record { written = written; expected = n; read = n })) outstanding
+standing written n outstanding = clientAt 65536 (record { written = written; expected = n; read = n }) outstanding
 
 tells-one : (w n : ℕ) (out : List Request) → w < n + syncSpan → w < lastNumber → length out < 65536 → sendRequest (standing w n out) NoReply ≡ gives (w + 1, standing (w + 1) n (out ++ (joining NoReply ∷ [])))
 unfolding computing

@@ -16,7 +16,7 @@ use Rattle.refusal.specs.Answer.{gives, refuse, pass}
 use Rattle.sequence.specs.Numbering.{lastNumber, wireValues}
 use Rattle.packet.specs.Packet.{unnumbered, wireOf}
 use Rattle.requests.specs.declared.Request.{Request}
-use Rattle.model.specs.Client.{Client, heldPacket, costs, setNumbers, setOutstanding, setReplies}
+use Rattle.model.specs.Client.{Numbers, Client, heldPacket, costs, setNumbers, setOutstanding, setReplies}
 use Rattle.model.specs.Model as Model
 use Rattle.model.specs.Model.{fresh, joining, sendRequest, Filing, somebody, packetNumber, enqueuePacket, packet, pollForReplyOrError}
 use Rattle.model.specs.Calls.{Call, send, enqueue-fds, enqueue, discard, poll, check, poll-reply, prepare, poll-event, take-closed, Said, number, done, filed, absent, answer, closed, refused, step, run}
@@ -113,13 +113,17 @@ quiet-honest =
 abbrev last : Request
 last = joining ReplyWithoutFds
 
--- the state between rounds, in a request room of k: the request that was answered last is still outstanding
-abbrev pub between : ℕ → ℕ → List Request → Client
-between k n rest = setOutstanding (setNumbers (fresh 108 k 100) (record { written = n; expected = n; read = n })) rest
+-- a state that holds nothing, in a request room of k
+abbrev pub clientAt : ℕ → Numbers → List Request → Client
+clientAt k numbers outstanding = setOutstanding (setNumbers (fresh 108 k 100) numbers) outstanding
+
+-- the state between rounds: the request that was answered last is still outstanding
+abbrev between : ℕ → ℕ → List Request → Client
+between k n rest = clientAt k (record { written = n; expected = n; read = n }) rest
 
 -- the same once the next request went out, and once its reply came
 abbrev sentOne : ℕ → ℕ → List Request → Client
-sentOne k n rest = setOutstanding (setNumbers (fresh 108 k 100) (record { written = n + 1; expected = n + 1; read = n })) (rest ++ (last ∷ []))
+sentOne k n rest = clientAt k (record { written = n + 1; expected = n + 1; read = n }) (rest ++ (last ∷ []))
 
 -- the reply to request t
 abbrev replyTo : ℕ → List ℕ
