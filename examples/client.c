@@ -51,12 +51,12 @@ static void start(void) {
 /* Reads once. A packet that this makes whole goes to the engine. */
 static void take_in(void) {
     size_t begin, size;
-    uint8_t place;
+    uint8_t place, packet_class;
     uint64_t number;
     must("buffer", xm_reader_buffer(XM_READER(&reader), &begin, &size));
     size = read_some(display.socket, buffer + begin, size);
-    must("advance", xm_reader_advance(XM_READER(&reader), size, &size));
-    if (size > 0) must("packet", xm_enqueue_packet(XM_CONNECTION(&rooms), buffer, size, &place, &number));
+    must("advance", xm_reader_advance(XM_READER(&reader), size, &size, &packet_class));
+    if (size > 0) must("packet", xm_enqueue_packet(XM_CONNECTION(&rooms), buffer, size, &place, &number, &packet_class));
 }
 
 static void sync(void);
@@ -85,10 +85,10 @@ static void sync(void) {
 /* ---- waiting, for what is then in out */
 
 static size_t reply(uint64_t number) {
-    uint8_t result = XM_TRY_AGAIN;
+    uint8_t result = XM_TRY_AGAIN, packet_class;
     size_t size = 0;
     for (;;) {
-        must("poll", xm_poll_for_reply(XM_CONNECTION(&rooms), number, out, sizeof out, &result, &size));
+        must("poll", xm_poll_for_reply(XM_CONNECTION(&rooms), number, out, sizeof out, &result, &size, &packet_class));
         if (result == XM_REPLY) return size;
         if (result == XM_NO_REPLY_COMES) die("request %llu: an error came", (unsigned long long)number);
         take_in();
@@ -97,29 +97,32 @@ static size_t reply(uint64_t number) {
 
 /* Whether a request without a reply made an error. */
 static bool failed(uint64_t number) {
-    uint8_t due, result = XM_TRY_AGAIN;
+    uint8_t due, result = XM_TRY_AGAIN, packet_class;
     size_t size;
     must("prepare", xm_prepare_check_for_reply_or_error(XM_CONNECTION(&rooms), number, &due));
     if (due) sync();
     for (;;) {
-        must("check", xm_poll_check_for_reply_or_error(XM_CONNECTION(&rooms), number, out, sizeof out, &result, &size));
+        must("check", xm_poll_check_for_reply_or_error(XM_CONNECTION(&rooms), number, out, sizeof out, &result, &size,
+                                                       &packet_class));
         if (result != XM_TRY_AGAIN) break;
         take_in();
     }
-    errors += result == XM_REPLY;
-    return result == XM_REPLY;
+    bool error = result == XM_REPLY && packet_class == XM_CLASS_ERROR;
+    errors += error;
+    return error;
 }
 
-/* The next event of a code; others are passed over. */
+/* The next event of a code that the server itself made, not SendEvent; others are passed over. */
 static uint64_t event(uint8_t code) {
-    uint8_t found;
+    uint8_t found, packet_class;
     uint64_t number;
     size_t size;
     for (;;) {
-        must("event", xm_poll_for_event_with_sequence(XM_CONNECTION(&rooms), out, sizeof out, &found, &number, &size));
+        must("event", xm_poll_for_event_with_sequence(XM_CONNECTION(&rooms), out, sizeof out, &found, &number, &size,
+                                                      &packet_class));
         if (!found) take_in();
         else events++;
-        if (found && (out[0] & 0x7f) == code) return number;
+        if (found && packet_class == XM_CLASS_EVENT && out[0] == code) return number;
     }
 }
 

@@ -69,15 +69,15 @@ static void drop(struct kept *packet) {
 
 /* The reader's buffer begins with the head of a packet that is too long for it. */
 static void take_long(void) {
-    uint8_t place;
-    size_t size = xm_packet_length(buffer[0], get32(buffer + 4));
+    uint8_t place, packet_class;
+    size_t size = xm_packet_length(buffer[0], get32(buffer + 4), &packet_class);
     struct kept *packet = malloc(sizeof *packet + size);
     if (packet == NULL) die("no memory for a packet of %zu bytes", size);
     packet->size = size;
     memcpy(packet->bytes, buffer, HEAD);
     read_all(display.socket, packet->bytes + HEAD, size - HEAD);
     must("reader", xm_reader_new(XM_ROW(&reader), XM_LITTLE, XM_BUFFER(&reader)));
-    must("head", xm_enqueue_packet(XM_CONNECTION(&rooms), packet->bytes, HEAD, &place, &packet->number));
+    must("head", xm_enqueue_packet(XM_CONNECTION(&rooms), packet->bytes, HEAD, &place, &packet->number, &packet_class));
     if (place == XM_DROPPED) drop(packet);
     else keep(packet);
 }
@@ -97,17 +97,17 @@ static struct kept *take_kept(uint64_t number) {
 
 static void take_in(void) {
     size_t begin, size;
-    uint8_t place;
+    uint8_t place, packet_class;
     uint64_t number;
     must("buffer", xm_reader_buffer(XM_READER(&reader), &begin, &size));
     size = read_some(display.socket, buffer + begin, size);
-    enum xm_refusal refusal = xm_reader_advance(XM_READER(&reader), size, &size);
+    enum xm_refusal refusal = xm_reader_advance(XM_READER(&reader), size, &size, &packet_class);
     if (refusal == XM_LONG_PACKET) {
         take_long();
         return;
     }
     must("advance", refusal);
-    if (size > 0) must("packet", xm_enqueue_packet(XM_CONNECTION(&rooms), buffer, size, &place, &number));
+    if (size > 0) must("packet", xm_enqueue_packet(XM_CONNECTION(&rooms), buffer, size, &place, &number, &packet_class));
 }
 
 /* These few requests need no sync. */
@@ -120,11 +120,11 @@ static uint64_t send_it(uint8_t kind, struct request *r) {
 
 /* Waits for a reply, which is then in out. Where its length says that this is no more than its head, it is kept here. */
 static struct kept *reply(uint64_t number) {
-    uint8_t result = XM_TRY_AGAIN;
+    uint8_t result = XM_TRY_AGAIN, packet_class;
     size_t size;
     for (;;) {
-        must("poll", xm_poll_for_reply(XM_CONNECTION(&rooms), number, out, sizeof out, &result, &size));
-        if (result == XM_REPLY) return xm_packet_length(out[0], get32(out + 4)) > size ? take_kept(number) : NULL;
+        must("poll", xm_poll_for_reply(XM_CONNECTION(&rooms), number, out, sizeof out, &result, &size, &packet_class));
+        if (result == XM_REPLY) return xm_packet_length(out[0], get32(out + 4), &packet_class) > size ? take_kept(number) : NULL;
         if (result == XM_NO_REPLY_COMES) die("request %llu: an error came", (unsigned long long)number);
         take_in();
     }

@@ -35,7 +35,7 @@ extern "C" {
 
 /* The version of this header, and that of the archive: 65536 * major + 256 * minor + patch. */
 #define XM_VERSION_MAJOR 0
-#define XM_VERSION_MINOR 1
+#define XM_VERSION_MINOR 2
 #define XM_VERSION_PATCH 0
 #define XM_VERSION (XM_VERSION_MAJOR * 65536u + XM_VERSION_MINOR * 256u + XM_VERSION_PATCH)
 
@@ -184,7 +184,7 @@ struct xm_rooms {
  * The same for a packet reader or a handshake, whose state is a row of XM_SLOTS numbers beside a buffer:
  *
  *     xm_reader_new(XM_ROW(&r), XM_LITTLE, XM_BUFFER(&r))
- *     xm_reader_advance(XM_READER(&r), amount, &size)
+ *     xm_reader_advance(XM_READER(&r), amount, &size, &packet_class)
  *     xm_save(XM_CONNECTION(&c), XM_READER(&r), ids, XM_SLOTS, out, out_len, &length)
  */
 struct xm_reader {
@@ -215,8 +215,39 @@ enum xm_refusal xm_send(uint64_t written, uint64_t expected, bool reply, uint64_
 
 /* ---- packets ---- */
 
-/* The bytes of a packet that begins with code and has field at bytes 4 to 7. Never refused. */
-size_t xm_packet_length(uint8_t code, uint32_t field);
+/*
+ * What kind of packet it is, by its first byte: 0 is an error, 1 a reply, 35 a generic event, and all others
+ * are events. SENT are the events that SendEvent made, which have the top bit set: 128 and 129 are events
+ * that were sent, 163 a generic event that was.
+ */
+enum xm_class {
+    XM_CLASS_ERROR = 0,
+    XM_CLASS_REPLY = 1,
+    XM_CLASS_EVENT = 2,
+    XM_CLASS_SENT_EVENT = 3,
+    XM_CLASS_GENERIC = 4,
+    XM_CLASS_SENT_GENERIC = 5
+};
+
+/* The word of a class, for messages; of any number. */
+static inline const char *xm_class_text(uint8_t packet_class) {
+    switch (packet_class) {
+    case XM_CLASS_ERROR: return "error";
+    case XM_CLASS_REPLY: return "reply";
+    case XM_CLASS_EVENT: return "event";
+    case XM_CLASS_SENT_EVENT: return "sent-event";
+    case XM_CLASS_GENERIC: return "generic";
+    case XM_CLASS_SENT_GENERIC: return "sent-generic";
+    default: return "no class has this number";
+    }
+}
+
+/*
+ * The framing rule: how many bytes a packet has that begins with code and has field at bytes 4 to 7, and its
+ * class. Never refused. The calls below that take a packet in or hand one out give the class of that packet,
+ * by the same rule; where they hand out none packet_class is 0.
+ */
+size_t xm_packet_length(uint8_t code, uint32_t field, uint8_t *packet_class);
 
 /* Whether a packet's fields can be read. Refused by 1, 2, 13, and 14 where it does not begin with first. */
 enum xm_refusal xm_check_packet(uint8_t order, const uint8_t *packet, size_t packet_len,
@@ -293,13 +324,14 @@ enum xm_refusal xm_reader_buffer(const uint64_t *reader, size_t reader_len, cons
 
 /*
  * Counts amount bytes of that part as filled. A whole packet is the first size bytes of buf, and the
- * reader begins anew; size is 0 where it isn't whole yet. Refused by 9, 7, and 2 where the packet is
- * longer than the buffer: its first 32 bytes are then at the start of buf, the rest is still to be read
- * (xm_packet_length says how much), and the reader is to be made anew. docs/LIMITS.md says how such a
- * packet is taken in, examples/image.c does it.
+ * reader begins anew; size and packet_class are 0 where it isn't whole yet. Refused by 9, 7, and 2 where
+ * the packet is longer than the buffer: its first 32 bytes are then at the start of buf, the rest is still
+ * to be read (xm_packet_length says how much), and the reader is to be made anew. docs/LIMITS.md says how
+ * such a packet is taken in, examples/image.c does it.
  */
 enum xm_refusal xm_reader_advance(uint64_t *reader, size_t reader_len, const uint8_t *buf,
-                                  size_t buf_len, size_t amount, size_t *size);
+                                  size_t buf_len, size_t amount, size_t *size,
+                                  uint8_t *packet_class);
 
 /* ---- the handshake ---- */
 
@@ -452,17 +484,18 @@ enum xm_refusal xm_enqueue_fds(uint64_t *state, size_t state_len, const uint8_t 
                                size_t list_len);
 
 /*
- * A packet came: where it was filed, and under which number. A KeymapNotify (code 11, or 139 by SendEvent)
- * has key bits where others have their number, and gets the last one read; it is never refused by 20. At 20
- * the packet's number is above the last written: the server answered what was not asked. At 4 hand in the
- * descriptors that came with its bytes, at 5 poll or discard what is held, and then offer it again. Only its
- * first 32 bytes are looked at, so that a packet of over 65,536 bytes can be taken in by those alone
+ * A packet came: where it was filed, under which number, and its class. A KeymapNotify (code 11, or 139 by
+ * SendEvent) has key bits where others have their number, and gets the last one read; it is never refused by
+ * 20. At 20 the packet's number is above the last written: the server answered what was not asked. At 4 hand
+ * in the descriptors that came with its bytes, at 5 poll or discard what is held, and then offer it again.
+ * Only its first 32 bytes are looked at, so that a packet of over 65,536 bytes can be taken in by those alone
  * (docs/LIMITS.md). Refused by 9, 1, 2, 3, 20, 4, 5.
  */
 enum xm_refusal xm_enqueue_packet(uint64_t *state, size_t state_len, const uint8_t *requests,
                                   size_t requests_len, uint8_t *store, size_t store_len,
                                   uint32_t *slots, size_t slots_len, const uint8_t *packet,
-                                  size_t packet_len, uint8_t *place, uint64_t *number);
+                                  size_t packet_len, uint8_t *place, uint64_t *number,
+                                  uint8_t *packet_class);
 
 /*
  * Bytes came from the server: each whole packet that they begin with is taken in as xm_enqueue_packet
@@ -483,16 +516,17 @@ enum xm_refusal xm_enqueue_packets(uint64_t *state, size_t state_len, const uint
  */
 
 /*
- * The oldest reply or error of a request: found is 1, size bytes are at the start of out and count
- * descriptors, the caller's from then on, at the start of fds. All three are 0 where none is held.
- * Refused by 9, and 8 where out or fds is too small.
+ * The oldest reply or error of a request, and its class: found is 1, size bytes are at the start of out
+ * and count descriptors, the caller's from then on, at the start of fds. All four are 0 where none is
+ * held. Refused by 9, and 8 where out or fds is too small.
  */
 enum xm_refusal xm_poll_for_reply_or_error(uint64_t *state, size_t state_len,
                                            const uint8_t *requests, size_t requests_len,
                                            uint8_t *store, size_t store_len, uint32_t *slots,
                                            size_t slots_len, uint64_t number, uint8_t *out,
                                            size_t out_len, uint32_t *fds, size_t fds_len,
-                                           uint8_t *found, size_t *size, size_t *count);
+                                           uint8_t *found, size_t *size, size_t *count,
+                                           uint8_t *packet_class);
 
 /*
  * Sync is 1 where a request with a reply (GetInputFocus, as at 6 above) must be sent before
@@ -505,40 +539,49 @@ enum xm_refusal xm_prepare_check_for_reply_or_error(const uint64_t *state, size_
                                                     uint64_t number, uint8_t *sync);
 
 /*
- * The oldest reply or error of a request; its descriptors are to be closed. XM_NO_REPLY_COMES only
- * where a packet above the number was read. Refused by 9, and 8 where out is too small.
+ * The oldest reply or error of a request, and its class; its descriptors are to be closed.
+ * XM_NO_REPLY_COMES only where a packet above the number was read. Size and packet_class are 0 but for
+ * XM_REPLY. Refused by 9, and 8 where out is too small.
  */
 enum xm_refusal xm_poll_check_for_reply_or_error(uint64_t *state, size_t state_len,
                                                  const uint8_t *requests, size_t requests_len,
                                                  uint8_t *store, size_t store_len, uint32_t *slots,
                                                  size_t slots_len, uint64_t number, uint8_t *out,
-                                                 size_t out_len, uint8_t *result, size_t *size);
+                                                 size_t out_len, uint8_t *result, size_t *size,
+                                                 uint8_t *packet_class);
 
 /*
- * The oldest reply of a request; its descriptors are to be closed. An error becomes an event, and no
- * reply comes. Refused by 9, and 8 where out is too small for a reply.
+ * The oldest reply of a request, and its class; its descriptors are to be closed. An error becomes an
+ * event, and no reply comes. Size and packet_class are 0 but for XM_REPLY. Refused by 9, and 8 where out
+ * is too small for a reply.
  */
 enum xm_refusal xm_poll_for_reply(uint64_t *state, size_t state_len, const uint8_t *requests,
                                   size_t requests_len, uint8_t *store, size_t store_len,
                                   uint32_t *slots, size_t slots_len, uint64_t number, uint8_t *out,
-                                  size_t out_len, uint8_t *result, size_t *size);
+                                  size_t out_len, uint8_t *result, size_t *size,
+                                  uint8_t *packet_class);
 
 /*
- * The oldest event: found is 1, and its number and bytes. All three are 0 where none is held.
- * Refused by 9, and 8 where out is too small.
+ * The oldest event: found is 1, and its number, bytes and class. All four are 0 where none is held. Among
+ * the events are the errors that nobody waits for: of those the class is XM_CLASS_ERROR. Refused by 9, and
+ * 8 where out is too small.
  */
 enum xm_refusal xm_poll_for_event_with_sequence(uint64_t *state, size_t state_len,
                                                 const uint8_t *requests, size_t requests_len,
                                                 uint8_t *store, size_t store_len,
                                                 const uint32_t *slots, size_t slots_len,
                                                 uint8_t *out, size_t out_len, uint8_t *found,
-                                                uint64_t *number, size_t *size);
+                                                uint64_t *number, size_t *size,
+                                                uint8_t *packet_class);
+
+/* The marks of an event, each at its place, and how many there are. */
+enum { XM_MARK_NUMBER = 0, XM_MARK_LENGTH = 1, XM_MARK_CLASS = 2, XM_MARKS = 3 };
 
 /*
  * As many events as fit, oldest first: count events, whose packets, size bytes in all, are one behind
- * the other at the start of out, and for each two marks, its number and the length of its packet.
- * What stopped it is XM_STOP_END where no event is left, otherwise 8. Refused by 9, and 8 where there
- * is an event and not even one fits.
+ * the other at the start of out, and for each XM_MARKS marks: its number, the length of its packet and
+ * its class. What stopped it is XM_STOP_END where no event is left, otherwise 8. Refused by 9, and 8
+ * where there is an event and not even one fits.
  */
 enum xm_refusal xm_poll_for_events(uint64_t *state, size_t state_len, const uint8_t *requests,
                                    size_t requests_len, uint8_t *store, size_t store_len,

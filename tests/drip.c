@@ -90,7 +90,7 @@ static void handshake(uint8_t order, const uint8_t *bytes, size_t count) {
     else say_refused(refusal);
 }
 
-/* ---- a reader: after each byte the room that is left, or the packet that it makes whole */
+/* ---- a reader: after each byte the room that is left, or the packet that it makes whole, with its class */
 
 static void say_room(void) {
     size_t size = 0;
@@ -101,11 +101,12 @@ static void say_room(void) {
 
 static enum xm_refusal reader_byte(uint8_t byte) {
     size_t start = 0, size = 0, whole = 0;
+    uint8_t packet_class = 0;
     if (xm_reader_buffer(LENT, &start, &size) == XM_DONE && size > 0) room[start] = byte;
-    enum xm_refusal refusal = xm_reader_advance(LENT, 1, &whole);
+    enum xm_refusal refusal = xm_reader_advance(LENT, 1, &whole, &packet_class);
     if (refusal != XM_DONE) return refusal;
-    if (whole > 0) {
-        printf(" packet");
+    if (whole > 0 || packet_class > 0) {
+        printf(" packet %s", xm_class_text(packet_class));
         say_bytes(0, whole);
     } else {
         say_room();

@@ -1,5 +1,6 @@
 /* The header and the static library from C: names and version, a request, its reply with a descriptor, many at once, a reader, a savepoint, an
- * unsound state, a full room, long packets, events without a number, an answer to nothing; and the bytes of setup and XC-MISC, which no field of is like another, in both byte orders. */
+ * unsound state, a full room, long packets, events without a number, an answer to nothing, the class of every packet; and the bytes of setup and
+ * XC-MISC, which no field of is like another, in both byte orders. */
 #include <stdio.h>
 #include <string.h>
 
@@ -42,10 +43,18 @@ static void named(void) {
     expect("text of a stop", (unsigned)strcmp(xm_refusal_text(XM_STOP_PART), other), 0);
 }
 
+/* So has each class a word, and no other number. */
+static void named_classes(void) {
+    const char *words[6] = {"error", "reply", "event", "sent-event", "generic", "sent-generic"};
+    for (uint8_t i = 0; i < 6; i++) expect("word of a class", (unsigned)strcmp(xm_class_text(i), words[i]), 0);
+    expect("no word", (unsigned)strcmp(xm_class_text(6), xm_class_text(255)), 0);
+    expect("the words are six", strcmp(xm_class_text(6), words[5]) != 0, 1);
+}
+
 /* A request, and its reply, which is refused until its descriptor is there. */
 static void asked(void) {
     uint64_t number = 0;
-    uint8_t place = 9, with = 9, mode = 9;
+    uint8_t place = 9, with = 9, mode = 9, class = 9;
     uint32_t seven = 7;
     expect("new", xm_connection_new(XM_STATE(&rooms), XM_LITTLE, XM_ROOMS(&rooms)), XM_DONE);
     expect("send", xm_send_request(CONNECTION, XM_REPLY_WITH_FDS, &number), XM_DONE);
@@ -53,17 +62,19 @@ static void asked(void) {
     expect("request", xm_request_at(requests, sizeof requests, 1, &with, &mode), XM_DONE);
     expect("descriptors", with, 1);
     expect("mode", mode, XM_KEEP);
-    expect("packet", xm_enqueue_packet(CONNECTION, packet, 32, &place, &number), XM_FEW_DESCRIPTORS);
+    expect("packet", xm_enqueue_packet(CONNECTION, packet, 32, &place, &number, &class), XM_FEW_DESCRIPTORS);
     expect("place", place, 9);
+    expect("class", class, 9);
     expect("fds", xm_enqueue_fds(CONNECTION, &seven, 1), XM_DONE);
-    expect("packet", xm_enqueue_packet(CONNECTION, packet, 32, &place, &number), XM_DONE);
+    expect("packet", xm_enqueue_packet(CONNECTION, packet, 32, &place, &number, &class), XM_DONE);
     expect("place", place, XM_REPLIES);
+    expect("class", class, XM_CLASS_REPLY);
 }
 
 /* The reply, looked at where it is held, and then taken. */
 static void answered(void) {
     uint64_t start = state[XM_STATE_START], end = state[XM_STATE_END], number = 0;
-    uint8_t kind = 9, held = 9, sync = 9, found = 9;
+    uint8_t kind = 9, held = 9, sync = 9, found = 9, class = 9;
     size_t size = 9, count = 9;
     expect("record", xm_record_at(store, sizeof store, start, end, &kind, &number, &size, &held), XM_DONE);
     expect("kind", kind, XM_REPLIES);
@@ -72,8 +83,9 @@ static void answered(void) {
     expect("held bytes", (unsigned)memcmp(store + start + XM_RECORD_HEADER, packet, 32), 0);
     expect("prepare", xm_prepare_check_for_reply_or_error(CONNECTION, 2, &sync), XM_DONE);
     expect("sync", sync, 1);
-    expect("poll", xm_poll_for_reply_or_error(CONNECTION, 1, out, sizeof out, fds, XM_DESCRIPTORS, &found, &size, &count), XM_DONE);
+    expect("poll", xm_poll_for_reply_or_error(CONNECTION, 1, out, sizeof out, fds, XM_DESCRIPTORS, &found, &size, &count, &class), XM_DONE);
     expect("found", found, 1);
+    expect("class", class, XM_CLASS_REPLY);
     expect("descriptors", count, 1);
     expect("descriptor", fds[0], 7);
     expect("bytes", (unsigned)memcmp(out, packet, 32), 0);
@@ -82,8 +94,8 @@ static void answered(void) {
 /* The calls that make many steps, and where each stops. */
 static void at_once(void) {
     const uint8_t kinds[3] = {XM_NO_REPLY, XM_REPLY_WITHOUT_FDS, 3};
-    uint64_t number = 0, marks[2] = {9, 9};
-    uint8_t place = 9;
+    uint64_t number = 0, marks[XM_MARKS] = {9, 9, 9};
+    uint8_t place = 9, class = 9;
     size_t size = 9, count = 9;
     uint32_t stop = 9;
     expect("sends", xm_send_requests(CONNECTION, kinds, sizeof kinds, &count, &number, &stop), XM_DONE);
@@ -91,14 +103,16 @@ static void at_once(void) {
     expect("last number", number, 3);
     expect("stop", stop, XM_STOP_NO_KIND);
     packet[0] = 2;
-    expect("event", xm_enqueue_packet(CONNECTION, packet, 32, &place, &number), XM_DONE);
+    expect("event", xm_enqueue_packet(CONNECTION, packet, 32, &place, &number, &class), XM_DONE);
     expect("run", xm_enqueue_packets(CONNECTION, packet, 31, &size, &count, &stop), XM_DONE);
     expect("bytes of a run", size, 0);
     expect("part of a packet", stop, XM_STOP_PART);
-    expect("events", xm_poll_for_events(CONNECTION, out, sizeof out, marks, 2, &count, &size, &stop), XM_DONE);
+    expect("two marks", xm_poll_for_events(CONNECTION, out, sizeof out, marks, 2, &count, &size, &stop), XM_OUT_SHORT);
+    expect("events", xm_poll_for_events(CONNECTION, out, sizeof out, marks, XM_MARKS, &count, &size, &stop), XM_DONE);
     expect("handed out", count, 1);
-    expect("event's number", marks[0], 1);
-    expect("event's length", marks[1], 32);
+    expect("event's number", marks[XM_MARK_NUMBER], 1);
+    expect("event's length", marks[XM_MARK_LENGTH], 32);
+    expect("event's class", marks[XM_MARK_CLASS], XM_CLASS_EVENT);
     expect("event's bytes", (unsigned)memcmp(out, packet, 32), 0);
     expect("stop", stop, XM_STOP_END);
 }
@@ -108,35 +122,41 @@ static void reader(void) {
     uint64_t row[XM_SLOTS];
     const struct xm_reader r = {.row = row, .buf = out, .buf_len = 64};
     const uint8_t head[32] = {1, 0, 0, 0, 0, 0, 0, 9};
+    uint8_t class = 9;
     size_t start = 9, size = 9;
     expect("reader", xm_reader_new(XM_ROW(&r), XM_BIG, XM_BUFFER(&r)), XM_DONE);
     expect("buffer", xm_reader_buffer(XM_READER(&r), &start, &size), XM_DONE);
     expect("start", start, 0);
     expect("part", size, 32);
     memcpy(out, head, 32);
-    expect("part of a head", xm_reader_advance(XM_READER(&r), 20, &size), XM_DONE);
-    expect("a long packet", xm_reader_advance(XM_READER(&r), 12, &size), XM_LONG_PACKET);
+    expect("part of a head", xm_reader_advance(XM_READER(&r), 20, &size, &class), XM_DONE);
+    expect("no class yet", class, 0);
+    class = 9;
+    expect("a long packet", xm_reader_advance(XM_READER(&r), 12, &size, &class), XM_LONG_PACKET);
     expect("filled as before", row[XM_READER_FILLED], 20);
-    expect("its length", xm_packet_length(out[0], out[7]), 68);
+    expect("class as before", class, 9);
+    expect("its length", xm_packet_length(out[0], out[7], &class), 68);
+    expect("its class", class, XM_CLASS_REPLY);
     expect("its head", (unsigned)memcmp(out, head, 32), 0);
 }
 
 /* Another buffer within a packet: seen where it is too short, or its length field says another length. */
 static void another_buffer(void) {
-    uint8_t bytes[64] = {1, 0, 0, 0, 0, 0, 0, 1};
+    uint8_t bytes[64] = {1, 0, 0, 0, 0, 0, 0, 1}, class = 9;
     uint64_t row[XM_SLOTS];
     const struct xm_reader r = {row, bytes, sizeof bytes}, shorter = {row, bytes, 35};
     size_t size = 9;
     expect("reader", xm_reader_new(XM_ROW(&r), XM_BIG, XM_BUFFER(&r)), XM_DONE);
-    expect("head", xm_reader_advance(XM_READER(&r), 32, &size), XM_DONE);
+    expect("head", xm_reader_advance(XM_READER(&r), 32, &size, &class), XM_DONE);
     expect("not whole", size, 0);
-    expect("too short", xm_reader_advance(XM_READER(&shorter), 4, &size), XM_BAD_ROOM);
+    expect("too short", xm_reader_advance(XM_READER(&shorter), 4, &size, &class), XM_BAD_ROOM);
     bytes[7] = 2;
-    expect("another length", xm_reader_advance(XM_READER(&r), 4, &size), XM_BAD_ROOM);
+    expect("another length", xm_reader_advance(XM_READER(&r), 4, &size, &class), XM_BAD_ROOM);
     bytes[7] = 1;
     bytes[20] = 1;
-    expect("another byte", xm_reader_advance(XM_READER(&r), 4, &size), XM_DONE);
+    expect("another byte", xm_reader_advance(XM_READER(&r), 4, &size, &class), XM_DONE);
     expect("whole", size, 36);
+    expect("its class", class, XM_CLASS_REPLY);
 }
 
 /* A request room without a request that has a reply fills up, unless one is sent while a place is left. */
@@ -154,26 +174,26 @@ static void filled(void) {
 
 /* A packet of 65,572 bytes is refused, its head taken in: number and order are those of the packet, and a discard drops it. */
 static void long_packets(void) {
-    uint8_t head[32] = {1, 0, 1, 0, 0, 1, 1}, place = 9, result = 9, whole[65572] = {1, 0, 1, 0, 0, 1, 1};
+    uint8_t head[32] = {1, 0, 1, 0, 0, 1, 1}, place = 9, result = 9, class = 9, whole[65572] = {1, 0, 1, 0, 0, 1, 1};
     uint64_t number = 0;
     size_t size = 9, count = 9;
     uint32_t stop = 9;
     expect("new", xm_connection_new(XM_STATE(&rooms), XM_LITTLE, XM_ROOMS(&rooms)), XM_DONE);
     for (int i = 0; i < 3; i++) expect("send", xm_send_request(CONNECTION, XM_REPLY_WITHOUT_FDS, &number), XM_DONE);
     expect("discard", xm_discard_reply(CONNECTION, 2, XM_DISCARD_REPLY), XM_DONE);
-    expect("whole", xm_enqueue_packet(CONNECTION, whole, sizeof whole, &place, &number), XM_LONG_PACKET);
+    expect("whole", xm_enqueue_packet(CONNECTION, whole, sizeof whole, &place, &number, &class), XM_LONG_PACKET);
     expect("a run with it", xm_enqueue_packets(CONNECTION, whole, sizeof whole, &size, &count, &stop), XM_DONE);
     expect("stop", stop, XM_LONG_PACKET);
     for (uint8_t i = 1; i < 4; i++) {
         head[2] = i;
-        expect("head", xm_enqueue_packet(CONNECTION, head, 32, &place, &number), XM_DONE);
+        expect("head", xm_enqueue_packet(CONNECTION, head, 32, &place, &number, &class), XM_DONE);
         expect("its number", number, i);
         expect("its place", place, i == 2 ? XM_DROPPED : XM_REPLIES);
     }
-    expect("poll", xm_poll_for_reply(CONNECTION, 3, out, 32, &result, &size), XM_DONE);
+    expect("poll", xm_poll_for_reply(CONNECTION, 3, out, 32, &result, &size, &class), XM_DONE);
     expect("reply", result, XM_REPLY);
-    expect("no more than the head", xm_packet_length(out[0], 257 * 256) > size, 1);
-    expect("dropped", xm_poll_check_for_reply_or_error(CONNECTION, 2, out, 32, &result, &size), XM_DONE);
+    expect("no more than the head", xm_packet_length(out[0], 257 * 256, &class) > size, 1);
+    expect("dropped", xm_poll_check_for_reply_or_error(CONNECTION, 2, out, 32, &result, &size, &class), XM_DONE);
     expect("nothing", result, XM_NO_REPLY_COMES);
 }
 
@@ -211,7 +231,7 @@ static void saved(void) {
 static void closed(void) {
     const uint32_t came[4] = {11, 12, 13, 14};
     uint64_t number = 0;
-    uint8_t place = 9, result = 9;
+    uint8_t place = 9, result = 9, class = 9;
     size_t size = 9, count = 9;
     expect("new", xm_connection_new(XM_STATE(&rooms), XM_LITTLE, XM_ROOMS(&rooms)), XM_DONE);
     for (int i = 0; i < 4; i++) expect("send", xm_send_request(CONNECTION, XM_REPLY_WITH_FDS, &number), XM_DONE);
@@ -219,14 +239,14 @@ static void closed(void) {
     expect("discard, to come", xm_discard_reply(CONNECTION, 1, XM_DISCARD_REPLY), XM_DONE);
     for (uint8_t i = 1; i < 5; i++) {
         const uint8_t reply[32] = {1, 1, i};
-        expect("packet", xm_enqueue_packet(CONNECTION, reply, 32, &place, &number), XM_DONE);
+        expect("packet", xm_enqueue_packet(CONNECTION, reply, 32, &place, &number, &class), XM_DONE);
     }
     expect("by a dropped reply", state[XM_STATE_CLOSED], 1);
     expect("discard, held", xm_discard_reply(CONNECTION, 2, XM_DISCARD_REPLY), XM_DONE);
     expect("by a discard", state[XM_STATE_CLOSED], 2);
-    expect("poll", xm_poll_for_reply(CONNECTION, 3, out, sizeof out, &result, &size), XM_DONE);
+    expect("poll", xm_poll_for_reply(CONNECTION, 3, out, sizeof out, &result, &size, &class), XM_DONE);
     expect("by a poll", state[XM_STATE_CLOSED], 3);
-    expect("check", xm_poll_check_for_reply_or_error(CONNECTION, 4, out, sizeof out, &result, &size), XM_DONE);
+    expect("check", xm_poll_check_for_reply_or_error(CONNECTION, 4, out, sizeof out, &result, &size, &class), XM_DONE);
     expect("no savepoint", xm_savepoint_length(CLIENT, &size), XM_HAS_DESCRIPTORS);
     expect("take", xm_take_closed_fds(CONNECTION, fds, XM_DESCRIPTORS, &count), XM_DONE);
     expect("all of them", count, 4);
@@ -324,10 +344,10 @@ static void given_ids(void) {
 
 /* A KeymapNotify has key bits in the place of its number: of either code it gets the last read, and moves no number. */
 static void keymaps(void) {
-    uint8_t run[128] = {2, 0, 0, 7}, place = 9;
+    uint8_t run[128] = {2, 0, 0, 7}, place = 9, class = 9;
     const uint8_t kinds[8] = {XM_NO_REPLY};
-    uint64_t number = 9, marks[8] = {0};
-    const uint64_t due[8] = {7, 32, 7, 32, 7, 32, 8, 32};
+    uint64_t number = 9, marks[12] = {0};
+    const uint64_t due[12] = {7, 32, XM_CLASS_EVENT, 7, 32, XM_CLASS_EVENT, 7, 32, XM_CLASS_SENT_EVENT, 8, 32, XM_CLASS_SENT_EVENT};
     size_t size = 9, count = 9;
     uint32_t stop = 9;
     memset(run + 32, 255, 64);
@@ -340,9 +360,10 @@ static void keymaps(void) {
     expect("sends", xm_send_requests(CONNECTION, kinds, sizeof kinds, &count, &number, &stop), XM_DONE);
     expect("run", xm_enqueue_packets(CONNECTION, run, sizeof run, &size, &count, &stop), XM_DONE);
     expect("packets", count, 4);
-    expect("events", xm_poll_for_events(CONNECTION, out, sizeof out, marks, 8, &count, &size, &stop), XM_DONE);
+    expect("events", xm_poll_for_events(CONNECTION, out, sizeof out, marks, 12, &count, &size, &stop), XM_DONE);
     expect("numbers", (unsigned)memcmp(marks, due, sizeof due), 0);
-    expect("alone", xm_enqueue_packet(CONNECTION, run + 64, 32, &place, &number), XM_DONE);
+    expect("alone", xm_enqueue_packet(CONNECTION, run + 64, 32, &place, &number, &class), XM_DONE);
+    expect("its class", class, XM_CLASS_SENT_EVENT);
     expect("its number", number, 8);
     expect("its place", place, XM_EVENTS);
     expect("next reply expected", state[XM_STATE_EXPECTED], 8);
@@ -371,13 +392,14 @@ static void refused_ahead(void) {
     struct held before = held();
     for (int i = 0; i < 5; i++) {
         const uint8_t answer[32] = {codes[i], 1, 3};
-        uint8_t place = 9;
+        uint8_t place = 9, class = 9;
         uint64_t number = 9;
         size_t size = 9, count = 9;
         uint32_t stop = 9;
-        expect("ahead", xm_enqueue_packet(CONNECTION, answer, 32, &place, &number), XM_AHEAD);
+        expect("ahead", xm_enqueue_packet(CONNECTION, answer, 32, &place, &number, &class), XM_AHEAD);
         expect("its place", place, 9);
         expect("its number", number, 9);
+        expect("its class", class, 9);
         expect("in a run", xm_enqueue_packets(CONNECTION, answer, 32, &size, &count, &stop), XM_DONE);
         expect("bytes taken", size, 0);
         expect("stop", stop, XM_AHEAD);
@@ -392,7 +414,7 @@ static void ahead(void) {
     const uint8_t kinds[2] = {XM_NO_REPLY, XM_REPLY_WITH_FDS};
     const uint32_t seven = 7;
     uint64_t number = 9;
-    uint8_t place = 9;
+    uint8_t place = 9, class = 9;
     size_t size = 9, count = 9;
     uint32_t stop = 9;
     expect("new", xm_connection_new(XM_STATE(&rooms), XM_LITTLE, XM_ROOMS(&rooms)), XM_DONE);
@@ -405,13 +427,184 @@ static void ahead(void) {
     expect("stop", stop, XM_AHEAD);
     refused_ahead();
     expect("one more", xm_send_request(CONNECTION, XM_REPLY_WITH_FDS, &number), XM_DONE);
-    expect("asked for", xm_enqueue_packet(CONNECTION, run + 96, 32, &place, &number), XM_DONE);
+    expect("asked for", xm_enqueue_packet(CONNECTION, run + 96, 32, &place, &number, &class), XM_DONE);
     expect("its number", number, 3);
     expect("its place", place, XM_REPLIES);
 }
 
+/* ---- what kind of packet it is */
+
+/* A second reading of Core's first bytes. */
+static unsigned class_of(unsigned code) {
+    if (code < 2) return code == 1 ? XM_CLASS_REPLY : XM_CLASS_ERROR;
+    if (code >= 128) return code == 128 + 35 ? XM_CLASS_SENT_GENERIC : XM_CLASS_SENT_EVENT;
+    return code == 35 ? XM_CLASS_GENERIC : XM_CLASS_EVENT;
+}
+
+/* The framing rule, of every first byte. */
+static void framed(void) {
+    unsigned counts[6] = {0};
+    for (unsigned code = 0; code < 256; code++) {
+        bool more = code == 1 || code == 35 || code == 163;
+        uint8_t class = 9;
+        expect("length", xm_packet_length((uint8_t)code, 5, &class), more ? 52 : 32);
+        expect("class", class, class_of(code));
+        counts[class_of(code)]++;
+        expect("the longest", xm_packet_length((uint8_t)code, UINT32_MAX, &class), more ? 17179869212 : 32);
+        expect("class", class, class_of(code));
+    }
+    expect("sent events", counts[XM_CLASS_SENT_EVENT], 127);
+    expect("events", counts[XM_CLASS_EVENT], 125);
+}
+
+/* A packet of 32 bytes in out, through a reader; the class that this tells. */
+static unsigned read_class(unsigned code) {
+    uint64_t row[XM_SLOTS];
+    uint8_t class = 9;
+    size_t size = 9;
+    const struct xm_reader r = {.row = row, .buf = out, .buf_len = 64};
+    memset(out, 0, 32);
+    out[0] = (uint8_t)code;
+    expect("reader", xm_reader_new(XM_ROW(&r), XM_LITTLE, XM_BUFFER(&r)), XM_DONE);
+    expect("whole", xm_reader_advance(XM_READER(&r), 32, &size, &class), XM_DONE);
+    expect("its size", size, 32);
+    return class;
+}
+
+/* A packet of a number, taken in; the class that this tells. */
+static unsigned taken_class(unsigned code, uint8_t wire) {
+    const uint8_t bytes[32] = {(uint8_t)code, 0, wire};
+    uint8_t place = 9, class = 9;
+    uint64_t number = 9;
+    expect("packet", xm_enqueue_packet(CONNECTION, bytes, 32, &place, &number, &class), XM_DONE);
+    return class;
+}
+
+/* The oldest event has this code, number and class. */
+static void next_event(unsigned code, unsigned due) {
+    uint8_t found = 9, class = 9;
+    uint64_t number = 9;
+    size_t size = 9;
+    expect("a byte less", xm_poll_for_event_with_sequence(CONNECTION, out, 31, &found, &number, &size, &class), XM_OUT_SHORT);
+    expect("class as before", class, 9);
+    expect("event", xm_poll_for_event_with_sequence(CONNECTION, out, sizeof out, &found, &number, &size, &class), XM_DONE);
+    expect("found", found, 1);
+    expect("code", out[0], code);
+    expect("number", number, due);
+    expect("class of an event", class, class_of(code));
+}
+
+static void no_event(void) {
+    uint8_t found = 9, class = 9;
+    uint64_t number = 9;
+    size_t size = 9;
+    expect("event", xm_poll_for_event_with_sequence(CONNECTION, out, sizeof out, &found, &number, &size, &class), XM_DONE);
+    expect("none", found + number + size, 0);
+    expect("no class", class, 0);
+}
+
+/* Requests with a reply, on a fresh connection. */
+static void ask(size_t requests) {
+    uint64_t number = 9;
+    expect("new", xm_connection_new(XM_STATE(&rooms), XM_LITTLE, XM_ROOMS(&rooms)), XM_DONE);
+    for (size_t i = 0; i < requests; i++) expect("send", xm_send_request(CONNECTION, XM_REPLY_WITHOUT_FDS, &number), XM_DONE);
+}
+
+/* Every first byte: through the reader, into the connection and, but for a reply, out of it among the events. */
+static void every_code(void) {
+    ask(0);
+    for (unsigned code = 0; code < 256; code++) {
+        expect("class by the reader", read_class(code), class_of(code));
+        expect("class by intake", taken_class(code, 0), class_of(code));
+        if (code != 1) next_event(code, 0);
+    }
+    no_event();
+}
+
+typedef enum xm_refusal poll(uint64_t *, size_t, const uint8_t *, size_t, uint8_t *, size_t, uint32_t *, size_t, uint64_t, uint8_t *,
+                             size_t, uint8_t *, size_t *, uint8_t *);
+
+/* A poll for a reply answers so, and tells this class. */
+static void polled(poll *call, uint64_t number, unsigned due, unsigned due_class) {
+    uint8_t result = 9, class = 9;
+    size_t size = 9;
+    if (due == XM_REPLY) {
+        expect("a byte less", call(CONNECTION, number, out, 31, &result, &size, &class), XM_OUT_SHORT);
+        expect("class as before", class, 9);
+    }
+    expect("poll", call(CONNECTION, number, out, sizeof out, &result, &size, &class), XM_DONE);
+    expect("result", result, due);
+    expect("size", size, due == XM_REPLY ? 32 : 0);
+    expect("class of a reply", class, due_class);
+}
+
+static void polled_either(uint64_t number, unsigned due, unsigned due_class) {
+    uint8_t found = 9, class = 9;
+    size_t size = 9, count = 9;
+    expect("either", xm_poll_for_reply_or_error(CONNECTION, number, out, sizeof out, fds, XM_DESCRIPTORS, &found, &size, &count, &class),
+           XM_DONE);
+    expect("found", found, due);
+    expect("class of either", class, due_class);
+}
+
+/* Replies and errors by the three polls; where there is none the class is 0. */
+static void replies(void) {
+    ask(4);
+    for (uint8_t number = 1; number < 4; number++) {
+        expect("class of a reply", taken_class(1, number), XM_CLASS_REPLY);
+        expect("class of an error", taken_class(0, number), XM_CLASS_ERROR);
+    }
+    polled_either(1, 1, XM_CLASS_REPLY);
+    polled_either(1, 1, XM_CLASS_ERROR);
+    polled_either(1, 0, 0);
+    polled(xm_poll_check_for_reply_or_error, 2, XM_REPLY, XM_CLASS_REPLY);
+    polled(xm_poll_check_for_reply_or_error, 2, XM_REPLY, XM_CLASS_ERROR);
+    polled(xm_poll_check_for_reply_or_error, 2, XM_NO_REPLY_COMES, 0);
+    polled(xm_poll_check_for_reply_or_error, 4, XM_TRY_AGAIN, 0);
+    polled(xm_poll_for_reply, 3, XM_REPLY, XM_CLASS_REPLY);
+    polled(xm_poll_for_reply, 3, XM_NO_REPLY_COMES, 0);
+    polled(xm_poll_for_reply, 4, XM_TRY_AGAIN, 0);
+    next_event(0, 3);
+    no_event();
+}
+
+/* Errors among the events: of no request, let through by DiscardReply, held and then discarded, and moved by a poll for a reply. */
+static void stray_errors(void) {
+    ask(3);
+    expect("discard", xm_discard_reply(CONNECTION, 1, XM_DISCARD_REPLY), XM_DONE);
+    for (uint8_t number = 0; number < 4; number++) expect("class of an error", taken_class(0, number), XM_CLASS_ERROR);
+    expect("class of an event", taken_class(129, 3), XM_CLASS_SENT_EVENT);
+    expect("class of a generic event", taken_class(35, 3), XM_CLASS_GENERIC);
+    expect("class of a sent one", taken_class(163, 3), XM_CLASS_SENT_GENERIC);
+    expect("discard", xm_discard_reply(CONNECTION, 2, XM_DISCARD_REPLY), XM_DONE);
+    polled(xm_poll_for_reply, 3, XM_NO_REPLY_COMES, 0);
+}
+
+static void errors_among_events(void) {
+    const uint64_t due[7][XM_MARKS] = {{0, 32, XM_CLASS_ERROR}, {1, 32, XM_CLASS_ERROR}, {3, 32, XM_CLASS_SENT_EVENT},
+                                       {3, 32, XM_CLASS_GENERIC}, {3, 32, XM_CLASS_SENT_GENERIC}, {2, 32, XM_CLASS_ERROR},
+                                       {3, 32, XM_CLASS_ERROR}};
+    const uint8_t codes[7] = {0, 0, 129, 35, 163, 0, 0};
+    uint64_t marks[7 * XM_MARKS] = {0};
+    size_t size = 9, count = 9;
+    uint32_t stop = 9;
+    stray_errors();
+    for (int i = 0; i < 7; i++) next_event(codes[i], (unsigned)due[i][XM_MARK_NUMBER]);
+    no_event();
+    stray_errors();
+    expect("room for six", xm_poll_for_events(CONNECTION, out, sizeof out, marks, sizeof marks / 8 - 1, &count, &size, &stop), XM_DONE);
+    expect("six", count, 6);
+    expect("no room for the last", stop, XM_OUT_SHORT);
+    expect("their marks", (unsigned)memcmp(marks, due, 6 * sizeof *due), 0);
+    expect("nothing behind them", marks[18] + marks[19] + marks[20], 0);
+    expect("the last", xm_poll_for_events(CONNECTION, out, sizeof out, marks, sizeof marks / 8, &count, &size, &stop), XM_DONE);
+    expect("its marks", (unsigned)memcmp(marks, due + 6, sizeof *due), 0);
+    expect("no more", stop, XM_STOP_END);
+}
+
 int main(void) {
     named();
+    named_classes();
     asked();
     answered();
     at_once();
@@ -424,6 +617,10 @@ int main(void) {
     long_packets();
     keymaps();
     ahead();
+    framed();
+    every_code();
+    replies();
+    errors_among_events();
     opened();
     asked_for_ids();
     given_ids();

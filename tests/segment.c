@@ -38,7 +38,7 @@ static void take_in(void) {
     struct iovec part;
     struct msghdr message = MESSAGE(&part, &control);
     size_t begin, size;
-    uint8_t place;
+    uint8_t place, packet_class;
     uint64_t number;
     must("buffer", xm_reader_buffer(XM_READER(&reader), &begin, &part.iov_len));
     part.iov_base = buffer + begin;
@@ -46,8 +46,8 @@ static void take_in(void) {
     if (count <= 0 || message.msg_flags & MSG_CTRUNC) die("the socket can't be read");
     const uint32_t *list = (const uint32_t *)CMSG_DATA(&control.header);
     if (message.msg_controllen > 0) must("descriptor", xm_enqueue_fds(XM_CONNECTION(&rooms), list, 1));
-    must("advance", xm_reader_advance(XM_READER(&reader), (size_t)count, &size));
-    if (size > 0) must("packet", xm_enqueue_packet(XM_CONNECTION(&rooms), buffer, size, &place, &number));
+    must("advance", xm_reader_advance(XM_READER(&reader), (size_t)count, &size, &packet_class));
+    if (size > 0) must("packet", xm_enqueue_packet(XM_CONNECTION(&rooms), buffer, size, &place, &number, &packet_class));
 }
 
 static uint64_t send_it(uint8_t kind, struct request *r) {
@@ -57,18 +57,18 @@ static uint64_t send_it(uint8_t kind, struct request *r) {
     return number;
 }
 
-/* The code of the answer, which is in out; in fds are so many descriptors as are due. */
+/* The class of the answer, which is in out; in fds are so many descriptors as are due. */
 static uint8_t ask(uint8_t kind, struct request *r, size_t due) {
     uint64_t number = send_it(kind, r);
-    uint8_t found = 0;
+    uint8_t found = 0, packet_class = XM_CLASS_ERROR;
     size_t size, count = 0;
     while (!found) {
         take_in();
         must("poll", xm_poll_for_reply_or_error(XM_CONNECTION(&rooms), number, out, sizeof out, fds, XM_DESCRIPTORS, &found,
-                                                &size, &count));
+                                                &size, &count, &packet_class));
     }
     if (count != due) die("request %llu: %zu descriptors, not %zu", (unsigned long long)number, count, due);
-    return out[0];
+    return packet_class;
 }
 
 /* Whether the server has MIT-SHM with descriptors: version 1.2. */
@@ -78,7 +78,8 @@ static bool has_shm(void) {
     padded(&query, "MIT-SHM");
     ask(XM_REPLY_WITHOUT_FDS, &query, 0);
     struct request version = request(shm = out[9], QUERY_VERSION);
-    return out[8] && ask(XM_REPLY_WITHOUT_FDS, &version, 0) == 1 && 100 * get16(out + 8) + get16(out + 10) >= 102;
+    if (!out[8] || ask(XM_REPLY_WITHOUT_FDS, &version, 0) != XM_CLASS_REPLY) return false;
+    return 100 * get16(out + 8) + get16(out + 10) >= 102;
 }
 
 static void draw(uint32_t pixmap, uint32_t gc) {
@@ -97,9 +98,9 @@ static void draw(uint32_t pixmap, uint32_t gc) {
 static int create(uint32_t segment) {
     struct request none = request(shm, CREATE_SEGMENT), r = none;
     CARD32(&none, 0, SIZE, 0);
-    if (ask(XM_REPLY_WITH_FDS, &none, 0) != 0) die("there is a segment 0");
+    if (ask(XM_REPLY_WITH_FDS, &none, 0) != XM_CLASS_ERROR) die("there is a segment 0");
     CARD32(&r, segment, SIZE, 0);
-    if (ask(XM_REPLY_WITH_FDS, &r, 1) != 1) die("CreateSegment makes error %u", out[1]);
+    if (ask(XM_REPLY_WITH_FDS, &r, 1) != XM_CLASS_REPLY) die("CreateSegment makes error %u", out[1]);
     return (int)fds[0];
 }
 
@@ -130,7 +131,7 @@ static unsigned right(uint32_t pixmap, uint32_t segment, int fd) {
     CARD32(&r, pixmap);
     CARD16(&r, 0, 0, WIDTH, HEIGHT);
     CARD32(&r, 0xffffffff, Z_PIXMAP, segment, 0);
-    if (ask(XM_REPLY_WITHOUT_FDS, &r, 0) != 1) die("GetImage makes error %u", out[1]);
+    if (ask(XM_REPLY_WITHOUT_FDS, &r, 0) != XM_CLASS_REPLY) die("GetImage makes error %u", out[1]);
     for (unsigned i = 0; i < SIZE; i += 4) count += (get32(bytes + i) & 0xffffff) == COLOUR;
     return count;
 }

@@ -160,6 +160,13 @@ def total(order, head):
     return 32 + (4 * number(order, "I", head, 4) if extra else 0)
 
 
+def class_of(code):
+    """The word of what a packet is that begins with this byte."""
+    if code < 2:
+        return ("error", "reply")[code]
+    return ("sent-" if code > 127 else "") + ("generic" if code in (35, 163) else "event")
+
+
 def reader(order, room, data):
     """The line that answers a reader's case."""
     if not 32 <= room <= 65536:
@@ -175,7 +182,7 @@ def reader(order, room, data):
         if len(packet) < target:
             line += " %d" % (target - len(packet))
         else:
-            line, packet = line + " packet " + packet.hex(), b""
+            line, packet = line + " packet %s " % class_of(packet[0]) + packet.hex(), b""
     return line
 
 
@@ -211,11 +218,17 @@ def longest(order):
         yield order, 65536, packet(order, 1, field)
 
 
+def codes(order):
+    """Packets of 32 bytes with every first byte."""
+    yield order, 32, b"".join(packet(order, code, 0) for code in range(256))
+
+
 def readers():
     for order in ORDERS:
         yield from rooms(order)
         yield from starts(order)
         yield from longest(order)
+        yield from codes(order)
     yield from ((order, 64, run(b"B")) for order in NO_ORDERS)
     yield b"L", 31, run(b"B")
     yield b"l", 65536, open("tests/streams/xeyes.bin", "rb").read()

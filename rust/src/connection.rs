@@ -2,16 +2,22 @@
 
 use std::mem::forget;
 
-use crate::engine::{Engine, Fed, Place, Stop};
+use crate::engine::{Engine, Fed, FiledWithClass, Place, Stop, MARKS};
 use crate::errors::Refusal;
 use crate::ffi;
-use crate::{ByteOrder, DiscardMode, RawFdContainer, SequenceNumber};
+use crate::{ByteOrder, DiscardMode, PacketClass, RawFdContainer, SequenceNumber};
 
 /// A combination of a buffer and a list of file descriptors.
 pub type BufWithFds = crate::BufWithFds<Vec<u8>>;
 
 /// The raw bytes of an X11 event and its sequence number.
 pub type RawEventAndSeqNumber = crate::RawEventAndSeqNumber<Vec<u8>>;
+
+/// A packet, its file descriptors and its class.
+pub type BufWithFdsAndClass = (Vec<u8>, Vec<RawFdContainer>, PacketClass);
+
+/// The raw bytes of an event, its sequence number and its class.
+pub type EventWithClass = (Vec<u8>, SequenceNumber, PacketClass);
 
 /// Whether a request has a reply, and whether the reply has descriptors.
 #[derive(Debug, Copy, Clone, PartialEq, Eq)]
@@ -35,14 +41,36 @@ pub enum PollReply {
     Reply(Vec<u8>),
 }
 
+/// The same, with the class of what is there.
+#[derive(Debug, Clone, PartialEq, Eq)]
+pub enum PollReplyWithClass {
+    /// It is not clear yet; try again later.
+    TryAgain,
+    /// There will be no reply.
+    NoReply,
+    /// Here it is.
+    Reply(Vec<u8>, PacketClass),
+}
+
+impl From<PollReplyWithClass> for PollReply {
+    #[inline]
+    fn from(poll: PollReplyWithClass) -> Self {
+        match poll {
+            PollReplyWithClass::TryAgain => PollReply::TryAgain,
+            PollReplyWithClass::NoReply => PollReply::NoReply,
+            PollReplyWithClass::Reply(packet, _) => PollReply::Reply(packet),
+        }
+    }
+}
+
 /// The rooms that `Connection::new` takes: both as large as they may be.
 const REQUESTS: usize = 65_536;
 const STORE: usize = 16_777_216;
 
-/// The outputs of `Connection::poll_for_events`: bytes for the largest packet, and two marks for each
-/// packet of the least length that they take.
+/// The outputs of `Connection::poll_for_events`: bytes for the largest packet, and marks for each packet
+/// of the least length that they take.
 const OUT: usize = 65_536;
-const MARKS: usize = 2 * OUT / 32;
+const MARKS_OUT: usize = MARKS * OUT / 32;
 
 /// A client's side of the X11 protocol: it keeps what was sent and what came, and does no I/O.
 ///
@@ -180,17 +208,28 @@ impl Connection {
     /// not asked.
     #[inline]
     pub fn enqueue_packet(&mut self, packet: Vec<u8>) {
-        match self.try_enqueue_packet(&packet) {
-            Ok(_) => self.engine.spare(packet),
+        self.enqueue_packet_with_class(packet);
+    }
+
+    /// The same: the class of the packet.
+    #[inline]
+    pub fn enqueue_packet_with_class(&mut self, packet: Vec<u8>) -> PacketClass {
+        let class = match self.engine.enqueue_packet_with_class(&packet) {
+            Ok((.., class)) => {
+                self.engine.spare(packet);
+                class
+            }
             Err(refusal) => self.enqueue_refused(refusal, packet),
-        }
+        };
         self.close();
+        class
     }
 
     #[cold]
-    fn enqueue_refused(&mut self, refusal: Refusal, packet: Vec<u8>) {
-        if let Err((refusal, _)) = self.engine.enqueue_head(refusal, packet) {
-            panic!("enqueue_packet: {refusal}");
+    fn enqueue_refused(&mut self, refusal: Refusal, packet: Vec<u8>) -> PacketClass {
+        match self.engine.enqueue_head(refusal, packet) {
+            Ok((.., class)) => class,
+            Err((refusal, _)) => panic!("enqueue_packet: {refusal}"),
         }
     }
 
@@ -205,6 +244,15 @@ impl Connection {
         self.engine.enqueue_packet(packet)
     }
 
+    /// The same, and the packet's class with it.
+    #[inline]
+    pub fn try_enqueue_packet_with_class(
+        &mut self,
+        packet: &[u8],
+    ) -> Result<FiledWithClass, Refusal> {
+        self.engine.enqueue_packet_with_class(packet)
+    }
+
     /// The same for any length; a refusal, by 1, 3, 20, 4, 5, hands the packet back.
     #[inline]
     pub fn try_enqueue_long_packet(
@@ -212,6 +260,15 @@ impl Connection {
         packet: Vec<u8>,
     ) -> Result<(Place, SequenceNumber), (Refusal, Vec<u8>)> {
         self.engine.enqueue_long_packet(packet)
+    }
+
+    /// The same, and the packet's class with it.
+    #[inline]
+    pub fn try_enqueue_long_packet_with_class(
+        &mut self,
+        packet: Vec<u8>,
+    ) -> Result<FiledWithClass, (Refusal, Vec<u8>)> {
+        self.engine.enqueue_long_packet_with_class(packet)
     }
 
     /// Bytes were received: each whole packet that they begin with is taken in, up to the first that is
@@ -228,8 +285,19 @@ impl Connection {
     /// The oldest answer to a request that has a reply.
     #[inline]
     pub fn poll_for_reply_or_error(&mut self, sequence: SequenceNumber) -> Option<BufWithFds> {
-        let (packet, fds) = whole(self.engine.poll_for_reply_or_error(sequence))?;
-        Some((packet, fds.into_iter().map(ffi::from_number).collect()))
+        let (packet, fds, _) = self.poll_for_reply_or_error_with_class(sequence)?;
+        Some((packet, fds))
+    }
+
+    /// The same, and the class of that answer.
+    #[inline]
+    pub fn poll_for_reply_or_error_with_class(
+        &mut self,
+        sequence: SequenceNumber,
+    ) -> Option<BufWithFdsAndClass> {
+        let (packet, fds, class) = whole(self.engine.poll_for_reply_or_error_with_class(sequence))?;
+        let fds = fds.into_iter().map(ffi::from_number).collect();
+        Some((packet, fds, class))
     }
 
     /// Whether a sync is necessary before `poll_check_for_reply_or_error` can tell.
@@ -241,7 +309,20 @@ impl Connection {
     /// Whether the server has handled a request, with or without a reply.
     #[inline]
     pub fn poll_check_for_reply_or_error(&mut self, sequence: SequenceNumber) -> PollReply {
-        let answer = whole(self.engine.poll_check_for_reply_or_error(sequence));
+        self.poll_check_for_reply_or_error_with_class(sequence)
+            .into()
+    }
+
+    /// The same, and whether its answer is a reply or an error.
+    #[inline]
+    pub fn poll_check_for_reply_or_error_with_class(
+        &mut self,
+        sequence: SequenceNumber,
+    ) -> PollReplyWithClass {
+        let answer = whole(
+            self.engine
+                .poll_check_for_reply_or_error_with_class(sequence),
+        );
         self.close();
         answer
     }
@@ -249,7 +330,13 @@ impl Connection {
     /// The reply of a request; an error becomes an event.
     #[inline]
     pub fn poll_for_reply(&mut self, sequence: SequenceNumber) -> PollReply {
-        let answer = whole(self.engine.poll_for_reply(sequence));
+        self.poll_for_reply_with_class(sequence).into()
+    }
+
+    /// The same, and the class with it.
+    #[inline]
+    pub fn poll_for_reply_with_class(&mut self, sequence: SequenceNumber) -> PollReplyWithClass {
+        let answer = whole(self.engine.poll_for_reply_with_class(sequence));
         self.close();
         answer
     }
@@ -260,29 +347,46 @@ impl Connection {
         whole(self.engine.poll_for_event_with_sequence())
     }
 
+    /// The same, and its class with it: an error that nobody waits for stands among the events.
+    #[inline]
+    pub fn poll_for_event_with_class(&mut self) -> Option<EventWithClass> {
+        whole(self.engine.poll_for_event_with_class())
+    }
+
     /// All events, oldest first. The original has no such call; this one looks at the rooms once for
     /// as many events as 65,536 bytes take, where no long packet is held.
     pub fn poll_for_events(&mut self) -> Vec<RawEventAndSeqNumber> {
+        self.all_events(|(packet, number, _)| (packet, number))
+    }
+
+    /// The same, and the class of each with it.
+    pub fn poll_for_events_with_class(&mut self) -> Vec<EventWithClass> {
+        self.all_events(|event| event)
+    }
+
+    /// All events, as they are told.
+    fn all_events<T>(&mut self, told: impl Fn(EventWithClass) -> T) -> Vec<T> {
         let mut events = Vec::new();
         while !self.engine.rests.is_empty() {
-            match self.poll_for_event_with_sequence() {
-                Some(event) => events.push(event),
+            match self.poll_for_event_with_class() {
+                Some(event) => events.push(told(event)),
                 None => return events,
             }
         }
-        self.poll_for_short_events(&mut events);
+        self.short_events(|event| events.push(told(event)));
         events
     }
 
     /// The same where each event fits into the output.
-    fn poll_for_short_events(&mut self, events: &mut Vec<RawEventAndSeqNumber>) {
-        let (mut out, mut marks) = (vec![0; OUT], vec![0; MARKS]);
+    fn short_events(&mut self, mut tell: impl FnMut(EventWithClass)) {
+        let (mut out, mut marks) = (vec![0; OUT], vec![0; MARKS_OUT]);
         loop {
             let handed = whole(self.engine.poll_for_events(&mut out, &mut marks));
             let mut rest = &out[..handed.bytes];
-            for mark in marks[..2 * handed.count].chunks(2) {
+            for mark in marks[..MARKS * handed.count].chunks(MARKS) {
                 let (packet, behind) = rest.split_at(mark[1] as usize);
-                events.push((packet.to_vec(), mark[0]));
+                let class = PacketClass::from_number(mark[2]).expect("the number of a class");
+                tell((packet.to_vec(), mark[0], class));
                 rest = behind;
             }
             if handed.stop == Stop::End {
@@ -526,21 +630,22 @@ mod test {
             engine.enqueue_packet(&packet(2, n, n.into())).unwrap();
         }
         let (mut out, mut marks) = ([7; 100], [9; 8]);
+        let event = PacketClass::Event.number();
         assert_eq!(
             engine.poll_for_events(&mut out[..31], &mut marks),
             Err(Refusal::OutShort)
         );
         assert_eq!(
-            engine.poll_for_events(&mut out, &mut marks[..1]),
+            engine.poll_for_events(&mut out, &mut marks[..2]),
             Err(Refusal::OutShort)
         );
         assert_eq!((out, marks), ([7; 100], [9; 8]));
-        let one = engine.poll_for_events(&mut out, &mut marks[..3]).unwrap();
+        let one = engine.poll_for_events(&mut out, &mut marks[..5]).unwrap();
         assert_eq!((one.count, one.bytes, one.stop), (1, 32, short));
-        assert_eq!(marks, [1, 32, 9, 9, 9, 9, 9, 9]);
+        assert_eq!(marks, [1, 32, event, 9, 9, 9, 9, 9]);
         let two = engine.poll_for_events(&mut out[..95], &mut marks).unwrap();
         assert_eq!((two.count, two.bytes, two.stop), (2, 64, short));
-        assert_eq!(marks, [2, 32, 3, 32, 9, 9, 9, 9]);
+        assert_eq!(marks, [2, 32, event, 3, 32, event, 9, 9]);
         assert_eq!(out[..64], [packet(2, 2, 2), packet(2, 3, 3)].concat());
         assert_eq!(out[64..], [7; 36]);
         let rest = engine.poll_for_events(&mut out, &mut marks).unwrap();

@@ -1,11 +1,12 @@
 //! The engine as it is: every call answers its refusal, descriptors are opaque numbers, and
 //! everything that is held can be looked at.
 
-use crate::connection::{PollReply, ReplyFdKind};
+use crate::connection::{EventWithClass, PollReply, PollReplyWithClass, ReplyFdKind};
 use crate::errors::Refusal;
 use crate::ffi::{self, Rooms};
+use crate::packet_reader::packet_length_with_class;
 use crate::rests::Rests;
-use crate::{ByteOrder, DiscardMode, SequenceNumber};
+use crate::{ByteOrder, DiscardMode, PacketClass, SequenceNumber};
 
 /// The most bytes of a packet, and the least: by these it is numbered and filed.
 const MOST_PACKET: usize = 65_536;
@@ -14,8 +15,18 @@ pub(crate) const HEAD: usize = 32;
 /// The bytes of a held record in front of its packet.
 pub const RECORD_HEADER: usize = 16;
 
+/// How many marks [`Engine::poll_for_events`] writes for an event: its number, the length of its packet and
+/// the number of its class ([`PacketClass::from_number`]).
+pub const MARKS: usize = 3;
+
 /// A packet and its descriptors.
 pub type PacketWithFds = (Vec<u8>, Vec<u32>);
+
+/// A packet, its descriptors and its class.
+pub type PacketWithFdsAndClass = (Vec<u8>, Vec<u32>, PacketClass);
+
+/// Where a packet was filed, under which number, and its class.
+pub type FiledWithClass = (Place, SequenceNumber, PacketClass);
 
 /// Where a packet was filed.
 #[derive(Debug, Clone, Copy, PartialEq, Eq)]
@@ -86,8 +97,7 @@ pub struct Fed {
     pub halt: Halt,
 }
 
-/// Events in two outputs: their packets one behind the other, and for each its number and the length
-/// of its packet.
+/// Events in two outputs: their packets one behind the other, and for each its [`MARKS`].
 #[derive(Debug, Clone, Copy, PartialEq, Eq)]
 pub struct Handed {
     /// How many events.
@@ -120,6 +130,13 @@ pub struct Record<'a> {
     pub packet: &'a [u8],
     /// A reply's descriptors.
     pub fds: &'a [u32],
+}
+
+impl Record<'_> {
+    /// The class of its packet.
+    pub fn class(&self) -> PacketClass {
+        packet_length_with_class(self.packet[0], 0).1
+    }
 }
 
 fn byte(kind: ReplyFdKind) -> u8 {
@@ -230,18 +247,25 @@ impl Engine {
     /// 5. At 20 that number is above the last written: the server answered what was not asked.
     #[inline]
     pub fn enqueue_packet(&mut self, packet: &[u8]) -> Result<(Place, SequenceNumber), Refusal> {
-        let (place, number) = ffi::enqueue_packet(&mut self.state, &mut self.rooms, packet)?;
+        let (place, number, _) = self.enqueue_packet_with_class(packet)?;
+        Ok((place, number))
+    }
+
+    /// The same, and the packet's class with it.
+    #[inline]
+    pub fn enqueue_packet_with_class(&mut self, packet: &[u8]) -> Result<FiledWithClass, Refusal> {
+        let (place, number, class) = ffi::enqueue_packet(&mut self.state, &mut self.rooms, packet)?;
+        let place = Place::from_number(place);
         if !self.rests.is_empty() {
-            self.filed(place, number, packet);
+            self.filed(place, number, class);
         }
-        Ok((Place::from_number(place), number))
+        Ok((place, number, class))
     }
 
     /// A packet goes on the lists beside the records.
     #[cold]
-    fn filed(&mut self, place: u8, number: SequenceNumber, packet: &[u8]) {
-        let place = Place::from_number(place);
-        self.rests.filed(place, number, packet[0] == 0);
+    fn filed(&mut self, place: Place, number: SequenceNumber, class: PacketClass) {
+        self.rests.filed(place, number, class);
         debug_assert!(self.rests_fit());
     }
 
@@ -255,7 +279,17 @@ impl Engine {
         &mut self,
         packet: Vec<u8>,
     ) -> Result<(Place, SequenceNumber), (Refusal, Vec<u8>)> {
-        match self.enqueue_packet(&packet) {
+        let (place, number, _) = self.enqueue_long_packet_with_class(packet)?;
+        Ok((place, number))
+    }
+
+    /// The same, and the packet's class with it.
+    #[inline]
+    pub fn enqueue_long_packet_with_class(
+        &mut self,
+        packet: Vec<u8>,
+    ) -> Result<FiledWithClass, (Refusal, Vec<u8>)> {
+        match self.enqueue_packet_with_class(&packet) {
             Ok(filed) => {
                 self.spare(packet);
                 Ok(filed)
@@ -270,11 +304,11 @@ impl Engine {
         &mut self,
         refusal: Refusal,
         packet: Vec<u8>,
-    ) -> Result<(Place, SequenceNumber), (Refusal, Vec<u8>)> {
+    ) -> Result<FiledWithClass, (Refusal, Vec<u8>)> {
         if refusal != Refusal::LongPacket {
             return Err((refusal, packet));
         }
-        let filed = match self.enqueue_packet(&packet[..HEAD]) {
+        let filed = match self.enqueue_packet_with_class(&packet[..HEAD]) {
             Ok(filed) => filed,
             Err(refusal) => return Err((refusal, packet)),
         };
@@ -317,7 +351,17 @@ impl Engine {
         &mut self,
         number: SequenceNumber,
     ) -> Result<Option<PacketWithFds>, Refusal> {
-        let (found, size, count) = ffi::poll_for_reply_or_error(
+        let answer = self.poll_for_reply_or_error_with_class(number)?;
+        Ok(answer.map(|(packet, fds, _)| (packet, fds)))
+    }
+
+    /// The same, and the packet's class with it.
+    #[inline]
+    pub fn poll_for_reply_or_error_with_class(
+        &mut self,
+        number: SequenceNumber,
+    ) -> Result<Option<PacketWithFdsAndClass>, Refusal> {
+        let (found, size, count, class) = ffi::poll_for_reply_or_error(
             &mut self.state,
             &mut self.rooms,
             number,
@@ -328,7 +372,7 @@ impl Engine {
             return Ok(None);
         }
         let packet = self.reply(number, size);
-        Ok(Some((packet, self.fds[..count].to_vec())))
+        Ok(Some((packet, self.fds[..count].to_vec(), class)))
     }
 
     /// Whether a sync must be sent before `poll_check_for_reply_or_error` can tell.
@@ -347,6 +391,16 @@ impl Engine {
         &mut self,
         number: SequenceNumber,
     ) -> Result<PollReply, Refusal> {
+        let answer = self.poll_check_for_reply_or_error_with_class(number)?;
+        Ok(answer.into())
+    }
+
+    /// The same, and the packet's class with it.
+    #[inline]
+    pub fn poll_check_for_reply_or_error_with_class(
+        &mut self,
+        number: SequenceNumber,
+    ) -> Result<PollReplyWithClass, Refusal> {
         let answer = ffi::poll_check_for_reply_or_error(
             &mut self.state,
             &mut self.rooms,
@@ -359,6 +413,16 @@ impl Engine {
     /// The oldest reply of a request; its descriptors are to be closed. An error becomes an event.
     #[inline]
     pub fn poll_for_reply(&mut self, number: SequenceNumber) -> Result<PollReply, Refusal> {
+        let answer = self.poll_for_reply_with_class(number)?;
+        Ok(answer.into())
+    }
+
+    /// The same, and the packet's class with it.
+    #[inline]
+    pub fn poll_for_reply_with_class(
+        &mut self,
+        number: SequenceNumber,
+    ) -> Result<PollReplyWithClass, Refusal> {
         let answer = ffi::poll_for_reply(&mut self.state, &mut self.rooms, number, &mut self.out)?;
         if answer.0 == NO_REPLY && !self.rests.is_empty() {
             self.rests.became_event(number);
@@ -368,11 +432,15 @@ impl Engine {
     }
 
     #[inline]
-    fn polled(&mut self, number: SequenceNumber, (result, size): (u8, usize)) -> PollReply {
+    fn polled(
+        &mut self,
+        number: SequenceNumber,
+        (result, size, class): (u8, usize, PacketClass),
+    ) -> PollReplyWithClass {
         match result {
-            0 => PollReply::TryAgain,
-            NO_REPLY => PollReply::NoReply,
-            _ => PollReply::Reply(self.reply(number, size)),
+            0 => PollReplyWithClass::TryAgain,
+            NO_REPLY => PollReplyWithClass::NoReply,
+            _ => PollReplyWithClass::Reply(self.reply(number, size), class),
         }
     }
 
@@ -419,20 +487,27 @@ impl Engine {
     pub fn poll_for_event_with_sequence(
         &mut self,
     ) -> Result<Option<(Vec<u8>, SequenceNumber)>, Refusal> {
-        let (found, number, size) =
+        let event = self.poll_for_event_with_class()?;
+        Ok(event.map(|(packet, number, _)| (packet, number)))
+    }
+
+    /// The same, and the class with it: an error that nobody waits for stands among the events.
+    #[inline]
+    pub fn poll_for_event_with_class(&mut self) -> Result<Option<EventWithClass>, Refusal> {
+        let (found, number, size, class) =
             ffi::poll_for_event_with_sequence(&mut self.state, &mut self.rooms, &mut self.out)?;
         if found == 0 {
             return Ok(None);
         }
         if self.rests.is_empty() {
-            return Ok(Some((self.handed(size), number)));
+            return Ok(Some((self.handed(size), number, class)));
         }
         let long = self.rests.event();
-        Ok(Some((self.joined(long, size), number)))
+        Ok(Some((self.joined(long, size), number, class)))
     }
 
-    /// As many events as fit, oldest first: packets into `out`, and number and length of each into
-    /// `marks`. Refused by 8 where there is an event and not even one fits.
+    /// As many events as fit, oldest first: packets into `out`, and the [`MARKS`] of each, which are number,
+    /// length and class, into `marks`. Refused by 8 where there is an event and not even one fits.
     pub fn poll_for_events(
         &mut self,
         out: &mut [u8],
@@ -458,15 +533,16 @@ impl Engine {
     ) -> Result<Handed, Refusal> {
         let (mut count, mut bytes) = (0, 0);
         while let Some(size) = self.oldest_event() {
-            if out.len() - bytes < size || marks.len() - 2 * count < 2 {
+            let at = MARKS * count;
+            if out.len() - bytes < size || marks.len() - at < MARKS {
                 let stop = Stop::Refused(Refusal::OutShort);
                 let handed = Handed { count, bytes, stop };
                 return (count > 0).then_some(handed).ok_or(Refusal::OutShort);
             }
-            let event = self.poll_for_event_with_sequence()?;
-            let (packet, number) = event.expect("there is an event");
+            let event = self.poll_for_event_with_class()?;
+            let (packet, number, class) = event.expect("there is an event");
             out[bytes..bytes + size].copy_from_slice(&packet);
-            marks[2 * count..2 * count + 2].copy_from_slice(&[number, size as u64]);
+            marks[at..at + MARKS].copy_from_slice(&[number, size as u64, class.number()]);
             (count, bytes) = (count + 1, bytes + size);
         }
         let stop = Stop::End;

@@ -11,7 +11,7 @@ extern "C" {
         number: &mut u64,
         next: &mut u64,
     ) -> u32;
-    pub fn xm_packet_length(code: u8, field: u32) -> usize;
+    pub fn xm_packet_length(code: u8, field: u32, packet_class: &mut u8) -> usize;
     pub fn xm_check_packet(order: u8, packet: *const u8, packet_len: usize, first: u8) -> u32;
     pub fn xm_error(
         order: u8,
@@ -107,6 +107,7 @@ extern "C" {
         buf_len: usize,
         amount: usize,
         size: &mut usize,
+        packet_class: &mut u8,
     ) -> u32;
     pub fn xm_setup_request(
         order: u8,
@@ -248,6 +249,7 @@ extern "C" {
         packet_len: usize,
         place: &mut u8,
         number: &mut u64,
+        packet_class: &mut u8,
     ) -> u32;
     pub fn xm_enqueue_packets(
         state: *mut u64,
@@ -281,6 +283,7 @@ extern "C" {
         found: &mut u8,
         size: &mut usize,
         count: &mut usize,
+        packet_class: &mut u8,
     ) -> u32;
     pub fn xm_prepare_check_for_reply_or_error(
         state: *const u64,
@@ -308,6 +311,7 @@ extern "C" {
         out_len: usize,
         result: &mut u8,
         size: &mut usize,
+        packet_class: &mut u8,
     ) -> u32;
     pub fn xm_poll_for_reply(
         state: *mut u64,
@@ -323,6 +327,7 @@ extern "C" {
         out_len: usize,
         result: &mut u8,
         size: &mut usize,
+        packet_class: &mut u8,
     ) -> u32;
     pub fn xm_poll_for_event_with_sequence(
         state: *mut u64,
@@ -338,6 +343,7 @@ extern "C" {
         found: &mut u8,
         number: &mut u64,
         size: &mut usize,
+        packet_class: &mut u8,
     ) -> u32;
     pub fn xm_poll_for_events(
         state: *mut u64,

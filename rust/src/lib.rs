@@ -13,6 +13,8 @@
 //!   takes its key bits for one.
 //! - A packet whose number is above that of the last request sent is refused ([`Refusal::Ahead`]); the original
 //!   takes it in.
+//! - What kind of packet it is (error, reply, event, generic event, and whether SendEvent made it) is told as a
+//!   [`PacketClass`] by calls that end in `_with_class`, beside those of the original.
 //!
 //! [`engine::Engine`] is the connection without those habits: every call answers its refusal,
 //! descriptors are opaque numbers, and everything that is held can be looked at.
@@ -53,6 +55,7 @@ pub mod errors;
 pub mod exports;
 mod ffi;
 pub mod id_allocator;
+mod packet_class;
 pub mod packet_reader;
 pub mod protocol;
 mod rests;
@@ -63,6 +66,7 @@ mod surface;
 pub mod x11_utils;
 
 pub use errors::Refusal;
+pub use packet_class::PacketClass;
 
 /// The program of README.md is built with the examples.
 #[cfg(doctest)]

@@ -2,10 +2,13 @@
 
 use crate::engine::HEAD;
 use crate::errors::Refusal;
-use crate::{ffi, ByteOrder};
+use crate::{ffi, ByteOrder, PacketClass};
 
 /// The buffer that `PacketReader::new` takes: as large as it may be.
 const BUFFER: usize = 65_536;
+
+/// A whole packet and its class.
+pub type PacketWithClass = (Vec<u8>, PacketClass);
 
 /// A partial packet.
 ///
@@ -32,21 +35,23 @@ pub struct PacketReader {
     long: Option<Box<Long>>,
 }
 
-/// A packet that is longer than the buffer: what came and the part that is lent, how much came, and how
-/// long it will be.
+/// A packet that is longer than the buffer: what came and the part that is lent, how much came, how long it
+/// will be, and its class.
 #[derive(Debug, Clone)]
 struct Long {
     bytes: Vec<u8>,
     filled: usize,
     wanted: usize,
+    class: PacketClass,
 }
 
 impl Long {
-    fn new(head: &[u8], wanted: usize) -> Self {
+    fn new(head: &[u8], (wanted, class): (usize, PacketClass)) -> Self {
         let mut long = Long {
             bytes: head.to_vec(),
             filled: head.len(),
             wanted,
+            class,
         };
         long.lengthen();
         long
@@ -154,10 +159,16 @@ impl PacketReader {
     /// answers the refusal.
     #[inline]
     pub fn advance(&mut self, amount: usize) -> Option<Vec<u8>> {
+        self.advance_with_class(amount).map(|(packet, _)| packet)
+    }
+
+    /// The same, and the packet's class with it.
+    #[inline]
+    pub fn advance_with_class(&mut self, amount: usize) -> Option<PacketWithClass> {
         if !self.is_gathering() {
             match ffi::reader_advance(&mut self.state, &self.buffer, amount) {
-                Ok(0) => return None,
-                Ok(size) => return Some(self.buffer[..size].to_vec()),
+                Ok((0, _)) => return None,
+                Ok((size, class)) => return Some((self.buffer[..size].to_vec(), class)),
                 Err(_) => {}
             }
         }
@@ -166,8 +177,8 @@ impl PacketReader {
 
     /// The same for a packet that is longer than the buffer, and for a refusal.
     #[cold]
-    fn gather(&mut self, amount: usize) -> Option<Vec<u8>> {
-        match self.try_advance(amount) {
+    fn gather(&mut self, amount: usize) -> Option<PacketWithClass> {
+        match self.try_advance_with_class(amount) {
             Ok(packet) => packet,
             Err(Refusal::LongPacket) => {
                 self.start_gathering();
@@ -181,19 +192,29 @@ impl PacketReader {
     /// `advance` with the same amount begins to gather the packet.
     #[inline]
     pub fn try_advance(&mut self, amount: usize) -> Result<Option<Vec<u8>>, Refusal> {
+        let whole = self.try_advance_with_class(amount)?;
+        Ok(whole.map(|(packet, _)| packet))
+    }
+
+    /// The same, and the packet's class with it.
+    #[inline]
+    pub fn try_advance_with_class(
+        &mut self,
+        amount: usize,
+    ) -> Result<Option<PacketWithClass>, Refusal> {
         if self.is_gathering() {
             return self.advance_long(amount);
         }
         match ffi::reader_advance(&mut self.state, &self.buffer, amount)? {
-            0 => Ok(None),
-            size => Ok(Some(self.buffer[..size].to_vec())),
+            (0, _) => Ok(None),
+            (size, class) => Ok(Some((self.buffer[..size].to_vec(), class))),
         }
     }
 
     #[cold]
-    fn advance_long(&mut self, amount: usize) -> Result<Option<Vec<u8>>, Refusal> {
+    fn advance_long(&mut self, amount: usize) -> Result<Option<PacketWithClass>, Refusal> {
         match self.long.as_mut().map(|long| long.advance(amount)) {
-            Some(Ok(true)) => Ok(self.long.take().map(|long| long.bytes)),
+            Some(Ok(true)) => Ok(self.long.take().map(|long| (long.bytes, long.class))),
             Some(Err(refusal)) => Err(refusal),
             _ => Ok(None),
         }
@@ -207,13 +228,20 @@ impl PacketReader {
             true => u32::from_le_bytes(field),
             false => u32::from_be_bytes(field),
         };
-        self.long = Some(Box::new(Long::new(head, packet_length(head[0], field))));
+        let framed = packet_length_with_class(head[0], field);
+        self.long = Some(Box::new(Long::new(head, framed)));
         self.state[ffi::READER_FILLED] = 0;
     }
 }
 
 /// How many bytes a packet has that begins with code and whose 32-bit field at bytes 4 to 7 is field.
 pub fn packet_length(code: u8, field: u32) -> usize {
+    packet_length_with_class(code, field).0
+}
+
+/// The framing rule: the same, and the packet's class, which the code alone decides.
+#[inline]
+pub fn packet_length_with_class(code: u8, field: u32) -> (usize, PacketClass) {
     ffi::packet_length(code, field)
 }
 
@@ -336,5 +364,24 @@ mod test {
     fn lengths() {
         assert_eq!(packet_length(163, 2), 40);
         assert_eq!(packet_length(129, 5), 32);
+    }
+
+    /// A packet of any first byte that fits the buffer, or is gathered, has the class of the framing rule.
+    #[test]
+    fn classes() {
+        for (code, buffer) in (0..=255).flat_map(|code| [(code, 32), (code, 64)]) {
+            let mut reader = PacketReader::with_buffer(ByteOrder::Big, buffer).unwrap();
+            let (length, class) = packet_length_with_class(code, 2);
+            let mut packet = vec![7; length];
+            packet[..8].copy_from_slice(&[code, 0, 0, 0, 0, 0, 0, 2]);
+            reader.buffer().copy_from_slice(&packet[..32]);
+            let mut whole = reader.advance_with_class(32);
+            if length > 32 {
+                assert_eq!(whole, None);
+                reader.buffer().copy_from_slice(&packet[32..]);
+                whole = reader.try_advance_with_class(8).unwrap();
+            }
+            assert_eq!(whole, Some((packet, class)), "{code}, a buffer of {buffer}");
+        }
     }
 }

@@ -7,7 +7,7 @@
 use std::collections::VecDeque;
 
 use crate::engine::{Place, Record};
-use crate::{DiscardMode, SequenceNumber};
+use crate::{DiscardMode, PacketClass, SequenceNumber};
 
 /// A long packet, whole, so that nothing is copied when it is handed out. None for a packet of which
 /// the engine holds everything.
@@ -16,7 +16,7 @@ type Long = Option<Vec<u8>>;
 #[derive(Debug, Clone)]
 struct Reply {
     number: SequenceNumber,
-    is_error: bool,
+    class: PacketClass,
     long: Long,
 }
 
@@ -34,11 +34,11 @@ impl Rests {
     }
 
     /// A packet was filed as the last of its place.
-    pub(crate) fn filed(&mut self, place: Place, number: SequenceNumber, is_error: bool) {
+    pub(crate) fn filed(&mut self, place: Place, number: SequenceNumber, class: PacketClass) {
         match place {
             Place::Replies => self.replies.push_back(Reply {
                 number,
-                is_error,
+                class,
                 long: None,
             }),
             Place::Events => self.events.push_back(None),
@@ -49,7 +49,7 @@ impl Rests {
     /// The records behind those that are listed were filed since.
     pub(crate) fn catch_up<'a>(&mut self, records: impl Iterator<Item = Record<'a>>) {
         for record in records.skip(self.replies.len() + self.events.len()) {
-            self.filed(record.place, record.number, record.packet[0] == 0);
+            self.filed(record.place, record.number, record.class());
         }
     }
 
@@ -89,10 +89,11 @@ impl Rests {
     #[cold]
     pub(crate) fn discarded(&mut self, number: SequenceNumber, mode: DiscardMode) {
         while let Some(reply) = self.oldest(number) {
-            if reply.is_error && mode == DiscardMode::DiscardReply {
-                self.events.push_back(reply.long);
-            } else {
-                self.leave(reply.long);
+            match (reply.class, mode) {
+                (PacketClass::Error, DiscardMode::DiscardReply) => {
+                    self.events.push_back(reply.long)
+                }
+                _ => drop(self.leave(reply.long)),
             }
         }
     }

@@ -5,7 +5,7 @@ use xiengmado::engine::{Engine, Halt, Handed, Place, Stop};
 use xiengmado::id_allocator::IdAllocator;
 use xiengmado::packet_reader::PacketReader;
 use xiengmado::savepoint::SaveError;
-use xiengmado::{ByteOrder, DiscardMode, Refusal};
+use xiengmado::{ByteOrder, DiscardMode, PacketClass, Refusal};
 
 const REPLY: DiscardMode = DiscardMode::DiscardReply;
 const BOTH: DiscardMode = DiscardMode::DiscardReplyAndError;
@@ -270,16 +270,17 @@ fn behind_a_run_of_short_packets() {
 #[test]
 fn many_events_at_once() {
     let packets = [short(2, 1, 1), long(3, 1, 2), short(4, 1, 3)];
-    let (mut out, mut marks) = (vec![0; 70_000], [0; 4]);
+    let (mut out, mut marks) = (vec![0; 70_000], [0; 6]);
     let mut engine = engine(1, &packets);
     let short = Stop::Refused(Refusal::OutShort);
     let mut poll = |out: &mut [u8], marks: &mut [u64]| engine.poll_for_events(out, marks);
     let handed = |count, bytes, stop| Ok(Handed { count, bytes, stop });
     assert_eq!(poll(&mut out[..31], &mut marks), Err(Refusal::OutShort));
     assert_eq!(poll(&mut out[..65_000], &mut marks), handed(1, 32, short));
-    assert_eq!(poll(&mut out, &mut marks[..1]), Err(Refusal::OutShort));
-    assert_eq!(poll(&mut out, &mut marks[..2]), handed(1, 65_539, short));
-    assert!((&out[..65_539], marks[1]) == (&packets[1][..], 65_539));
+    assert_eq!(poll(&mut out, &mut marks[..2]), Err(Refusal::OutShort));
+    assert_eq!(poll(&mut out, &mut marks[..3]), handed(1, 65_539, short));
+    let due = [1, 65_539, PacketClass::Event.number()];
+    assert!((&out[..65_539], &marks[..3]) == (&packets[1][..], &due));
     assert_eq!(poll(&mut out, &mut marks), handed(1, 32, Stop::End));
 }
 

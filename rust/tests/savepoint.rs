@@ -245,17 +245,19 @@ fn answer(client: &mut Player, call: &Call) -> String {
     match call {
         Call::Send(kind) => format!("{:?}", e.send_request(*kind)),
         Call::Fds(fds) => format!("{:?}", e.enqueue_fds(fds)),
-        Call::Packet(packet) => format!("{:?}", e.enqueue_packet(packet)),
+        Call::Packet(packet) => format!("{:?}", e.enqueue_packet_with_class(packet)),
         Call::Discard(number, mode) => format!("{:?}", e.discard_reply(*number, *mode)),
-        Call::Reply(number) => format!("{:?}", e.poll_for_reply(*number)),
-        Call::Check(number) => format!("{:?}", e.poll_check_for_reply_or_error(*number)),
-        Call::ReplyOrError(number) => format!("{:?}", e.poll_for_reply_or_error(*number)),
-        Call::Event => format!("{:?}", e.poll_for_event_with_sequence()),
+        Call::Reply(number) => format!("{:?}", e.poll_for_reply_with_class(*number)),
+        Call::Check(number) => format!("{:?}", e.poll_check_for_reply_or_error_with_class(*number)),
+        Call::ReplyOrError(number) => {
+            format!("{:?}", e.poll_for_reply_or_error_with_class(*number))
+        }
+        Call::Event => format!("{:?}", e.poll_for_event_with_class()),
         Call::Close => format!("{:?}", e.take_closed_fds()),
         Call::Bytes(bytes) => {
             let n = bytes.len().min(client.reader.buffer().len());
             client.reader.buffer()[..n].copy_from_slice(&bytes[..n]);
-            format!("{:?}", client.reader.try_advance(n))
+            format!("{:?}", client.reader.try_advance_with_class(n))
         }
         Call::Id => format!("{:?}", client.ids.generate_id()),
         Call::Range(start_id, count) => {

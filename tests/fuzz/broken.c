@@ -34,16 +34,18 @@ uint32_t __wrap_xm_send_request(STATE, REQUESTS, STORE, SLOTS, uint8_t kind, uin
 }
 
 uint32_t __real_xm_poll_for_reply(STATE, REQUESTS, STORE, SLOTS, uint64_t number, uint8_t *out,
-                                  size_t out_len, uint8_t *result, size_t *size);
+                                  size_t out_len, uint8_t *result, size_t *size, uint8_t *class);
 uint32_t __wrap_xm_poll_for_reply(STATE, REQUESTS, STORE, SLOTS, uint64_t number, uint8_t *out,
-                                  size_t out_len, uint8_t *result, size_t *size) {
-    uint32_t answer = __real_xm_poll_for_reply(LENT, number, out, out_len, result, size);
+                                  size_t out_len, uint8_t *result, size_t *size, uint8_t *class) {
+    uint32_t answer = __real_xm_poll_for_reply(LENT, number, out, out_len, result, size, class);
     if (broken() == 8 && answer == XM_BAD_ROOM) return XM_OUT_SHORT;               /* 9 was due */
     if (broken() == 9 && answer == 0 && *size < out_len) out[*size] ^= 1;          /* behind the packet */
     if (broken() == 10 && answer == 0 && *result == 2) state[XM_STATE_WAITING]--;  /* unsound, at times */
     if (broken() == 11 && answer == 0) *result = 0;                                /* outcomes missed */
     if (broken() == 12 && answer != 0) *size = 0;                                  /* a number changed */
     if (broken() == 13 && answer == 0) result[1] = 0;                              /* beside a number */
+    if (broken() == 31 && answer == 0 && *result == 1) *class = XM_CLASS_REPLY;    /* a class of no packet */
+    if (broken() == 32 && answer == XM_OUT_SHORT) *class = XM_CLASS_REPLY;         /* a class by a refusal */
     return answer;
 }
 
@@ -88,12 +90,14 @@ uint32_t __wrap_xm_restore(const uint8_t *bytes, size_t bytes_len, STATE, REQUES
 }
 
 uint32_t __real_xm_enqueue_packet(STATE, REQUESTS, STORE, SLOTS, const uint8_t *packet, size_t packet_len,
-                                  uint8_t *place, uint64_t *number);
+                                  uint8_t *place, uint64_t *number, uint8_t *class);
 uint32_t __wrap_xm_enqueue_packet(STATE, REQUESTS, STORE, SLOTS, const uint8_t *packet, size_t packet_len,
-                                  uint8_t *place, uint64_t *number) {
-    uint32_t answer = __real_xm_enqueue_packet(LENT, packet, packet_len, place, number);
+                                  uint8_t *place, uint64_t *number, uint8_t *class) {
+    uint32_t answer = __real_xm_enqueue_packet(LENT, packet, packet_len, place, number, class);
     if (broken() == 27 && answer == XM_AHEAD && store_len == 48) return XM_NO_ROOM; /* 5 before 20 */
     if (broken() == 28 && answer == XM_FEW_DESCRIPTORS) return XM_AHEAD;            /* 20 for what was asked */
+    if (broken() == 33 && answer == 0 && packet[0] == 129) *class = XM_CLASS_REPLY; /* the top bit dropped */
+    if (broken() == 34 && answer == 0 && *place == XM_DROPPED) *class = 0;          /* a reply dropped: no class */
     return answer;
 }
 
@@ -105,5 +109,35 @@ uint32_t __wrap_xm_enqueue_packets(STATE, REQUESTS, STORE, SLOTS, const uint8_t 
     if (answer != 0 || *stop != XM_AHEAD) return answer;
     if (broken() == 29) *stop = XM_NO_ROOM;                                     /* 5 before 20 */
     if (broken() == 30) state[XM_STATE_READ] = state[XM_STATE_WRITTEN] + 1;     /* what is ahead, read */
+    return answer;
+}
+
+uint32_t __real_xm_reader_advance(uint64_t *row, size_t row_len, const uint8_t *buf, size_t buf_len,
+                                  size_t amount, size_t *size, uint8_t *class);
+uint32_t __wrap_xm_reader_advance(uint64_t *row, size_t row_len, const uint8_t *buf, size_t buf_len,
+                                  size_t amount, size_t *size, uint8_t *class) {
+    uint32_t answer = __real_xm_reader_advance(row, row_len, buf, buf_len, amount, size, class);
+    if (broken() == 35 && answer == 0 && *size == 0 && buf[0] == 1) *class = XM_CLASS_REPLY; /* too early */
+    return answer;
+}
+
+uint32_t __real_xm_poll_for_event_with_sequence(STATE, REQUESTS, STORE, SLOTS, uint8_t *out, size_t out_len,
+                                                uint8_t *found, uint64_t *number, size_t *size, uint8_t *class);
+uint32_t __wrap_xm_poll_for_event_with_sequence(STATE, REQUESTS, STORE, SLOTS, uint8_t *out, size_t out_len,
+                                                uint8_t *found, uint64_t *number, size_t *size, uint8_t *class) {
+    uint32_t answer = __real_xm_poll_for_event_with_sequence(LENT, out, out_len, found, number, size, class);
+    if (broken() == 36 && answer == 0 && *found && out[0] == 0) *class = XM_CLASS_EVENT; /* an error is none */
+    return answer;
+}
+
+uint32_t __real_xm_poll_for_events(STATE, REQUESTS, STORE, SLOTS, uint8_t *out, size_t out_len, uint64_t *marks,
+                                   size_t marks_len, size_t *count, size_t *size, uint32_t *stop);
+uint32_t __wrap_xm_poll_for_events(STATE, REQUESTS, STORE, SLOTS, uint8_t *out, size_t out_len, uint64_t *marks,
+                                   size_t marks_len, size_t *count, size_t *size, uint32_t *stop) {
+    uint32_t answer = __real_xm_poll_for_events(LENT, out, out_len, marks, marks_len, count, size, stop);
+    if (answer != 0 || *count < 2) return answer;
+    uint64_t *second = marks + XM_MARKS;
+    if (broken() == 37 && second[XM_MARK_CLASS] == XM_CLASS_SENT_GENERIC) second[XM_MARK_CLASS]--; /* not sent */
+    if (broken() == 38) second[XM_MARK_CLASS] = marks[XM_MARK_CLASS];                       /* the first's class */
     return answer;
 }

@@ -110,25 +110,27 @@ static size_t some_packet(void) {
 void enqueue_packet(void) {
     bool sound = lend_some(W_STATE | W_STORE | W_SLOTS);
     size_t size = some_packet();
-    uint8_t *packet = lend(INPUT, bytes, size, READ), *place = lend_number(1);
+    uint8_t *packet = lend(INPUT, bytes, size, READ), *place = lend_number(1), *class = lend_number(1);
     uint64_t *number = lend_number(8);
     bool ahead = sound && size >= 32 && size <= XM_MOST_PACKET && packet_ahead(lent.state, packet);
-    uint32_t answer = xm_enqueue_packet(LENT, packet, size, place, number);
+    uint32_t answer = xm_enqueue_packet(LENT, packet, size, place, number, class);
     settle(answer, sound);
     if ((answer == XM_AHEAD) != ahead) report_fault("refused by 20 elsewhere than ahead");
     report_outcome(answer, *place);
+    report_class(answer, *class, packet);
 }
 
 void poll_for_reply_or_error(void) {
     bool sound = lend_some(W_STATE | W_STORE | W_SLOTS);
     size_t out_len, fds_len, *size = lend_number(sizeof *size), *count = lend_number(sizeof *count);
-    uint8_t *out = lend_out(&out_len), *found = lend_number(1);
-    uint32_t *fds = lend_fds(&fds_len);
-    uint32_t answer = xm_poll_for_reply_or_error(LENT, some_number(), out, out_len, fds, fds_len, found, size, count);
+    uint8_t *out = lend_out(&out_len), *found = lend_number(1), *class = lend_number(1);
+    uint32_t *fds = lend_fds(&fds_len), answer;
+    answer = xm_poll_for_reply_or_error(LENT, some_number(), out, out_len, fds, fds_len, found, size, count, class);
     lent_limit(OUT, *size);
     lent_limit(FDS, 4 * *count);
     settle(answer, sound);
     report_outcome(answer, *found);
+    report_class(answer, *class, *found ? out : NULL);
 }
 
 void prepare_check(void) {
@@ -140,16 +142,17 @@ void prepare_check(void) {
 }
 
 typedef enum xm_refusal poll(uint64_t *, size_t, const uint8_t *, size_t, uint8_t *, size_t, uint32_t *, size_t,
-                             uint64_t, uint8_t *, size_t, uint8_t *, size_t *);
+                             uint64_t, uint8_t *, size_t, uint8_t *, size_t *, uint8_t *);
 
 static void poll_by(poll *call) {
     bool sound = lend_some(W_STATE | W_STORE | W_SLOTS);
     size_t out_len, *size = lend_number(sizeof *size);
-    uint8_t *out = lend_out(&out_len), *result = lend_number(1);
-    uint32_t answer = call(LENT, some_number(), out, out_len, result, size);
+    uint8_t *out = lend_out(&out_len), *result = lend_number(1), *class = lend_number(1);
+    uint32_t answer = call(LENT, some_number(), out, out_len, result, size, class);
     lent_limit(OUT, *size);
     settle(answer, sound);
     report_outcome(answer, *result);
+    report_class(answer, *class, *result == XM_REPLY ? out : NULL);
 }
 
 void poll_check(void) {
@@ -163,12 +166,13 @@ void poll_for_reply(void) {
 void poll_for_event(void) {
     bool sound = lend_some(W_STATE | W_STORE);
     size_t out_len, *size = lend_number(sizeof *size);
-    uint8_t *out = lend_out(&out_len), *found = lend_number(1);
+    uint8_t *out = lend_out(&out_len), *found = lend_number(1), *class = lend_number(1);
     uint64_t *number = lend_number(8);
-    uint32_t answer = xm_poll_for_event_with_sequence(LENT, out, out_len, found, number, size);
+    uint32_t answer = xm_poll_for_event_with_sequence(LENT, out, out_len, found, number, size, class);
     lent_limit(OUT, *size);
     settle(answer, sound);
     report_outcome(answer, *found);
+    report_class(answer, *class, *found ? out : NULL);
 }
 
 void take_closed_fds(void) {

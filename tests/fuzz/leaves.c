@@ -41,18 +41,19 @@ void send(void) {
 
 void packet_length(void) {
     static const uint8_t codes[] = {0, 1, 11, 35, 129, 163};
-    uint8_t code = once(2) ? PICK(codes) : (uint8_t)below(256);
+    uint8_t code = once(2) ? PICK(codes) : (uint8_t)below(256), *class = lend_number(1);
     uint32_t field = (uint32_t)wide();
     bool more = code == 1 || code == 35 || code == 163;
     size_t due = 32 + (more ? 4 * (size_t)field : 0);
-    if (xm_packet_length(code, field) != due) report_fault("another length is due");
+    if (xm_packet_length(code, field, class) != due) report_fault("another length is due");
     report_answer(XM_DONE, true);
+    report_class(XM_DONE, *class, &code);
 }
 
 /* A packet of any kind, mostly a whole one; its length goes to size. */
 static uint8_t *lend_packet(uint8_t order, uint8_t first, size_t *size) {
     static const size_t sizes[] = {0, 1, 31, 33, 36, 40, 64, 100};
-    *size = once(500) ? 65536 + below(2) : once(3) ? PICK(sizes) : 32 + 4 * below(4);
+    *size = once(100) ? 65536 + below(2) : once(3) ? PICK(sizes) : 32 + 4 * below(4);
     fill(bytes, *size);
     if (*size >= 32) {
         if (!once(8)) bytes[0] = first;

@@ -65,8 +65,16 @@ void enqueue_packets(void) {
     if (answer == 0) look_ahead(read, run + *took, *stop);
 }
 
+/* The marks tell the class of each of so many packets, which stand one behind the other. */
+static void look_at_classes(const uint8_t *packet, const uint64_t *mark, size_t count) {
+    for (; count > 0; count--, mark += XM_MARKS) {
+        report_class(XM_DONE, mark[XM_MARK_CLASS], packet);
+        packet += mark[XM_MARK_LENGTH];
+    }
+}
+
 void poll_for_events(void) {
-    static const size_t sizes[] = {0, 31, 32, 64, 100, 300, 600, 2000}, rows[] = {0, 1, 2, 3, 4, 16, 16, MOST_MARKS};
+    static const size_t sizes[] = {0, 31, 32, 64, 100, 300, 600, 2000}, rows[] = {0, 2, 3, 4, 5, 6, 24, MOST_MARKS};
     bool sound = lend_some(W_STATE | W_STORE);
     size_t out_len = PICK(sizes), marks_len = PICK(rows);
     size_t *count = lend_number(sizeof *count), *size = lend_number(sizeof *size);
@@ -75,7 +83,8 @@ void poll_for_events(void) {
     uint32_t *stop = lend_number(4);
     uint32_t answer = xm_poll_for_events(LENT, out, out_len, numbers, marks_len, count, size, stop);
     lent_limit(OUT, *size);
-    lent_limit(SECOND, 16 * *count);
+    lent_limit(SECOND, 8 * XM_MARKS * *count);
     settle(answer, sound);
     report_outcome(answer, *stop == XM_STOP_END ? *count > 0 : 2);
+    if (answer == 0) look_at_classes(out, numbers, *count);
 }

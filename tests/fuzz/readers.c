@@ -49,6 +49,7 @@ void fresh_readers(void) {
     xm_connect_new(connect.home.row, XM_SLOTS, XM_LITTLE, connect.home.buf, 100);
 }
 
+/* Half of the changed bits are the first byte's. */
 static void spoil(const struct kind *kind) {
     static const size_t lengths[] = {0, 1, 2, 4};
     uint64_t *slot = &trial.row[below(XM_SLOTS)];
@@ -60,7 +61,7 @@ static void spoil(const struct kind *kind) {
     case 2: *slot = trial.row[below(XM_SLOTS)]; break;
     case 3: trial.row_len = PICK(lengths); break;
     case 4: length = edges[once(40) ? below(8) : below(6)]; break;
-    default: trial.buf[below(trial.buf_len < 9 ? trial.buf_len : 9)] ^= (uint8_t)(1u << below(8));
+    default: trial.buf[once(2) ? 0 : below(trial.buf_len < 9 ? trial.buf_len : 9)] ^= (uint8_t)(1u << below(8));
     }
     if (length > kind->most + 1) length = 0;
     if (length > trial.buf_len) memset(trial.buf + trial.buf_len, 0, length - trial.buf_len);
@@ -136,10 +137,10 @@ static void place_by(struct kind *kind, place_call *call) {
 
 /* Bytes come into home's unfilled part: their number. A small length field, as a rule. */
 static uint64_t bytes_come(struct stream *s, size_t field, size_t width) {
-    static const uint8_t codes[] = {0, 1, 1, 2, 2, 35, 163, 28};
+    static const uint8_t codes[] = {0, 1, 1, 2, 129, 35, 163, 28};
     uint64_t filled = s->row[XM_READER_FILLED], remain = s->row[XM_READER_TARGET] - filled;
     fill(s->buf + filled, remain);
-    if (filled == 0) s->buf[0] = PICK(codes);
+    if (filled == 0 && !once(8)) s->buf[0] = PICK(codes);
     for (size_t i = 0; i < width && !once(30); i++) {
         bool low = i == (s->row[XM_READER_ORDER] == XM_LITTLE ? 0 : width - 1);
         if (filled <= field + i) s->buf[field + i] = (uint8_t)(low ? below(24) : once(60));
@@ -163,9 +164,11 @@ void reader_advance(void) {
     uint64_t amount = bytes_come(&reader.home, 4, 4);
     bool sound = lend_some(&reader, WRITE);
     size_t *size = lend_number(sizeof *size);
-    uint32_t answer = xm_reader_advance(LENT, amount, size);
+    uint8_t *class = lend_number(1);
+    uint32_t answer = xm_reader_advance(LENT, amount, size, class);
     settle(&reader, answer, sound);
     report_outcome(answer, *size > 0);
+    report_class(answer, *class, *size > 0 ? buf : NULL);
 }
 
 void connect_new(void) {

@@ -5,11 +5,12 @@
 #include <stdlib.h>
 
 #include "lent.h"
+#include "sound.h"
 
-enum { EXPORTS = 45, ANSWERS = 21, OUTCOMES = 4, BAD_ROOM = 9 };
+enum { EXPORTS = 45, ANSWERS = 21, OUTCOMES = 4, CLASSES = 6, BAD_ROOM = 9 };
 
 static struct met {
-    uint64_t answers[ANSWERS], outcomes[OUTCOMES], sound, unsound;
+    uint64_t answers[ANSWERS], outcomes[OUTCOMES], classes[CLASSES], sound, unsound;
 } met[EXPORTS];
 
 static unsigned now;
@@ -17,7 +18,7 @@ static uint64_t calls;
 
 #ifdef LIBFUZZER
 /* What is new to these is new to libFuzzer, which cannot see into the library. */
-__attribute__((section("__libfuzzer_extra_counters"))) static uint8_t seen[EXPORTS][ANSWERS + OUTCOMES][2];
+__attribute__((section("__libfuzzer_extra_counters"))) static uint8_t seen[EXPORTS][ANSWERS + OUTCOMES + CLASSES][2];
 #endif
 
 void report_begin(unsigned export) {
@@ -69,6 +70,28 @@ void report_outcome(uint32_t answer, unsigned outcome) {
 #endif
 }
 
+void report_class(uint32_t answer, uint64_t told, const uint8_t *packet) {
+    if (answer != 0) return;
+    if (told != (packet == NULL ? 0 : class_of(packet[0]))) report_fault("another class is due");
+    if (packet == NULL) return;
+    met[now].classes[told]++;
+#ifdef LIBFUZZER
+    seen[now][ANSWERS + OUTCOMES + told][0] = 1;
+#endif
+}
+
+/* Prints how often each class was told of those that must be; whether all were. */
+static bool report_classes(unsigned i) {
+    bool whole = true, first = true;
+    for (unsigned n = 0; n < CLASSES; n++) {
+        if ((exports[i].classes >> n & 1) == 0) continue;
+        printf("%s%u: %llu", first ? "; classes " : ", ", n, (unsigned long long)met[i].classes[n]);
+        whole &= met[i].classes[n] > 0;
+        first = false;
+    }
+    return whole;
+}
+
 static bool report_one(unsigned i) {
     const struct export *e = &exports[i];
     bool whole = met[i].answers[0] > 0;
@@ -82,6 +105,7 @@ static bool report_one(unsigned i) {
         printf("%s%llu", n == 0 ? "; outcomes " : " + ", (unsigned long long)met[i].outcomes[n]);
         whole &= met[i].outcomes[n] > 0;
     }
+    whole &= report_classes(i);
     if (e->lending == TESTED) {
         printf("; sound %llu, unsound %llu", (unsigned long long)met[i].sound, (unsigned long long)met[i].unsound);
         whole &= met[i].sound > 0 && met[i].unsound > 0;

@@ -15,6 +15,7 @@ struct export {
     enum lending lending;
     uint32_t refusals;   /* those that the header lists, a bit each */
     unsigned outcomes;   /* how many different ones an accepted call can have, where they are told apart */
+    unsigned classes;    /* those of packets that it must have told, a bit each */
 };
 
 extern const struct export exports[];
@@ -32,11 +33,14 @@ void report_answer(uint32_t answer, bool sound);
 /* The outcome of an accepted call: a number from 0. */
 void report_outcome(uint32_t answer, unsigned outcome);
 
+/* The class that an accepted call told of a packet, which is NULL where there is none. */
+void report_class(uint32_t answer, uint64_t told, const uint8_t *packet);
+
 /* Ends the run: a fault that a call has seen. */
 void report_fault(const char *what);
 
-/* Prints what every export met; false where one missed a refusal, an outcome, or a sound or an unsound
- * state. */
+/* Prints what every export met; false where one missed a refusal, an outcome, a class, or a sound or an
+ * unsound state. */
 bool report_all(void);
 
 #endif

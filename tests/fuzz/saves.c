@@ -120,10 +120,10 @@ static void stretch(void) {
     else leave_out(end - 1);
 }
 
-/* A bit of the first bytes of the partial packet, of which so many are in a whole file. */
+/* A bit of the first bytes of the partial packet, of which so many are in a whole file; half of them are the first's. */
 static void spoil_partial(size_t filled) {
     size_t at = file_size - 28 - filled;
-    if (filled > 0) file[at + below(filled < 8 ? filled : 8)] ^= (uint8_t)(1u << below(8));
+    if (filled > 0) file[at + (once(2) ? 0 : below(filled < 8 ? filled : 8))] ^= (uint8_t)(1u << below(8));
 }
 
 /* A whole file with a fault of its own, or a buffer that the partial packet just fits, or just not. */

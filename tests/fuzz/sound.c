@@ -101,6 +101,15 @@ bool packet_ahead(const uint64_t *s, const uint8_t *packet) {
     return (packet[0] & 0x7f) != 11 && number > s[WRITTEN] && number <= most_number;
 }
 
+/* "error, reply, event or generic event, and for the last two whether SendEvent made it (top bit set)": codes
+ * 0 and 1 are the first two, and 35 is the generic event, with that bit or without; each kind of event has
+ * two numbers, and the second says that it was sent. */
+uint8_t class_of(uint8_t code) {
+    if (code <= 1) return code;
+    uint8_t kind = (code & 0x7f) == 35 ? 4 : 2;
+    return code >= 128 ? kind + 1 : kind;
+}
+
 /* How long a packet is that begins so, all of its first 32 bytes being there. */
 static uint64_t packet_target(const uint8_t *buf, bool little) {
     if (buf[0] != 1 && (buf[0] & 0x7f) != 35) return 32;

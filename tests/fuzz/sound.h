@@ -1,6 +1,6 @@
 /*
- * When a state is sound, and when a packet is ahead: the rules' sentences in plain C, written from the
- * rules and the layout of the rooms, not from the engine.
+ * When a state is sound, when a packet is ahead, and what kind of packet it is: the rules' sentences in plain
+ * C, written from the rules and the layout of the rooms, not from the engine.
  */
 #ifndef SOUND_H
 #define SOUND_H
@@ -29,6 +29,9 @@ bool record_stands(const uint8_t *store, size_t store_len, size_t at, size_t end
 
 /* Whether a packet of 32 bytes or more answers what was not asked of a sound client. */
 bool packet_ahead(const uint64_t *state, const uint8_t *packet);
+
+/* The class of a packet that begins with a code, as a number. */
+uint8_t class_of(uint8_t code);
 
 /* A reader or a handshake, in three numbers beside its buffer. */
 bool reader_sound(const uint64_t *row, size_t row_len, const uint8_t *buf, size_t buf_len);

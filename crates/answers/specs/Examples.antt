@@ -6,6 +6,8 @@ use Prim.Native.Nat.{ℕ}
 use lib.ListN.{replicate}
 use Rattle.octets.specs.Logic.{choose, either}
 use Rattle.refusal.specs.Answer.{Answer, gives, refuses, refuse, pass}
+use Rattle.packet.specs.Packet as Packet
+use Rattle.packet.specs.declared.Class.the-variants as Class
 use Rattle.packet_reader.specs.Reader as Reader
 use Rattle.connect.specs.Handshake as Handshake
 use Rattle.connect.specs.Setup as Setup
@@ -18,7 +20,7 @@ use Rattle.model.specs.declared.Connection.{Connection}
 use Rattle.model.specs.declared.Place.the-variants as Place
 use Rattle.model.specs.declared.DiscardMode.the-variants as DiscardMode
 use Rattle.answers.specs.Exported.{returned, shownOf}
-use Rattle.answers.specs.Shown.{roomed, errorFields, versionFields, rangeFields, listFields, packetLength, packetReader, completed, progressed, setupRoomed, statusOf, setupFields, successRow, vendorText, reasonText, stateRow, sentIn, first, filing, polledOf, pollOf, eventOf, sendings, handings, fed, flag, isMode, modeOf, modeNumber, kindNumber}
+use Rattle.answers.specs.Shown.{roomed, errorFields, versionFields, rangeFields, listFields, packetFramed, packetReader, completed, progressed, setupRoomed, statusOf, setupFields, successRow, vendorText, reasonText, stateRow, sentIn, first, filing, polledOf, pollOf, eventOf, sendings, handings, fed, flag, isMode, modeOf, modeNumber, kindNumber}
 use Rattle.rows.specs.State.{connectionRow, sentRow}
 
 -- 0 or the number of the refusal, and after a refusal what was there; 9 for a row of another length
@@ -33,8 +35,8 @@ pub leaves : (errorFields (record { code = 3; sequence = record { 0 = 4 }; value
 leaves = (refl, refl, refl, refl)
 
 -- reader and handshake: what goes on, and what is whole
-pub progress : (packetLength (Reader.waits (record { order = 66; filled = 7; target = 32 })) ≡ 0 ∷ []) × (packetLength (Reader.whole 36 (record { order = 66; filled = 0; target = 32 })) ≡ 36 ∷ [])
-    × (packetReader (Reader.waits (record { order = 66; filled = 7; target = 32 })) ≡ record { order = 66; filled = 7; target = 32 }) × (packetReader (Reader.whole 36 (record { order = 66; filled = 0; target = 32 })) ≡ record { order = 66; filled = 0; target = 32 })
+pub progress : (packetFramed (Reader.waits (record { order = 66; filled = 7; target = 32 })) ≡ 0 ∷ 0 ∷ []) × (packetFramed (Reader.whole 36 (Packet.generic true) (record { order = 66; filled = 0; target = 32 })) ≡ 36 ∷ 5 ∷ [])
+    × (packetReader (Reader.waits (record { order = 66; filled = 7; target = 32 })) ≡ record { order = 66; filled = 7; target = 32 }) × (packetReader (Reader.whole 36 (Packet.generic true) (record { order = 66; filled = 0; target = 32 })) ≡ record { order = 66; filled = 0; target = 32 })
     × (completed (Handshake.waits (record { order = 66; filled = 7; target = 8 })) ≡ 0 ∷ []) × (completed (Handshake.complete (record { order = 66; filled = 12; target = 12 })) ≡ 1 ∷ [])
     × (progressed (Handshake.waits (record { order = 66; filled = 7; target = 8 })) ≡ record { order = 66; filled = 7; target = 8 }) × (progressed (Handshake.complete (record { order = 66; filled = 12; target = 12 })) ≡ record { order = 66; filled = 12; target = 12 })
 progress = (refl, refl, refl, refl, refl, refl, refl, refl)
@@ -53,9 +55,9 @@ setups = (refl, refl, refl, refl, refl, refl, refl, refl, refl, refl, refl, refl
 
 -- the connection: where a packet was filed, what was found and how much of it, how far a row of steps came and what stopped it
 module _ (c : Connection) where
-  pub connections : (first (7, c) ≡ 7 ∷ []) × (filing (record { place = Place.Replies; number = 5 }, c) ≡ 0 ∷ 5 ∷ []) × (filing (record { place = Place.Events; number = 6 }, c) ≡ 1 ∷ 6 ∷ []) × (filing (record { place = Place.Dropped; number = 7 }, c) ≡ 2 ∷ 7 ∷ [])
-      × (polledOf none ≡ 0 ∷ 0 ∷ 0 ∷ []) × (polledOf (packet (record { number = record { 0 = 5 }; length = 32; descriptors = 3 })) ≡ 1 ∷ 32 ∷ 3 ∷ []) × (pollOf again ≡ 0 ∷ 0 ∷ []) × (pollOf noReply ≡ 1 ∷ 0 ∷ [])
-      × (pollOf (reply (record { number = record { 0 = 5 }; length = 32; descriptors = 3 })) ≡ 2 ∷ 32 ∷ []) × (eventOf none ≡ 0 ∷ 0 ∷ 0 ∷ []) × (eventOf (packet (record { number = record { 0 = 5 }; length = 32; descriptors = 3 })) ≡ 1 ∷ 5 ∷ 32 ∷ [])
+  pub connections : (first (7, c) ≡ 7 ∷ []) × (filing (record { place = Place.Replies; number = 5; class = Packet.error }, c) ≡ 0 ∷ 5 ∷ 0 ∷ []) × (filing (record { place = Place.Events; number = 6; class = Packet.event true }, c) ≡ 1 ∷ 6 ∷ 3 ∷ []) × (filing (record { place = Place.Dropped; number = 7; class = Packet.reply }, c) ≡ 2 ∷ 7 ∷ 1 ∷ [])
+      × (polledOf none ≡ 0 ∷ 0 ∷ 0 ∷ 0 ∷ []) × (polledOf (packet (record { number = record { 0 = 5 }; length = 32; descriptors = 3; class = Class.Reply })) ≡ 1 ∷ 32 ∷ 3 ∷ 1 ∷ []) × (pollOf again ≡ 0 ∷ 0 ∷ 0 ∷ []) × (pollOf noReply ≡ 1 ∷ 0 ∷ 0 ∷ [])
+      × (pollOf (reply (record { number = record { 0 = 5 }; length = 32; descriptors = 3; class = Class.Generic })) ≡ 2 ∷ 32 ∷ 4 ∷ []) × (eventOf none ≡ 0 ∷ 0 ∷ 0 ∷ 0 ∷ []) × (eventOf (packet (record { number = record { 0 = 5 }; length = 32; descriptors = 3; class = Class.Event })) ≡ 1 ∷ 5 ∷ 32 ∷ 2 ∷ [])
       × (sendings (record { count = 3; last = 9; stopped = ended }, c) ≡ 3 ∷ 9 ∷ 0 ∷ []) × (sendings (record { count = 3; last = 9; stopped = meaningless }, c) ≡ 3 ∷ 9 ∷ 255 ∷ []) × (handings (record { count = 2; bytes = 68; stopped = refused 8 }, c) ≡ 2 ∷ 68 ∷ 8 ∷ [])
       × (fed (record { bytes = 68; packets = 2; stopped = Feed.partial }, c) ≡ 68 ∷ 2 ∷ 254 ∷ []) × (fed (record { bytes = 68; packets = 2; stopped = Feed.refused 5 }, c) ≡ 68 ∷ 2 ∷ 5 ∷ []) × (fed (record { bytes = 68; packets = 2; stopped = Feed.ended }, c) ≡ 68 ∷ 2 ∷ 0 ∷ [])
       × (stateRow {A = ℕ} (1 ∷ 2 ∷ []) (7, c) ≡ connectionRow (1 ∷ 2 ∷ []) c) × (sentIn {A = ℕ} (1 ∷ 2 ∷ []) (7, c) ≡ sentRow (1 ∷ 2 ∷ []) c)

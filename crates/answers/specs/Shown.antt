@@ -15,6 +15,9 @@ use Rattle.xc_misc.specs.declared.reply.GetXIDRangeReply.{GetXIDRangeReply}
 use Rattle.xc_misc.specs.declared.reply.GetXIDListReply.{GetXIDListReply}
 use Rattle.packet_reader.specs.Reader as Reader
 use Rattle.packet_reader.specs.declared.PacketReader.{PacketReader}
+use Rattle.packet.specs.Packet.{classNumber}
+use Rattle.packet.specs.Class.{saysClass, classed, class-back, classAt, number-back}
+use Rattle.packet_reader.specs.Frame.{Frame}
 use Rattle.connect.specs.Handshake as Handshake
 use Rattle.connect.specs.Setup as Setup
 use Rattle.connect.specs.Setup.{Reading, readFailed, readSuccess, readReply, vendorPlace, reasonPlace}
@@ -39,7 +42,7 @@ use Rattle.model.specs.declared.Place.{Place}
 use Rattle.model.specs.declared.Place.the-variants as Place
 use Rattle.model.specs.declared.DiscardMode.{DiscardMode}
 use Rattle.model.specs.declared.DiscardMode.the-variants as DiscardMode
-use Rattle.rows.specs.State.{four, connectionRow, sentRow}
+use Rattle.rows.specs.State.{four, connectionRow, keptRow, sentRow}
 
 -- no numbers; a number itself
 abbrev pub nothing : {A : Type 0} → A → List ℕ
@@ -68,14 +71,18 @@ listFields p = p .sequence .0 ∷ p .length ∷ p .count ∷ []
 
 -- ---- reader and handshake
 
--- the length of a whole packet, or 0; and the reader to go on with
-abbrev pub packetLength : Reader.Progress → List ℕ
-packetLength (Reader.waits r) = 0 ∷ []
-packetLength (Reader.whole n r) = n ∷ []
+-- what a packet's first bytes tell
+abbrev pub framed : Frame → List ℕ
+framed f = f .length ∷ classNumber (f .class) ∷ []
+
+-- the length and the class of a whole packet, or 0; and the reader to go on with
+abbrev pub packetFramed : Reader.Progress → List ℕ
+packetFramed (Reader.waits r) = 0 ∷ 0 ∷ []
+packetFramed (Reader.whole n k r) = n ∷ classNumber k ∷ []
 
 abbrev pub packetReader : Reader.Progress → PacketReader
 packetReader (Reader.waits r) = r
-packetReader (Reader.whole n r) = r
+packetReader (Reader.whole n k r) = r
 
 -- 1 for a complete reply; and the handshake to go on with
 abbrev pub completed : Handshake.Progress → List ℕ
@@ -135,6 +142,10 @@ reasonText x = reasonPlace (gives x) .start ∷ reasonPlace (gives x) .size ∷ 
 abbrev pub stateRow : {A : Type 0} → List ℕ → A × Connection → List ℕ
 stateRow s x = connectionRow s (x .1)
 
+-- the same where the row is the one that the state was read from
+abbrev pub keptIn : {A : Type 0} → List ℕ → A × Connection → List ℕ
+keptIn s x = keptRow s (x .1)
+
 -- the same where a send changed it
 abbrev pub sentIn : {A : Type 0} → List ℕ → A × Connection → List ℕ
 sentIn s x = sentRow s (x .1)
@@ -150,29 +161,33 @@ placeNumber Place.Events = 1
 placeNumber Place.Dropped = 2
 
 abbrev pub filing : Filing × Connection → List ℕ
-filing x = placeNumber (x .0 .place) ∷ x .0 .number ∷ []
+filing x = placeNumber (x .0 .place) ∷ x .0 .number ∷ classNumber (x .0 .class) ∷ []
 
--- whether a packet was found, its bytes and its descriptors
+-- the number of the class of what is handed out
+abbrev pub classOfHanded : Handed → ℕ
+classOfHanded z = classNumber (saysClass (z .class))
+
+-- whether a packet was found, its bytes, its descriptors and its class
 abbrev pub polledOf : Shown → List ℕ
-polledOf none = 0 ∷ 0 ∷ 0 ∷ []
-polledOf (packet z) = 1 ∷ z .length ∷ z .descriptors ∷ []
+polledOf none = 0 ∷ 0 ∷ 0 ∷ 0 ∷ []
+polledOf (packet z) = 1 ∷ z .length ∷ z .descriptors ∷ classOfHanded z ∷ []
 
 abbrev pub polled : Shown × Connection → List ℕ
 polled x = polledOf (x .0)
 
--- 0 for TryAgain, 1 for NoReply, 2 for a reply and its bytes
+-- 0 for TryAgain, 1 for NoReply, 2 for a reply, its bytes and its class
 abbrev pub pollOf : ShownPoll → List ℕ
-pollOf again = 0 ∷ 0 ∷ []
-pollOf noReply = 1 ∷ 0 ∷ []
-pollOf (reply z) = 2 ∷ z .length ∷ []
+pollOf again = 0 ∷ 0 ∷ 0 ∷ []
+pollOf noReply = 1 ∷ 0 ∷ 0 ∷ []
+pollOf (reply z) = 2 ∷ z .length ∷ classOfHanded z ∷ []
 
 abbrev pub poll : ShownPoll × Connection → List ℕ
 poll x = pollOf (x .0)
 
--- whether an event was found, its number and its bytes
+-- whether an event was found, its number, its bytes and its class
 abbrev pub eventOf : Shown → List ℕ
-eventOf none = 0 ∷ 0 ∷ 0 ∷ []
-eventOf (packet z) = 1 ∷ z .number .0 ∷ z .length ∷ []
+eventOf none = 0 ∷ 0 ∷ 0 ∷ 0 ∷ []
+eventOf (packet z) = 1 ∷ z .number .0 ∷ z .length ∷ classOfHanded z ∷ []
 
 abbrev pub event : Shown × Connection → List ℕ
 event x = eventOf (x .0)
@@ -289,39 +304,42 @@ place-back Place.Dropped = refl
 pub place-told : (x y : Place) → placeNumber x ≡ placeNumber y → x ≡ y
 place-told x y e = sym (place-back x) ∙ ap placeOf e ∙ place-back y
 
-handed : ℕ → ℕ → ℕ → Handed
-handed n bytes fds = record { number = record { 0 = n }; length = bytes; descriptors = fds }
+handed : ℕ → ℕ → ℕ → ℕ → Handed
+handed n bytes fds k = record { number = record { 0 = n }; length = bytes; descriptors = fds; class = classed (classAt k) }
+
+class-shown : (z : Handed) → classed (classAt (classOfHanded z)) ≡ z .class
+class-shown z = ap classed (number-back (saysClass (z .class))) ∙ class-back (z .class)
 
 backPolled : ℕ → List ℕ → Shown
-backPolled n l = choose (eqb (getD l 0 0) 0) none (packet (handed n (getD l 1 0) (getD l 2 0)))
+backPolled n l = choose (eqb (getD l 0 0) 0) none (packet (handed n (getD l 1 0) (getD l 2 0) (getD l 3 0)))
 
 polled-back : (n : ℕ) (x : Shown) → IfShown (Under n) x → backPolled n (polledOf x) ≡ x
 unfolding backPolled handed choose
 polled-back n none h = refl
-polled-back n (packet z) h = λ k. packet (handed (sym h k) (z .length) (z .descriptors))
+polled-back n (packet z) h = λ k. packet (record { number = record { 0 = sym h k }; length = z .length; descriptors = z .descriptors; class = class-shown z k })
 
 pub polled-told : (n : ℕ) (x y : Shown) → IfShown (Under n) x → IfShown (Under n) y → polledOf x ≡ polledOf y → x ≡ y
 polled-told n x y h k e = sym (polled-back n x h) ∙ ap (backPolled n) e ∙ polled-back n y k
 
 backPoll : ℕ → List ℕ → ShownPoll
-backPoll n l = choose (eqb (getD l 0 0) 0) again (choose (eqb (getD l 0 0) 1) noReply (reply (handed n (getD l 1 0) 0)))
+backPoll n l = choose (eqb (getD l 0 0) 0) again (choose (eqb (getD l 0 0) 1) noReply (reply (handed n (getD l 1 0) 0 (getD l 2 0))))
 
 poll-back : (n : ℕ) (x : ShownPoll) → IfPolled (λ z. Under n z × Bare z) x → backPoll n (pollOf x) ≡ x
 unfolding backPoll handed choose
 poll-back n again h = refl
 poll-back n noReply h = refl
-poll-back n (reply z) h = λ k. reply (handed (sym (h .0) k) (z .length) (sym (h .1) k))
+poll-back n (reply z) h = λ k. reply (record { number = record { 0 = sym (h .0) k }; length = z .length; descriptors = sym (h .1) k; class = class-shown z k })
 
 pub poll-told : (n : ℕ) (x y : ShownPoll) → IfPolled (λ z. Under n z × Bare z) x → IfPolled (λ z. Under n z × Bare z) y → pollOf x ≡ pollOf y → x ≡ y
 poll-told n x y h k e = sym (poll-back n x h) ∙ ap (backPoll n) e ∙ poll-back n y k
 
 backEvent : List ℕ → Shown
-backEvent l = choose (eqb (getD l 0 0) 0) none (packet (handed (getD l 1 0) (getD l 2 0) 0))
+backEvent l = choose (eqb (getD l 0 0) 0) none (packet (handed (getD l 1 0) (getD l 2 0) 0 (getD l 3 0)))
 
 event-back : (x : Shown) → IfShown Bare x → backEvent (eventOf x) ≡ x
 unfolding backEvent handed choose
 event-back none h = refl
-event-back (packet z) h = λ k. packet (handed (z .number .0) (z .length) (sym h k))
+event-back (packet z) h = λ k. packet (record { number = z .number; length = z .length; descriptors = sym h k; class = class-shown z k })
 
 pub event-told : (x y : Shown) → IfShown Bare x → IfShown Bare y → eventOf x ≡ eventOf y → x ≡ y
 event-told x y h k e = sym (event-back x h) ∙ ap backEvent e ∙ event-back y k

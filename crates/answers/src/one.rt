@@ -1,10 +1,11 @@
-// What the calls of a connection answer, handed back as an export does: the state into its row, the
-// values through their pointers, and the number of the refusal or 0.
+// What the calls of a connection answer, handed back as an export does: the state into its row,
+// which but for a new one is the row that it was read from, the values through their pointers, and
+// the number of the refusal or 0.
 ghost use mathlib.Core.Path.{_≡_};
 ghost use mathlib.Core.List.{[], _∷_};
 ghost use Rattle.model.specs.Says.{saysNext, saysSent, saysEnqueued, saysPolled, saysPollReply, saysEvent, saysClosed};
 ghost use Rattle.answers.specs.Exported.{Kept};
-ghost use Rattle.answers.specs.Shown.{nothing, stateRow, sentIn, first, filing, polled, poll, event};
+ghost use Rattle.answers.specs.Shown.{nothing, stateRow, keptIn, sentIn, first, filing, polled, poll, event};
 use crate::DONE;
 use crate::code;
 use crate::words::place_number;
@@ -42,14 +43,21 @@ pub fn give_sent(answer: Sent, row: &mut [u64], number: &mut u64) -> u32
     }
 }
 
-pub fn give_enqueued(answer: Enqueued, row: &mut [u64], place: &mut u8, number: &mut u64) -> u32
-    ensures { λ r. ⌜ Kept (λ a. a ≡ saysEnqueued answer) filing (stateRow (now (row .entry))) (now (place .entry) ∷ now (number .entry) ∷ []) (now (place .exit) ∷ now (number .exit) ∷ []) (now (row .entry)) (now (row .exit)) r ⌝ }
+pub fn give_enqueued(
+    answer: Enqueued,
+    row: &mut [u64],
+    place: &mut u8,
+    number: &mut u64,
+    class: &mut u8,
+) -> u32
+    ensures { λ r. ⌜ Kept (λ a. a ≡ saysEnqueued answer) filing (keptIn (now (row .entry))) (now (place .entry) ∷ now (number .entry) ∷ now (class .entry) ∷ []) (now (place .exit) ∷ now (number .exit) ∷ now (class .exit) ∷ []) (now (row .entry)) (now (row .exit)) r ⌝ }
 {
     match answer {
-        Enqueued::Filed(at, given, next) => {
-            rows::put_connection(row, next);
+        Enqueued::Filed(at, given, of, next) => {
+            rows::put_kept(row, next);
             *place = place_number(at);
             *number = given.0;
+            *class = packet::class_number(of);
             DONE
         }
         Enqueued::Refused(refusal) => code(refusal),
@@ -62,48 +70,62 @@ pub fn give_polled(
     found: &mut u8,
     size: &mut usize,
     count: &mut usize,
+    class: &mut u8,
 ) -> u32
-    ensures { λ r. ⌜ Kept (λ a. a ≡ saysPolled answer) polled (stateRow (now (row .entry))) (now (found .entry) ∷ now (size .entry) ∷ now (count .entry) ∷ []) (now (found .exit) ∷ now (size .exit) ∷ now (count .exit) ∷ []) (now (row .entry)) (now (row .exit)) r ⌝ }
+    ensures { λ r. ⌜ Kept (λ a. a ≡ saysPolled answer) polled (keptIn (now (row .entry))) (now (found .entry) ∷ now (size .entry) ∷ now (count .entry) ∷ now (class .entry) ∷ []) (now (found .exit) ∷ now (size .exit) ∷ now (count .exit) ∷ now (class .exit) ∷ []) (now (row .entry)) (now (row .exit)) r ⌝ }
 {
     match answer {
         Polled::Packet(handed, next) => {
-            rows::put_connection(row, next);
+            rows::put_kept(row, next);
+            let of = handed.class;
             *found = 1;
             *size = handed.length;
             *count = handed.descriptors;
+            *class = packet::class_number(of);
             DONE
         }
         Polled::Nothing(next) => {
-            rows::put_connection(row, next);
+            rows::put_kept(row, next);
             *found = 0;
             *size = 0;
             *count = 0;
+            *class = 0;
             DONE
         }
         Polled::Refused(refusal) => code(refusal),
     }
 }
 
-pub fn give_poll(answer: PollReply, row: &mut [u64], result: &mut u8, size: &mut usize) -> u32
-    ensures { λ r. ⌜ Kept (λ a. a ≡ saysPollReply answer) poll (stateRow (now (row .entry))) (now (result .entry) ∷ now (size .entry) ∷ []) (now (result .exit) ∷ now (size .exit) ∷ []) (now (row .entry)) (now (row .exit)) r ⌝ }
+pub fn give_poll(
+    answer: PollReply,
+    row: &mut [u64],
+    result: &mut u8,
+    size: &mut usize,
+    class: &mut u8,
+) -> u32
+    ensures { λ r. ⌜ Kept (λ a. a ≡ saysPollReply answer) poll (keptIn (now (row .entry))) (now (result .entry) ∷ now (size .entry) ∷ now (class .entry) ∷ []) (now (result .exit) ∷ now (size .exit) ∷ now (class .exit) ∷ []) (now (row .entry)) (now (row .exit)) r ⌝ }
 {
     match answer {
         PollReply::TryAgain(next) => {
-            rows::put_connection(row, next);
+            rows::put_kept(row, next);
             *result = 0;
             *size = 0;
+            *class = 0;
             DONE
         }
         PollReply::NoReply(next) => {
-            rows::put_connection(row, next);
+            rows::put_kept(row, next);
             *result = 1;
             *size = 0;
+            *class = 0;
             DONE
         }
         PollReply::Reply(handed, next) => {
-            rows::put_connection(row, next);
+            rows::put_kept(row, next);
+            let of = handed.class;
             *result = 2;
             *size = handed.length;
+            *class = packet::class_number(of);
             DONE
         }
         PollReply::Refused(refusal) => code(refusal),
@@ -116,23 +138,27 @@ pub fn give_event(
     found: &mut u8,
     number: &mut u64,
     size: &mut usize,
+    class: &mut u8,
 ) -> u32
-    ensures { λ r. ⌜ Kept (λ a. a ≡ saysEvent answer) event (stateRow (now (row .entry))) (now (found .entry) ∷ now (number .entry) ∷ now (size .entry) ∷ []) (now (found .exit) ∷ now (number .exit) ∷ now (size .exit) ∷ []) (now (row .entry)) (now (row .exit)) r ⌝ }
+    ensures { λ r. ⌜ Kept (λ a. a ≡ saysEvent answer) event (keptIn (now (row .entry))) (now (found .entry) ∷ now (number .entry) ∷ now (size .entry) ∷ now (class .entry) ∷ []) (now (found .exit) ∷ now (number .exit) ∷ now (size .exit) ∷ now (class .exit) ∷ []) (now (row .entry)) (now (row .exit)) r ⌝ }
 {
     match answer {
         Event::Packet(handed, next) => {
-            rows::put_connection(row, next);
+            rows::put_kept(row, next);
             let given = handed.number;
+            let of = handed.class;
             *found = 1;
             *number = given.0;
             *size = handed.length;
+            *class = packet::class_number(of);
             DONE
         }
         Event::Nothing(next) => {
-            rows::put_connection(row, next);
+            rows::put_kept(row, next);
             *found = 0;
             *number = 0;
             *size = 0;
+            *class = 0;
             DONE
         }
         Event::Refused(refusal) => code(refusal),

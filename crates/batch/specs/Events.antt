@@ -14,7 +14,9 @@ use Rattle.model.specs.Reading.{Rooms, rooms}
 use Rattle.model.specs.Sound.{Sound}
 use Rattle.model.specs.Promise.{Done, Exact, outputOf}
 use Rattle.model.specs.Batch.{Turn, Many, many, Stop, ended, Site, site, exactTurn}
-use Rattle.model.specs.PollForEvents.{turns, Lent, lent, roomFor, handing, Handings, orRefused, shownHandings, packetsOfHandings, marksOfHandings}
+use Rattle.model.specs.PollForEvents.{turns, Lent, lent, roomFor, handing, Handings, orRefused, shownHandings, packetsOfHandings, marksOfHandings, marksEach}
+use Rattle.packet.specs.Packet.{classNumber}
+use Rattle.packet.specs.Class.{saysClass}
 use Rattle.model.specs.Says.{shownTaken, bytesOfTaken, saysEvent}
 use Rattle.model.specs.SaysBatch.{saysEvents}
 use Rattle.model.specs.declared.Connection.{Connection}
@@ -24,6 +26,7 @@ use Rattle.model.specs.declared.Events.{Events}
 use Rattle.model.specs.declared.Events.the-variants as Events
 use Rattle.model.specs.declared.Stop.the-variants as Stops
 use Rattle.polling.specs.Exact.{eventExact}
+use Rattle.model.specs.declared.Handed.{Handed}
 
 unfoldable pub eventStep : Lent Site → Bool → Turn Held Stop (Lent Site)
 eventStep l marks = handing (l .room) (exactTurn (eventExact (l .at .state) (l .at .left) (roomFor marks (l .room))))
@@ -41,20 +44,23 @@ unfoldable pub placed : {A : Type 0} → (A → List ℕ) → ℕ → Answer (Do
 placed g at (gives d) out = put out at (g (d .value))
 placed g at (refuses n) out = out
 
+abbrev pub marksShown : Handed → List ℕ
+marksShown x = x .number .0 ∷ x .length ∷ classNumber (saysClass (x .class)) ∷ []
+
 abbrev pub marked : Event → ℕ → List ℕ → List ℕ
-marked (Event.Packet x next) at marks = put marks at (x .number .0 ∷ x .length ∷ [])
+marked (Event.Packet x next) at marks = put marks at (marksShown x)
 marked (Event.Nothing c) at marks = marks
 marked (Event.Refused r) at marks = marks
 
--- a packet has its two marks
+-- a packet has its marks
 abbrev pub Markable : Event → ℕ → ℕ → Type 0
-Markable (Event.Packet x next) at marks = at + 2 ≤ marks
+Markable (Event.Packet x next) at marks = at + marksEach ≤ marks
 Markable (Event.Nothing c) at marks = Unit {0}
 Markable (Event.Refused r) at marks = Unit {0}
 
 -- the room of a turn
 abbrev pub roomLeft : List ℕ → List ℕ → ℕ → ℕ → ℕ
-roomLeft out marks used at = roomFor (leb 2 (length marks - at)) (length out - used)
+roomLeft out marks used at = roomFor (leb marksEach (length marks - at)) (length out - used)
 
 pub record TurnStep (c : Connection) (s out marks : List ℕ) (used at : ℕ) (a : Event) (s' out' marks' : List ℕ) : Type 0 where
   pub exact : (q f : List ℕ) → Exact shownTaken (eventExact c (rooms q s f) (roomLeft out marks used at)) (rooms q s f) (saysEvent a) (rooms q s' f)

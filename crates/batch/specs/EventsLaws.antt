@@ -1,7 +1,7 @@
 -- How many events come out, turn by turn. Assumes nothing.
 use mathlib.Core.Path.{_≡_, refl, sym, ap, _∙_, subst}
 use mathlib.Core.Bool.{Bool, true, false}
-use mathlib.Core.List.{List, [], _++_, append-assoc}
+use mathlib.Core.List.{List, [], _++_, append-assoc, _∷_}
 use Prim.Native.Nat.{ℕ, _+_, _-_, _≤_, _<_}
 use native.Mathlib.Omega.{arith}
 use native.Mathlib.Decide.{decLe}
@@ -10,7 +10,7 @@ use lib.ListN.{length, take, drop, set, length-drop, take-append-drop}
 use lib.Seq.{drop-append-le, drop-drop, length-take-le}
 use borrow.Author.Tests.{le-leb, lt-leb, ltb-false}
 use Rattle.octets.specs.Logic.{choose}
-use Rattle.octets.specs.Put.{put, set-two}
+use Rattle.octets.specs.Put.{put, set-two, set-behind}
 use Rattle.refusal.specs.Answer.{Answer, gives, refuses, refuse, gives-past, gives-rest, gives-same}
 use Rattle.held.specs.Head as Head
 use Rattle.held.specs.Reading as Store
@@ -28,7 +28,7 @@ use Rattle.model.specs.Promise.{Done, Exact, outputOf}
 use Rattle.model.specs.BatchLaws.{exact-gave}
 use Rattle.model.specs.Says.{shownTaken, bytesOfTaken, saysEvent}
 use Rattle.model.specs.Says as Says
-use Rattle.model.specs.PollForEvents.{roomFor}
+use Rattle.model.specs.PollForEvents.{roomFor, marksEach, marksFor}
 use Rattle.model.specs.declared.Connection.{Connection}
 use Rattle.model.specs.declared.Handed.{Handed}
 use Rattle.model.specs.declared.Event.{Event}
@@ -36,9 +36,10 @@ use Rattle.model.specs.declared.Event.the-variants as Event
 use Rattle.model.specs.Moved.{movedState}
 use Rattle.polling.specs.Exact.{eventAt, without, stays, moved, eventFrom, eventExact, EventStep}
 use Rattle.polling.specs.Left.{event-is}
-use Rattle.packet.specs.Packet.{leastPacket}
+use Rattle.packet.specs.Packet.{leastPacket, PacketClass, packetClass, classNumber}
+use Rattle.packet.specs.Class.{saysClass, says-back}
 use Rattle.model.specs.Sound.{ready}
-use Rattle.batch.specs.Events.{placed, marked, Markable, roomLeft, TurnStep, Stored}
+use Rattle.batch.specs.Events.{placed, marked, Markable, roomLeft, TurnStep, Stored, marksShown}
 
 -- ---- what is found decides a poll
 
@@ -63,7 +64,7 @@ module _ (c : Connection) (s : List ℕ) (R : Stored c s) (p : Spot) (F : FirstE
   place-long : length (eventAt (rooms [] s []) p .packet) ≡ p .len
   place-long = ap length place-packet ∙ sym (F .len)
 
-  place-least : leastPacket ≤ p .len
+  pub place-least : leastPacket ≤ p .len
   place-least =
       let fit = ready c (rooms (R .requests) s (R .slots)) (R .sound) .held .readable .fit in
       let z = all-here Head.Fits (F .lies .front) (F .it) (F .lies .back) (subst (Store.All Head.Fits) (F .lies .split) fit) in
@@ -73,7 +74,7 @@ module _ (c : Connection) (s : List ℕ) (R : Stored c s) (p : Spot) (F : FirstE
 
 pub record Out (c : Connection) (s : List ℕ) (bytes : ℕ) (x : Handed) (next : Connection) (s' : List ℕ) : Type 0 where
   pub it : Held
-  pub number : x .number .0 ≡ it .number
+  pub marks : marksShown x ≡ marksFor it
   pub long : x .length ≡ length (it .packet)
   pub least : leastPacket ≤ x .length
   pub most : x .length ≤ bytes
@@ -108,7 +109,7 @@ module _ (c : Connection) (s : List ℕ) (R : Stored c s) (bytes : ℕ) where
           let m : p .len ≤ bytes = ltb-false bytes (p .len) t in
           record {
             it = eventAt (rooms [] s []) p;
-            number = ap (λ (y : Handed). y .number .0) v;
+            marks = ap marksShown v ∙ ap (λ (k : PacketClass). p .number ∷ length (eventAt (rooms [] s []) p .packet) ∷ classNumber k ∷ []) (says-back (packetClass (eventAt (rooms [] s []) p .packet)));
             long = w;
             least = omega (arith, place-least c s R p F);
             most = omega arith;
@@ -168,27 +169,27 @@ part-placed g (refuses m) out used n h k = part-none out used n
 
 -- ---- the room of a turn
 
-pub room-few : (marks room : ℕ) → marks < 2 → 0 ≡ roomFor (leb 2 marks) room
+pub room-few : (marks room : ℕ) → marks < marksEach → 0 ≡ roomFor (leb marksEach marks) room
 unfolding roomFor choose
-room-few marks room h = simp (lt-leb 2 marks h)
+room-few marks room h = simp (lt-leb marksEach marks h)
 
-pub room-many : (marks room : ℕ) → 2 ≤ marks → room ≡ roomFor (leb 2 marks) room
+pub room-many : (marks room : ℕ) → marksEach ≤ marks → room ≡ roomFor (leb marksEach marks) room
 unfolding roomFor choose
-room-many marks room h = simp (le-leb 2 marks h)
+room-many marks room h = simp (le-leb marksEach marks h)
 
-pub room-most : (marks room : ℕ) → roomFor (leb 2 marks) room ≤ room
-room-most marks room = go (leb 2 marks)
+pub room-most : (marks room : ℕ) → roomFor (leb marksEach marks) room ≤ room
+room-most marks room = go (leb marksEach marks)
   where
     go : (b : Bool) → roomFor b room ≤ room
-    go true = omega (arith, room-many 2 room (omega arith))
+    go true = omega (arith, room-many marksEach room (omega arith))
     go false = omega (arith, room-few 0 room (omega arith))
 
--- where a packet is given there are two marks
-pub marks-there : (marks room len : ℕ) → leastPacket ≤ len → len ≤ roomFor (leb 2 marks) room → 2 ≤ marks
+-- where a packet is given there are its marks
+pub marks-there : (marks room len : ℕ) → leastPacket ≤ len → len ≤ roomFor (leb marksEach marks) room → marksEach ≤ marks
 marks-there marks room len h k =
-    elim (decLe 2 marks) [ yes p ↦ p | no q ↦ absurd (let z : ⊥ = omega (arith, room-few marks room (omega arith)) in z) ]
+    elim (decLe marksEach marks) [ yes p ↦ p | no q ↦ absurd (let z : ⊥ = omega (arith, room-few marks room (omega arith)) in z) ]
 
--- A turn needs two marks where it hands a packet out,
+-- A turn needs marks where it hands a packet out,
 pub turn-markable : (c : Connection) (s part out marks : List ℕ) (used at : ℕ) (a : Event) (s' part' : List ℕ) → Stored c s → length part ≡ roomLeft out marks used at → EventStep c s part a s' part'
     → Markable a at (length marks)
 turn-markable c s part out marks used at (Event.Packet z next) s' part' R l x =
@@ -216,8 +217,16 @@ turn-is c s out marks used at n a s' part' marks' R e h x m =
 
 -- ---- marks
 
-pub markable-packet : (a : Event) (x : Handed) (next : Connection) (at m : ℕ) → a ≡ Event.Packet x next → Markable a at m → at + 2 ≤ m
+pub markable-packet : (a : Event) (x : Handed) (next : Connection) (at m : ℕ) → a ≡ Event.Packet x next → Markable a at m → at + marksEach ≤ m
 markable-packet a x next at m e h = subst (λ z. Markable z at m) e h
 
-pub marked-packet : (a : Event) (x : Handed) (next : Connection) (at : ℕ) (marks : List ℕ) → a ≡ Event.Packet x next → Markable a at (length marks) → set (set marks at (x .number .0)) (at + 1) (x .length) ≡ marked a at marks
-marked-packet a x next at marks e h = set-two marks at (x .number .0) (x .length) (markable-packet a x next at (length marks) e h) ∙ ap (λ z. marked z at marks) (sym e)
+set-three : (s : List ℕ) (at x y z : ℕ) → at + 3 ≤ length s → set (set (set s at x) (at + 1) y) (at + 2) z ≡ put s at (x ∷ y ∷ z ∷ [])
+set-three s at x y z h = ap (λ (l : List ℕ). set l (at + 2) z) (set-two s at x y (omega arith)) ∙ set-behind s at 2 (x ∷ y ∷ []) z refl (omega arith)
+
+pub marked-as : (marks : List ℕ) (at : ℕ) (x : Handed) (k : ℕ) → k ≡ classNumber (saysClass (x .class)) → at + marksEach ≤ length marks
+    → set (set (set marks at (x .number .0)) (at + 1) (x .length)) (at + 2) k ≡ put marks at (marksShown x)
+marked-as marks at x k e h = set-three marks at (x .number .0) (x .length) k h ∙ ap (λ (n : ℕ). put marks at (x .number .0 ∷ x .length ∷ n ∷ [])) e
+
+pub marked-packet : (a : Event) (x : Handed) (next : Connection) (at : ℕ) (marks : List ℕ) (k : ℕ) → a ≡ Event.Packet x next → k ≡ classNumber (saysClass (x .class)) → Markable a at (length marks)
+    → set (set (set marks at (x .number .0)) (at + 1) (x .length)) (at + 2) k ≡ marked a at marks
+marked-packet a x next at marks k e c h = marked-as marks at x k c (markable-packet a x next at (length marks) e h) ∙ ap (λ z. marked z at marks) (sym e)

@@ -21,7 +21,7 @@ use Rattle.model.specs.Batch.{goes, stops, onward, many, Stop, ended, refused, 
 use Rattle.model.specs.BatchLaws.{exact-stayed, row-goes, row-stops}
 use Rattle.model.specs.Says.{shownTaken, bytesOfTaken}
 use Rattle.model.specs.SaysBatch.{saysStop}
-use Rattle.model.specs.PollForEvents.{turns, lent, roomFor, handing, orRefused, packetsOf, marksOf, shownHandings, packetsOfHandings, marksOfHandings}
+use Rattle.model.specs.PollForEvents.{turns, lent, roomFor, handing, orRefused, packetsOf, marksOf, shownHandings, packetsOfHandings, marksOfHandings, marksEach, marksFor}
 use Rattle.model.specs.declared.Connection.{Connection}
 use Rattle.model.specs.declared.Handed.{Handed}
 use Rattle.model.specs.declared.Event.{Event}
@@ -41,19 +41,22 @@ use Rattle.batch.specs.EventsLaws.{Out, out-is, none-is, room-most, mark
 after : ℕ → List Bool
 after zero = []
 after (suc zero) = []
-after (suc (suc n)) = turns n
+after (suc (suc zero)) = []
+after (suc (suc (suc n))) = turns n
 
-turns-first : (n : ℕ) → turns n ≡ leb 2 n ∷ after n
+turns-first : (n : ℕ) → turns n ≡ leb marksEach n ∷ after n
 unfolding turns after
 turns-first zero = refl
 turns-first (suc zero) = refl
-turns-first (suc (suc n)) = let z : true ≡ leb 2 (suc (suc n)) = sym (le-leb 2 (suc (suc n)) (omega arith)) in ap (λ (b : Bool). b ∷ turns n) z
+turns-first (suc (suc zero)) = refl
+turns-first (suc (suc (suc n))) = let z : true ≡ leb marksEach (suc (suc (suc n))) = sym (le-leb marksEach (suc (suc (suc n))) (omega arith)) in ap (λ (b : Bool). b ∷ turns n) z
 
-after-many : (n : ℕ) → 2 ≤ n → after n ≡ turns (n - 2)
+after-many : (n : ℕ) → marksEach ≤ n → after n ≡ turns (n - marksEach)
 unfolding after
 after-many zero h = absurd (let z : ⊥ = omega arith in z)
 after-many (suc zero) h = absurd (let z : ⊥ = omega arith in z)
-after-many (suc (suc n)) h = let z : suc (suc n) - 2 ≡ n = omega arith in ap turns (sym z)
+after-many (suc (suc zero)) h = absurd (let z : ⊥ = omega arith in z)
+after-many (suc (suc (suc n))) h = let z : suc (suc (suc n)) - marksEach ≡ n = omega arith in ap turns (sym z)
 
 -- ---- rows of events
 
@@ -69,9 +72,9 @@ packets-one h = append-nil (h .packet)
 marks-append : (a b : List Held) → marksOf (a ++ b) ≡ marksOf a ++ marksOf b
 unfolding marksOf
 marks-append [] b = refl
-marks-append (h ∷ a) b = ap (λ (l : List ℕ). h .number ∷ length (h .packet) ∷ l) (marks-append a b)
+marks-append (h ∷ a) b = ap (λ (l : List ℕ). marksFor h ++ l) (marks-append a b)
 
-length-marks : (a : List Held) → length (marksOf a) ≡ 2 * length a
+length-marks : (a : List Held) → length (marksOf a) ≡ marksEach * length a
 unfolding marksOf
 length-marks [] = refl
 length-marks (h ∷ a) = let z = length-marks a in omega arith
@@ -85,14 +88,14 @@ pub record Inv (c₀ : Connection) (s₀ out₀ marks₀ : List ℕ) (c : Connec
   pub counted : length events ≡ count
   pub filled : length (packetsOf events) ≡ used
   pub used-most : used ≤ length out₀
-  pub marks-most : 2 * count ≤ length marks₀
+  pub marks-most : marksEach * count ≤ length marks₀
   pub out-is : out ≡ put out₀ 0 (packetsOf events)
   pub marks-are : marks ≡ put marks₀ 0 (marksOf events)
   pub out-long : length out ≡ length out₀
   pub marks-long : length marks ≡ length marks₀
   pub untouched : count ≡ 0 → s ≡ s₀
   pub rest : (q f : List ℕ) → many eventStep ended (lent (site c₀ (rooms q s₀ f)) (length out₀)) (turns (length marks₀))
-      ≡ onward events (many eventStep ended (lent (site c (rooms q s f)) (length out₀ - used)) (turns (length marks₀ - 2 * count)))
+      ≡ onward events (many eventStep ended (lent (site c (rooms q s f)) (length out₀ - used)) (turns (length marks₀ - marksEach * count)))
 
 pub inv-start : (c : Connection) (s out marks : List ℕ) → Stored c s → Inv c s out marks c s out marks 0 0
 unfolding packetsOf marksOf
@@ -110,34 +113,34 @@ inv-start c s out marks R =
       out-long = refl;
       marks-long = refl;
       untouched = λ e. refl;
-      rest = λ q f. let a : length out - 0 ≡ length out = omega arith in let b : length marks - 2 * 0 ≡ length marks = omega arith in
+      rest = λ q f. let a : length out - 0 ≡ length out = omega arith in let b : length marks - marksEach * 0 ≡ length marks = omega arith in
           (λ k. many eventStep ended (lent (site c (rooms q s f)) (sym a k)) (turns (sym b k)));
     }
 
 module _ (c₀ : Connection) (s₀ out₀ marks₀ : List ℕ) (c : Connection) (s out marks : List ℕ) (used count : ℕ) (I : Inv c₀ s₀ out₀ marks₀ c s out marks used count) where
   -- what a turn asks
-  pub inv-asks : Stored c s × (used ≤ length out) × (2 * count ≤ length marks)
+  pub inv-asks : Stored c s × (used ≤ length out) × (marksEach * count ≤ length marks)
   inv-asks = (I .stored, omega (arith, I .used-most, I .out-long), omega (arith, I .marks-most, I .marks-long))
 
   -- the row that is left begins with a turn that has the room of this one
-  room-is : roomLeft out marks used (2 * count) ≡ roomFor (leb 2 (length marks₀ - 2 * count)) (length out₀ - used)
-  room-is = λ k. roomFor (leb 2 (I .marks-long k - 2 * count)) (I .out-long k - used)
+  room-is : roomLeft out marks used (marksEach * count) ≡ roomFor (leb marksEach (length marks₀ - marksEach * count)) (length out₀ - used)
+  room-is = λ k. roomFor (leb marksEach (I .marks-long k - marksEach * count)) (I .out-long k - used)
 
   left-now : ℕ
-  left-now = length marks₀ - 2 * count
+  left-now = length marks₀ - marksEach * count
 
   ahead : (q f : List ℕ) → many eventStep ended (lent (site c₀ (rooms q s₀ f)) (length out₀)) (turns (length marks₀))
-      ≡ onward (I .events) (many eventStep ended (lent (site c (rooms q s f)) (length out₀ - used)) (leb 2 left-now ∷ after left-now))
+      ≡ onward (I .events) (many eventStep ended (lent (site c (rooms q s f)) (length out₀ - used)) (leb marksEach left-now ∷ after left-now))
   unfolding left-now
-  ahead q f = I .rest q f ∙ ap (λ (y : List Bool). onward (I .events) (many eventStep ended (lent (site c (rooms q s f)) (length out₀ - used)) y)) (turns-first (length marks₀ - 2 * count))
+  ahead q f = I .rest q f ∙ ap (λ (y : List Bool). onward (I .events) (many eventStep ended (lent (site c (rooms q s f)) (length out₀ - used)) y)) (turns-first (length marks₀ - marksEach * count))
 
   -- a turn that stops the row leaves it as it is
-  stop-row : (w : Stop) (q f : List ℕ) → stops w ≡ eventStep (lent (site c (rooms q s f)) (length out₀ - used)) (leb 2 left-now)
+  stop-row : (w : Stop) (q f : List ℕ) → stops w ≡ eventStep (lent (site c (rooms q s f)) (length out₀ - used)) (leb marksEach left-now)
       → many eventStep ended (lent (site c₀ (rooms q s₀ f)) (length out₀)) (turns (length marks₀))
       ≡ record { values = I .events; stopped = w; end = lent (site c (rooms q s f)) (length out₀ - used) }
   stop-row w q f e =
       ahead q f
-      ∙ row-stops eventStep ended (I .events) (lent (site c (rooms q s f)) (length out₀ - used)) (leb 2 left-now) (after left-now) w e
+      ∙ row-stops eventStep ended (I .events) (lent (site c (rooms q s f)) (length out₀ - used)) (leb marksEach left-now) (after left-now) w e
       ∙ (λ k. record { values = append-nil (I .events) k; stopped = w; end = lent (site c (rooms q s f)) (length out₀ - used) })
 
   -- a row that gives what it handed out
@@ -173,15 +176,15 @@ module _ (c₀ : Connection) (s₀ out₀ marks₀ : List ℕ) (c : Connection) 
   or-ended [] a = refl
   or-ended (h ∷ vs) a = refl
 
-  none-row : (q f : List ℕ) → gives (stays none c (rooms q s f)) ≡ eventExact c (rooms q s f) (roomLeft out marks used (2 * count)) → stops ended ≡ eventStep (lent (site c (rooms q s f)) (length out₀ - used)) (leb 2 left-now)
+  none-row : (q f : List ℕ) → gives (stays none c (rooms q s f)) ≡ eventExact c (rooms q s f) (roomLeft out marks used (marksEach * count)) → stops ended ≡ eventStep (lent (site c (rooms q s f)) (length out₀ - used)) (leb marksEach left-now)
   unfolding eventStep handing exactTurn left-now
   none-row q f e = ap (λ y. handing (length out₀ - used) (exactTurn y)) (e ∙ ap (eventExact c (rooms q s f)) room-is)
 
-  pub inv-end : (a : Event) (c' : Connection) (s' out' marks' : List ℕ) → a ≡ Event.Nothing c' → TurnStep c s out marks used (2 * count) a s' out' marks'
+  pub inv-end : (a : Event) (c' : Connection) (s' out' marks' : List ℕ) → a ≡ Event.Nothing c' → TurnStep c s out marks used (marksEach * count) a s' out' marks'
       → EventsStep c₀ s₀ out₀ marks₀ (Events.Handed count used Stops.End c) s' out' marks'
   unfolding placed eventsExact handedExact
   inv-end a c' s' out' marks' e x =
-      let y = subst (λ z. TurnStep c s out marks used (2 * count) z s' out' marks') e x in
+      let y = subst (λ z. TurnStep c s out marks used (marksEach * count) z s' out' marks') e x in
       let n = none-is c s (I .stored) _ c' s' (y .exact) in
       let o : out' ≡ out = y .output [] [] ∙ ap (λ z. placed bytesOfTaken used z out) (sym (n .0 [] [])) ∙ put-none out used in
       subst (λ z. EventsStep c₀ s₀ out₀ marks₀ (Events.Handed count used Stops.End c) z out' marks') (sym (n .1))
@@ -191,11 +194,11 @@ module _ (c₀ : Connection) (s₀ out₀ marks₀ : List ℕ) (c : Connection) 
 
   -- ---- a refusal
 
-  stayed-row : (n : ℕ) (q f : List ℕ) → refuses n ≡ eventExact c (rooms q s f) (roomLeft out marks used (2 * count)) → stops (refused n) ≡ eventStep (lent (site c (rooms q s f)) (length out₀ - used)) (leb 2 left-now)
+  stayed-row : (n : ℕ) (q f : List ℕ) → refuses n ≡ eventExact c (rooms q s f) (roomLeft out marks used (marksEach * count)) → stops (refused n) ≡ eventStep (lent (site c (rooms q s f)) (length out₀ - used)) (leb marksEach left-now)
   unfolding eventStep handing exactTurn left-now
   stayed-row n q f e = ap (λ y. handing (length out₀ - used) (exactTurn y)) (e ∙ ap (eventExact c (rooms q s f)) room-is)
 
-  stop-answer : (r : Refusal) → ((q f : List ℕ) → refuses (numberOf r) ≡ eventExact c (rooms q s f) (roomLeft out marks used (2 * count)))
+  stop-answer : (r : Refusal) → ((q f : List ℕ) → refuses (numberOf r) ≡ eventExact c (rooms q s f) (roomLeft out marks used (marksEach * count)))
       → EventsStep c₀ s₀ out₀ marks₀ (stoppedBy count used r c) s out marks
   unfolding stoppedBy choose eventsExact handedExact orRefused
   stop-answer r E = go (I .events) refl
@@ -214,12 +217,12 @@ module _ (c₀ : Connection) (s₀ out₀ marks₀ : List ℕ) (c : Connection) 
           subst (λ b. EventsStep c₀ s₀ out₀ marks₀ (choose b (Events.Refused r) (Events.Handed count used (Stops.Refused r) c)) s out marks) (sym (ne-eqb count 0 z))
           (row-gives (Stops.Refused r) (λ q f. row q f ∙ ap (λ (l : List Held). orRefused l (refused (numberOf r)) (gives (record { value = record { events = I .events; stopped = refused (numberOf r) }; state = c; left = rooms q s f }))) e))
 
-  pub inv-stop : (a : Event) (r : Refusal) (z : Events) (s' out' marks' : List ℕ) → a ≡ Event.Refused r → TurnStep c s out marks used (2 * count) a s' out' marks' → z ≡ stoppedBy count used r c
+  pub inv-stop : (a : Event) (r : Refusal) (z : Events) (s' out' marks' : List ℕ) → a ≡ Event.Refused r → TurnStep c s out marks used (marksEach * count) a s' out' marks' → z ≡ stoppedBy count used r c
       → EventsStep c₀ s₀ out₀ marks₀ z s' out' marks'
   unfolding placed
   inv-stop a r z s' out' marks' e x i =
-      let y = subst (λ k. TurnStep c s out marks used (2 * count) k s' out' marks') e x in
-      let n : (q f : List ℕ) → (refuses (numberOf r) ≡ eventExact c (rooms q s f) (roomLeft out marks used (2 * count))) × (rooms q s' f ≡ rooms q s f) = λ q f. exact-stayed shownTaken _ _ _ _ (y .exact q f) in
+      let y = subst (λ k. TurnStep c s out marks used (marksEach * count) k s' out' marks') e x in
+      let n : (q f : List ℕ) → (refuses (numberOf r) ≡ eventExact c (rooms q s f) (roomLeft out marks used (marksEach * count))) × (rooms q s' f ≡ rooms q s f) = λ q f. exact-stayed shownTaken _ _ _ _ (y .exact q f) in
       let o : out' ≡ out = y .output [] [] ∙ ap (λ k. placed bytesOfTaken used k out) (sym (n [] [] .0)) in
       subst (λ k. EventsStep c₀ s₀ out₀ marks₀ k s' out' marks') (sym i)
       (subst (λ k. EventsStep c₀ s₀ out₀ marks₀ (stoppedBy count used r c) k out' marks') (sym (ap (λ (k : Rooms). k .store) (n [] [] .1)))
@@ -228,25 +231,25 @@ module _ (c₀ : Connection) (s₀ out₀ marks₀ : List ℕ) (c : Connection) 
 
   -- ---- an event
 
-  module _ (x : Handed) (next : Connection) (s' out' marks' : List ℕ) (y : TurnStep c s out marks used (2 * count) (Event.Packet x next) s' out' marks') (sl : length s' ≡ length s) where
+  module _ (x : Handed) (next : Connection) (s' out' marks' : List ℕ) (y : TurnStep c s out marks used (marksEach * count) (Event.Packet x next) s' out' marks') (sl : length s' ≡ length s) where
     abbrev len : ℕ
     len = x .length
 
-    given : Out c s (roomLeft out marks used (2 * count)) x next s'
-    given = out-is c s (I .stored) (roomLeft out marks used (2 * count)) x next s' (y .exact)
+    given : Out c s (roomLeft out marks used (marksEach * count)) x next s'
+    given = out-is c s (I .stored) (roomLeft out marks used (marksEach * count)) x next s' (y .exact)
 
-    two : 2 ≤ left-now
+    enough : marksEach ≤ left-now
     unfolding left-now
-    two = let g = given in marks-there (length marks₀ - 2 * count) (length out₀ - used) len (g .least) (subst (λ (k : ℕ). len ≤ k) room-is (g .most))
+    enough = let g = given in marks-there (length marks₀ - marksEach * count) (length out₀ - used) len (g .least) (subst (λ (k : ℕ). len ≤ k) room-is (g .most))
 
     fits : used + len ≤ length out₀
     fits =
         let g = given in
-        let z = room-most (length marks₀ - 2 * count) (length out₀ - used) in
-        let m : len ≤ roomFor (leb 2 (length marks₀ - 2 * count)) (length out₀ - used) = subst (λ (k : ℕ). len ≤ k) room-is (g .most) in
+        let z = room-most (length marks₀ - marksEach * count) (length out₀ - used) in
+        let m : len ≤ roomFor (leb marksEach (length marks₀ - marksEach * count)) (length out₀ - used) = subst (λ (k : ℕ). len ≤ k) room-is (g .most) in
         omega (arith, I .used-most)
 
-    goes-row : (q f : List ℕ) → goes (given .it) (lent (site next (rooms q s' f)) (length out₀ - (used + len))) ≡ eventStep (lent (site c (rooms q s f)) (length out₀ - used)) (leb 2 left-now)
+    goes-row : (q f : List ℕ) → goes (given .it) (lent (site next (rooms q s' f)) (length out₀ - (used + len))) ≡ eventStep (lent (site c (rooms q s f)) (length out₀ - used)) (leb marksEach left-now)
     unfolding eventStep handing exactTurn left-now
     goes-row q f =
         let g = given in
@@ -260,17 +263,17 @@ module _ (c₀ : Connection) (s₀ out₀ marks₀ : List ℕ) (c : Connection) 
         let h : Held = g .it in
         let o : out' ≡ put out used (h .packet) = y .output [] [] ∙ ap (λ k. placed bytesOfTaken used k out) (sym (g .given [] [])) in
         let ps : packetsOf (I .events ++ (h ∷ [])) ≡ packetsOf (I .events) ++ h .packet = packets-append (I .events) (h ∷ []) ∙ ap (λ (l : List ℕ). packetsOf (I .events) ++ l) (packets-one h) in
-        let ms : marksOf (I .events ++ (h ∷ [])) ≡ marksOf (I .events) ++ (h .number ∷ length (h .packet) ∷ []) = marks-append (I .events) (h ∷ []) in
-        let tw : 2 ≤ length marks₀ - 2 * count = two in
+        let ms : marksOf (I .events ++ (h ∷ [])) ≡ marksOf (I .events) ++ marksFor h = marks-append (I .events) (h ∷ []) in
+        let tw : marksEach ≤ length marks₀ - marksEach * count = enough in
         let ft : used + len ≤ length out₀ = fits in
-        let lm : length (marksOf (I .events)) ≡ 2 * count = length-marks (I .events) ∙ ap (λ (k : ℕ). 2 * k) (I .counted) in
-        let mk : marks' ≡ put marks (2 * count) (h .number ∷ length (h .packet) ∷ []) = y .marks-are ∙ (λ k. put marks (2 * count) (g .number k ∷ g .long k ∷ [])) in
+        let lm : length (marksOf (I .events)) ≡ marksEach * count = length-marks (I .events) ∙ ap (λ (k : ℕ). marksEach * k) (I .counted) in
+        let mk : marks' ≡ put marks (marksEach * count) (marksFor h) = y .marks-are ∙ ap (put marks (marksEach * count)) (g .marks) in
         let ob : out' ≡ put out₀ 0 (packetsOf (I .events ++ (h ∷ []))) = put-more out₀ out out' used (packetsOf (I .events)) (h .packet) (I .filled) (omega (arith, g .long)) (I .out-is) o ∙ ap (put out₀ 0) (sym ps) in
-        let mb : marks' ≡ put marks₀ 0 (marksOf (I .events ++ (h ∷ []))) = put-more marks₀ marks marks' (2 * count) (marksOf (I .events)) (h .number ∷ length (h .packet) ∷ []) lm (omega arith) (I .marks-are) mk ∙ ap (put marks₀ 0) (sym ms) in
+        let mb : marks' ≡ put marks₀ 0 (marksOf (I .events ++ (h ∷ []))) = put-more marks₀ marks marks' (marksEach * count) (marksOf (I .events)) (marksFor h) lm (omega arith) (I .marks-are) mk ∙ ap (put marks₀ 0) (sym ms) in
         let lp : length (packetsOf (I .events ++ (h ∷ []))) ≡ used + len = ap length ps ∙ length-append (packetsOf (I .events)) (h .packet) ∙ (λ k. I .filled k + sym (g .long) k) in
         let lc : length (I .events ++ (h ∷ [])) ≡ count + 1 = length-append (I .events) (h ∷ []) ∙ ap (λ (k : ℕ). k + 1) (I .counted) in
-        let lk : length (marksOf (I .events ++ (h ∷ []))) ≡ 2 * (count + 1) = length-marks (I .events ++ (h ∷ [])) ∙ ap (λ (k : ℕ). 2 * k) lc in
-        let sd : Sound next (rooms (I .stored .requests) s' (I .stored .slots)) = event-leaves c (rooms (I .stored .requests) s (I .stored .slots)) (I .stored .sound) (roomLeft out marks used (2 * count)) _ (g .given (I .stored .requests) (I .stored .slots)) in
+        let lk : length (marksOf (I .events ++ (h ∷ []))) ≡ marksEach * (count + 1) = length-marks (I .events ++ (h ∷ [])) ∙ ap (λ (k : ℕ). marksEach * k) lc in
+        let sd : Sound next (rooms (I .stored .requests) s' (I .stored .slots)) = event-leaves c (rooms (I .stored .requests) s (I .stored .slots)) (I .stored .sound) (roomLeft out marks used (marksEach * count)) _ (g .given (I .stored .requests) (I .stored .slots)) in
         record {
           stored = record { requests = I .stored .requests; slots = I .stored .slots; sound = sd };
           long = sl ∙ I .long;
@@ -286,14 +289,14 @@ module _ (c₀ : Connection) (s₀ out₀ marks₀ : List ℕ) (c : Connection) 
           untouched = λ e. absurd (let z : ⊥ = omega arith in z);
           rest = λ q f.
               ahead q f
-              ∙ row-goes eventStep ended (I .events) (lent (site c (rooms q s f)) (length out₀ - used)) (leb 2 (length marks₀ - 2 * count)) (after (length marks₀ - 2 * count)) h (lent (site next (rooms q s' f)) (length out₀ - (used + len))) (goes-row q f)
-              ∙ ap (λ (l : List Bool). onward (I .events ++ (h ∷ [])) (many eventStep ended (lent (site next (rooms q s' f)) (length out₀ - (used + len))) l)) (after-many (length marks₀ - 2 * count) tw ∙ (let z : length marks₀ - 2 * count - 2 ≡ length marks₀ - 2 * (count + 1) = omega arith in ap turns z));
+              ∙ row-goes eventStep ended (I .events) (lent (site c (rooms q s f)) (length out₀ - used)) (leb marksEach (length marks₀ - marksEach * count)) (after (length marks₀ - marksEach * count)) h (lent (site next (rooms q s' f)) (length out₀ - (used + len))) (goes-row q f)
+              ∙ ap (λ (l : List Bool). onward (I .events ++ (h ∷ [])) (many eventStep ended (lent (site next (rooms q s' f)) (length out₀ - (used + len))) l)) (after-many (length marks₀ - marksEach * count) tw ∙ (let z : length marks₀ - marksEach * count - marksEach ≡ length marks₀ - marksEach * (count + 1) = omega arith in ap turns z));
         }
 
   module _ (a : Event) (x : Handed) (next : Connection) (s' out' marks' : List ℕ) (e : a ≡ Event.Packet x next) (sl : length s' ≡ length s)
-      (y : TurnStep c s out marks used (2 * count) a s' out' marks') where
-    packet-turn : TurnStep c s out marks used (2 * count) (Event.Packet x next) s' out' marks'
-    packet-turn = subst (λ z. TurnStep c s out marks used (2 * count) z s' out' marks') e y
+      (y : TurnStep c s out marks used (marksEach * count) a s' out' marks') where
+    packet-turn : TurnStep c s out marks used (marksEach * count) (Event.Packet x next) s' out' marks'
+    packet-turn = subst (λ z. TurnStep c s out marks used (marksEach * count) z s' out' marks') e y
 
     -- the invariant goes on
     pub inv-next : Inv c₀ s₀ out₀ marks₀ next s' out' marks' (used + x .length) (count + 1)

@@ -9,8 +9,8 @@ use Rattle.octets.specs.Put.{cut}
 use Rattle.octets.specs.Field.{field}
 use Rattle.refusal.specs.Answer.{Answer, gives, refuses, refuse, pass}
 use Rattle.sequence.specs.Numbering.{full, inRange}
-use Rattle.packet.specs.Packet.{hasLength, unnumbered, numberAfter}
-use Rattle.packet_reader.specs.Frame.{total, totalOf, aim, cuts, cutPackets}
+use Rattle.packet.specs.Packet.{wasSent, classOf, unnumbered, numberAfter}
+use Rattle.packet_reader.specs.Frame.{lengthAs, totalOf, aim, cuts, cutPackets}
 use Rattle.model.specs.Client.{Held, Client, heldPacket, setNumbers, setEvents, costs, descriptorsOf}
 use Rattle.model.specs.Model as Model
 use Rattle.model.specs.Batch as Batch
@@ -55,12 +55,12 @@ keymap = 11 ∷ 0 ∷ 4 ∷ 0 ∷ replicate 28 0
 -- two packets and part of a third; the fourth of four finds no room; of part of a packet nothing is taken; no bytes are the end; one that is too long is refused as soon as its length is there; the row stops before an answer to what was not asked, though others are behind it
 pub feeds : (fed (event ++ longer ++ 2 ∷ 0 ∷ []) ≡ took 68 2 partial) × (fed (event ++ event ++ event ++ event) ≡ took 96 3 (refused 5)) × (fed (2 ∷ 0 ∷ []) ≡ took 0 0 partial) × (fed [] ≡ took 0 0 ended)
     × (fed (event ++ over) ≡ took 32 1 (refused 2)) × (fed (35 ∷ 0 ∷ 3 ∷ 0 ∷ 249 ∷ 63 ∷ replicate 25 0) ≡ took 0 0 partial) × (fed (event ++ keymap ++ early ++ event) ≡ took 64 2 (refused 20))
-unfolding enqueuePackets cutPackets cuts aim totalOf total hasLength stopAt many onTurn modelTook bytesTaken Model.enqueuePacket numberAfter unnumbered Model.numbered Model.askedOf Model.headOf Model.placeOf Model.claimed Model.takeIn Model.decide Model.ahead Model.decideBy pass refuse inRange full field numberIn cut turned bytesOf lowBytes lowNumber costs descriptorsOf choose both either
+unfolding enqueuePackets cutPackets cuts aim totalOf lengthAs classOf wasSent stopAt many onTurn modelTook bytesTaken Model.enqueuePacket numberAfter unnumbered Model.numbered Model.askedOf Model.headOf Model.placeOf Model.claimed Model.takeIn Model.decide Model.ahead Model.decideBy pass refuse inRange full field numberIn cut turned bytesOf lowBytes lowNumber costs descriptorsOf choose both either
 feeds = (refl, refl, refl, refl, refl, refl, refl)
 
 -- in the other order: the same two packets, of which the second has its length elsewhere
 pub feeds-big : said (enqueuePackets (asked 66) (2 ∷ 0 ∷ 0 ∷ 1 ∷ (replicate 28 0 ++ (1 ∷ 0 ∷ 0 ∷ 2 ∷ 0 ∷ 0 ∷ 0 ∷ 1 ∷ replicate 28 0)))) ≡ took 68 2 ended
-unfolding enqueuePackets cutPackets cuts aim totalOf total hasLength stopAt many onTurn modelTook bytesTaken Model.enqueuePacket numberAfter unnumbered Model.numbered Model.askedOf Model.headOf Model.placeOf Model.claimed Model.takeIn Model.decide Model.ahead Model.decideBy pass refuse inRange full field numberIn cut turned bytesOf lowBytes lowNumber costs descriptorsOf choose both either
+unfolding enqueuePackets cutPackets cuts aim totalOf lengthAs classOf wasSent stopAt many onTurn modelTook bytesTaken Model.enqueuePacket numberAfter unnumbered Model.numbered Model.askedOf Model.headOf Model.placeOf Model.claimed Model.takeIn Model.decide Model.ahead Model.decideBy pass refuse inRange full field numberIn cut turned bytesOf lowBytes lowNumber costs descriptorsOf choose both either
 feeds-big = refl
 
 -- ---- the turns of `poll_for_events`
@@ -75,10 +75,10 @@ second = heldPacket 6 longer []
 abbrev holding : List Held → Client
 holding l = setEvents (Model.fresh 108 4 500) l
 
--- Five marks are two turns with marks and the last, without.
-pub turns-five : turns 5 ≡ withMarks ∷ withMarks ∷ withoutMarks ∷ []
+-- Eight marks are two turns with marks and the last, without.
+pub turns-eight : turns 8 ≡ withMarks ∷ withMarks ∷ withoutMarks ∷ []
 unfolding turns
-turns-five = refl
+turns-eight = refl
 
 -- With room for 67 bytes the first turn hands out 32 bytes and leaves room for 35, in which the second event does not fit: 8 stops the row there. Room for 68 is enough for both.
 pub second-stays : (eventTurn (lent (holding (first ∷ second ∷ [])) 67) withMarks ≡ goes first (lent (holding (second ∷ [])) 35)) × (eventTurn (lent (holding (second ∷ [])) 35) withMarks ≡ stops (Batch.refused 8))

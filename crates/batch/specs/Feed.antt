@@ -58,7 +58,7 @@ unfoldable pub turnBy : Site → List ℕ → Front → Turn Took Stopped Site
 turnBy s bytes nothing = stops ended
 turnBy s bytes part = stops partial
 turnBy s bytes long = stops (refused 2)
-turnBy s bytes (whole n) = packetTurn s (take n bytes)
+turnBy s bytes (whole n class) = packetTurn s (take n bytes)
 
 -- what is shown of a turn: the bytes it took, and the state; or what stops the row
 pub data ShownTurn : Type 0 where

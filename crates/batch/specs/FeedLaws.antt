@@ -10,7 +10,7 @@ use lib.Seq.{length-take-le, getD-take, getD-drop}
 use borrow.Author.Tests.{ltb-true, ltb-false, lt-ltb, le-ltb, eq-eqb, ne-eqb}
 use Rattle.octets.specs.Logic.{choose}
 use Rattle.refusal.specs.Answer.{Answer, gives, refuses, refuse, pass, gives-same}
-use Rattle.packet.specs.Packet.{leastPacket, mostPacket}
+use Rattle.packet.specs.Packet.{leastPacket, mostPacket, PacketClass}
 use Rattle.packet_reader.specs.Frame.{aim, Cut, cons, cuts, cutPackets}
 use Rattle.packet_reader.specs.CutLaws.{aim-least}
 use Rattle.packet_reader.specs.Reader.{mostBuffer}
@@ -71,7 +71,7 @@ stop-long o b p =
     let z : length b ≡ 0 → ⊥ = λ e. omega (arith, p .some) in
     simp (ne-eqb (length b) 0 z, lt-ltb mostBuffer (aim o b (length b)) (p .over))
 
-cut-whole : (o : ℕ) (b : List ℕ) (n : ℕ) → Whole o b n → cutPackets o b ≡ cons (take n b) (cutPackets o (drop n b))
+cut-whole : (o : ℕ) (b : List ℕ) (n : ℕ) {k : PacketClass} → Whole o b n k → cutPackets o b ≡ cons (take n b) (cutPackets o (drop n b))
 cut-whole o b n w =
     packets-next o b (omega (arith, w .target, w .fits)) ∙ ap (λ (k : ℕ). cons (take k b) (cutPackets o (drop k b))) (sym (w .target))
 
@@ -86,7 +86,7 @@ no-goes : {A W S B : Type 0} {a : A} {s : S} {w : W} → _≡_ {A = Turn A W S} 
 no-goes e = absurd (let z : _≡_ {A = ℕ} 0 1 = cc in omega arith)
 
 module _ (o : ℕ) (vs : List Took) (s : Site) (b : List ℕ) where
-  goes-whole : (n : ℕ) → Whole o b n → (v : Took) (s' : Site) → goes v s' ≡ packetTurn s (take n b) → Goes o vs s b v s'
+  goes-whole : (n : ℕ) {k : PacketClass} → Whole o b n k → (v : Took) (s' : Site) → goes v s' ≡ packetTurn s (take n b) → Goes o vs s b v s'
   goes-whole n w v s' q =
       let l : length (take n b) ≡ n = length-take-le n b (w .fits) in
       let t = took-goes (length (take n b)) (enqueueExact (s .state) (s .left) (take n b)) v s' q in
@@ -109,7 +109,7 @@ module _ (o : ℕ) (vs : List Took) (s : Site) (b : List ℕ) where
       go nothing e h = no-goes h
       go part e h = no-goes h
       go long e h = no-goes h
-      go (whole n) e h = goes-whole n (tells-whole o b n e) v s' h
+      go (whole n k) e h = goes-whole n (tells-whole o b n k e) v s' h
 
   -- no whole packet is there
   stops-none : (w : Stopped) → length b < aim o b (length b) → stopAt o b ≡ w → onward vs (row o s (cutPackets o b)) ≡ onward vs (record { values = []; stopped = w; end = s })
@@ -146,7 +146,7 @@ module _ (o : ℕ) (vs : List Took) (s : Site) (b : List ℕ) where
       go nothing e h = stops-none w (omega (arith, tells-nothing o b e, aim-least o b (length b))) (stop-nothing o b (tells-nothing o b e) ∙ sym (stops-one h))
       go part e h = stops-none w (tells-part o b e .lacks) (stop-part o b (tells-part o b e) ∙ sym (stops-one h))
       go long e h = stops-long (tells-long o b e) ∙ ap (λ (x : Stopped). onward vs (record { values = []; stopped = x; end = s })) (sym (stops-one h))
-      go (whole n) e h = let W = tells-whole o b n e in stops-there w n (omega (arith, W .target, W .fits)) (W .target) h
+      go (whole n k) e h = let W = tells-whole o b n k e in stops-there w n (omega (arith, W .target, W .fits)) (W .target) h
 
 -- ---- THE MODEL'S ROW
 

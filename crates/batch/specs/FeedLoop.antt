@@ -11,6 +11,8 @@ use Rattle.refusal.specs.declared.Refusal.{Refusal}
 use Rattle.refusal.specs.declared.Refusal.the-variants as Refusal
 use Rattle.sequence.specs.declared.SequenceNumber.{SequenceNumber}
 use Rattle.packet.specs.Packet.{leastPacket}
+use Rattle.packet.specs.Class.{saysClass}
+use Rattle.packet.specs.declared.Class.{Class}
 use Rattle.packet_reader.specs.Frame.{cutPackets}
 use Rattle.packet_reader.specs.CutLaws.{aim-least}
 use Rattle.packet_reader.specs.Front.{Front, frontOf, saysBegins, tells-whole, packets-none}
@@ -51,8 +53,8 @@ took-off n (gives d) r r' x a l = absurd (let z : _≡_ {A = ℕ} 0 1 = cc in om
 took-off n (refuses k) r r' x a l = let z : numberOf x ≡ k = cc in record { answers = ap (λ (m : ℕ). halted (refused m)) z; leaves = l }
 
 module _ (c : Connection) (q s f p : List ℕ) (x : Enqueued) (s' f' : List ℕ) (E : EnqueueStep c q s f p x s' f') where
-  pub packet-on : (place : Place) (n : SequenceNumber) (next : Connection) → x ≡ Enqueued.Filed place n next → PacketTurn c q s f p (Turned.On (length p) next) s' f'
-  packet-on place n next g =
+  pub packet-on : (place : Place) (n : SequenceNumber) (k : Class) (next : Connection) → x ≡ Enqueued.Filed place n k next → PacketTurn c q s f p (Turned.On (length p) next) s' f'
+  packet-on place n k next g =
       took-on (length p) (enqueueExact c (rooms q s f) p) (rooms q s f) (rooms q s' f') _ next (ap saysEnqueued (sym g) ∙ E .exact .answers) (E .exact .leaves)
 
   pub packet-halted : (r : Refusal) → x ≡ Enqueued.Refused r → PacketTurn c q s f p (Turned.Halted (Halt.Refused r)) s' f'
@@ -79,12 +81,12 @@ module _ (o : ℕ) (c : Connection) (q s f b : List ℕ) (g : Begins) (e : saysB
   unfolding turnBy shownTurn leftBy
   front-over h = front-by Begins.Long h (Turned.Halted (Halt.Refused Refusal.LongPacket)) s f (record { answers = refl; leaves = refl })
 
-  pub front-packet : (n : ℕ) → g ≡ Begins.Whole n → (a : Turned) (s' f' : List ℕ) → PacketTurn c q s f (take n b) a s' f' → FrontTurn o c q s f b a s' f'
+  pub front-packet : (n : ℕ) (k : Class) → g ≡ Begins.Whole n k → (a : Turned) (s' f' : List ℕ) → PacketTurn c q s f (take n b) a s' f' → FrontTurn o c q s f b a s' f'
   unfolding turnBy
-  front-packet n h a s' f' t = front-by (Begins.Whole n) h a s' f' t
+  front-packet n k h a s' f' t = front-by (Begins.Whole n k) h a s' f' t
 
-pub front-fits : (o : ℕ) (b : List ℕ) (g : Begins) → saysBegins g ≡ frontOf o b → (n : ℕ) → g ≡ Begins.Whole n → n ≤ length b
-front-fits o b g e n h = tells-whole o b n (ap saysBegins (sym h) ∙ e) .fits
+pub front-fits : (o : ℕ) (b : List ℕ) (g : Begins) → saysBegins g ≡ frontOf o b → (n : ℕ) (k : Class) → g ≡ Begins.Whole n k → n ≤ length b
+front-fits o b g e n k h = tells-whole o b n (saysClass k) (ap saysBegins (sym h) ∙ e) .fits
 
 -- the bytes from at on
 ahead : (bytes : List ℕ) (at : ℕ) → take (length bytes - at) (drop at bytes) ≡ drop at bytes

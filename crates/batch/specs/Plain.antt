@@ -3,10 +3,10 @@ use mathlib.Core.Path.{_≡_, ap, subst}
 use mathlib.Core.Bool.{false}
 use mathlib.Core.List.{List}
 use Prim.Native.Nat.{ℕ, _≤_}
-use lib.ListN.{length, take, getD}
+use lib.ListN.{length, take}
 use lib.Seq.{length-take-le}
 use Rattle.sequence.specs.declared.SequenceNumber.{SequenceNumber}
-use Rattle.packet.specs.Packet.{leastPacket, hasLength}
+use Rattle.packet.specs.Packet.{leastPacket, packetClass, hasLength}
 use Rattle.packet_reader.specs.Front.{Front, whole, front-fixed}
 use Rattle.intake.specs.Exact.{enqueueExact}
 use Rattle.intake.specs.Event.{Writable, PlainEvent, IsPlain, PlainStep, ready-writable}
@@ -25,7 +25,7 @@ use Rattle.batch.specs.FeedLoop.{took-on}
 -- the bytes begin with such an event, and its number is n
 pub record EventAhead (c : Connection) (s b : List ℕ) (n : ℕ) : Type 0 where
   pub there : leastPacket ≤ length b
-  pub short : hasLength (getD b 0 0) ≡ false
+  pub short : hasLength (packetClass b) ≡ false
   pub plain : PlainEvent c s (take leastPacket b) n
 
 abbrev pub IsAhead : Connection → List ℕ → List ℕ → Plain → Type 0
@@ -38,7 +38,7 @@ pub record PlainTurn (c : Connection) (s b : List ℕ) (a : Connection) (s' : Li
 
 -- ---- laws
 
-pub ahead-is : (c : Connection) (s b : List ℕ) (x : Plain) → leastPacket ≤ length b → hasLength (getD b 0 0) ≡ false → IsPlain c s (take leastPacket b) x → IsAhead c s b x
+pub ahead-is : (c : Connection) (s b : List ℕ) (x : Plain) → leastPacket ≤ length b → hasLength (packetClass b) ≡ false → IsPlain c s (take leastPacket b) x → IsAhead c s b x
 ahead-is c s b (Plain.Event n) h e P = record { there = h; short = e; plain = P }
 ahead-is c s b Plain.Other h e P = tt
 
@@ -49,7 +49,7 @@ plain-turn c s b n a s' A S =
     record {
       turn = λ o q f.
           subst (λ (y : Front). TurnIs (turnBy (site c (rooms q s f)) b y) (rooms q s f) (Turned.On leastPacket a) (rooms q s' f)) (front-fixed o b (A .there) (A .short))
-          (subst (λ (k : ℕ). TurnIs (turnBy (site c (rooms q s f)) b (whole leastPacket)) (rooms q s f) (Turned.On k a) (rooms q s' f)) l
+          (subst (λ (k : ℕ). TurnIs (turnBy (site c (rooms q s f)) b (whole leastPacket (packetClass b))) (rooms q s f) (Turned.On k a) (rooms q s' f)) l
           (took-on (length (take leastPacket b)) (enqueueExact c (rooms q s f) (take leastPacket b)) (rooms q s f) (rooms q s' f) _ a (ap (answerOf same) (S .exact q f)) (ap (λ y. roomsOf y (rooms q s f)) (S .exact q f))));
     }
 

@@ -1,5 +1,5 @@
-// Many events are handed out, oldest first: their packets one behind the other, and two marks for
-// each, its number and the length of its packet.
+// Many events are handed out, oldest first: their packets one behind the other, and three marks for
+// each, its number, the length of its packet and its class.
 //
 // Where the oldest record is an event that finds room it goes the short way out. Any other turn looks
 // for the oldest event from the oldest record on, so it walks over the replies that are held before it.
@@ -13,11 +13,11 @@ ghost use mathlib.Core.Path.{_≡_};
 ghost use Prim.Native.Nat.{_+_, _-_, _≤_};
 ghost use lib.Dec.{leb};
 ghost use lib.ListN.{length};
-ghost use Rattle.model.specs.PollForEvents.{roomFor};
+ghost use Rattle.model.specs.PollForEvents.{marksEach, roomFor};
 ghost use Rattle.batch.specs.Events.{Stored, EventsStep, TurnStep, marked, Markable, stoppedBy};
 
 // The marks of an event.
-pub(crate) const MARKS: usize = 2;
+pub(crate) const MARKS: usize = 3;
 
 // As many events as fit. Refused by 8 where there is one and not even one fits.
 pub fn poll_for_events(c: Connection, store: &mut [u8], out: &mut [u8], marks: &mut [u64]) -> Events
@@ -54,7 +54,7 @@ pub fn poll_for_events(c: Connection, store: &mut [u8], out: &mut [u8], marks: &
 }
 
 // One turn: the next event behind the bytes that are used, and its marks behind those that are
-// there. Without two marks it has no room.
+// there. Without three marks it has no room.
 fn turn(
     c: Connection,
     store: &mut [u8],
@@ -73,7 +73,7 @@ fn turn(
 }
 
 fn room_for(marks: usize, room: usize) -> usize
-    ensures { λ r. ⌜ r ≡ roomFor (leb 2 marks) room ⌝ }
+    ensures { λ r. ⌜ r ≡ roomFor (leb marksEach marks) room ⌝ }
 {
     if marks < MARKS {
         return 0;
@@ -88,8 +88,10 @@ fn mark(marks: &mut [u64], at: usize, a: Event)
     match a {
         Event::Packet(handed, _) => {
             let number = handed.number;
+            let class = handed.class;
             marks[at] = number.0;
             marks[at + 1] = handed.length as u64;
+            marks[at + 2] = packet::class_number(class) as u64;
         }
         Event::Nothing(_) => {}
         Event::Refused(_) => {}

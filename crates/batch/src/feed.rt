@@ -35,7 +35,7 @@ fn packet_turn(
     ensures { λ r. ⌜ PacketTurn c (now (requests .entry)) (now (store .entry)) (now (slots .entry)) (now (packet .entry)) r (now (store .exit)) (now (slots .exit)) ⌝ }
 {
     match intake::enqueue_packet(c, requests, store, slots, packet) {
-        Enqueued::Filed(_, _, next) => Turned::On(packet.len(), next),
+        Enqueued::Filed(_, _, _, next) => Turned::On(packet.len(), next),
         Enqueued::Refused(refusal) => Turned::Halted(Halt::Refused(refusal)),
     }
 }
@@ -56,7 +56,7 @@ fn front_turn(
         Begins::Nothing => Turned::Halted(Halt::End),
         Begins::Part => Turned::Halted(Halt::Part),
         Begins::Long => Turned::Halted(Halt::Refused(Refusal::LongPacket)),
-        Begins::Whole(n) => packet_turn(c, requests, store, slots, &bytes[..n]),
+        Begins::Whole(n, _) => packet_turn(c, requests, store, slots, &bytes[..n]),
     }
 }
 
@@ -68,7 +68,8 @@ fn plain_ahead(c: Connection, store: &[u8], bytes: &[u8]) -> Plain
     if bytes.len() < packet::LEAST_PACKET {
         return Plain::Other;
     }
-    if packet::has_length(bytes[0]) {
+    let class = packet::class_of(bytes[0]);
+    if !packet::is_plain(class) {
         return Plain::Other;
     }
     intake::plain_of(c, store, &bytes[..packet::LEAST_PACKET])

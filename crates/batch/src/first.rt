@@ -16,10 +16,10 @@ pub(crate) fn is_first(c: Connection, store: &[u8], room: usize, marks: usize) -
 {
     let window = c.window;
     let start = window.start;
-    if window.end <= start {
+    if marks < MARKS {
         return false;
     }
-    if marks < MARKS {
+    if window.end <= start {
         return false;
     }
     if held::kind_at(store, start) != held::IN_EVENTS {
@@ -48,11 +48,13 @@ pub(crate) fn hand_first(
     let start = window.start;
     let len = held::length_at(store, start);
     let number = held::number_at(store, start);
+    let class = held::class_at(store, start);
     let from = start + held::HEADER;
     let end = from + len;
     octets::copy_in(out, used, &store[from..end]);
     marks[at] = number;
     marks[at + 1] = len as u64;
+    marks[at + 2] = packet::class_number(class) as u64;
     len
 }
 

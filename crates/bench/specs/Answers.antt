@@ -2,7 +2,7 @@
 use mathlib.Core.Path.{_≡_, refl, sym, subst}
 use mathlib.Core.Bool.{Bool, true, false}
 use mathlib.Core.List.{List, []}
-use Prim.Native.Nat.{ℕ, _+_, _-_, _≤_}
+use Prim.Native.Nat.{ℕ, _+_, _-_, _≤_, _<_}
 use native.Mathlib.Omega.{arith}
 use lib.ListN.{getD, length}
 use Rattle.packet.specs.Packet.{leastPacket, mostPacket}
@@ -12,7 +12,7 @@ use Rattle.held.specs.Walk.{walked}
 use Rattle.held.specs.Find.{foundEvent}
 use Rattle.held.specs.Moves.{Within, Room, window}
 use Rattle.held.specs.Lies.{FirstEvent, FindsEvent}
-use Rattle.held.specs.Theorems.{Walks, walks, find-event-law, place-law, fits-law}
+use Rattle.held.specs.Theorems.{Walks, walks, find-event-law, place-law, fits-law, first-law}
 use Rattle.held.specs.declared.Window.{Window}
 use Rattle.held.specs.declared.Spot.{Spot}
 use Rattle.held.specs.declared.Walked.{Walked}
@@ -67,6 +67,9 @@ module _ (last : ℕ) (w : Window) (s : List ℕ) (p : Spot) (S : Sound last w s
 
   pub within : Within w s p
   within = place-law last w s S event p [] (first .it) (first .after) (first .lies)
+
+  pub byte : p .at + headerSize < length s
+  byte = first-law last w s S event p [] (first .it) (first .after) (first .lies) .0
 
   pub whole : leastPacket ≤ p .len
   whole = omega (arith, first .len, fits-law last w s S event p [] (first .it) (first .after) (first .lies) .least)

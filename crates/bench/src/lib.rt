@@ -144,7 +144,7 @@ pub extern "C" fn bench_take(
             if out.len() < len {
                 return 0;
             }
-            let next = held::take(store, w, place, out);
+            let next = held::take(store, w, place, out).window;
             window[0] = next.start;
             window[1] = next.end;
             len

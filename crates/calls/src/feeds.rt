@@ -10,6 +10,7 @@ use leaves::Buffered;
 use leaves::Fed;
 use model::Connection;
 use model::Enqueued;
+use packet::Class;
 use refusal::Refusal;
 use script::Op;
 
@@ -113,9 +114,9 @@ fn one(
         Fed::NotYet(n, reader) => {
             return on(shown, n, reader);
         }
-        Fed::Packet(n, len, reader) => {
+        Fed::Packet(n, len, class, reader) => {
             let next = on(shown, n, reader);
-            return came(next, len, take, requests, store, slots, bytes);
+            return came(next, len, class, take, requests, store, slots, bytes);
         }
         Fed::Refused(refusal) => {
             return stopped(shown, refusal);
@@ -127,13 +128,14 @@ fn one(
 fn came(
     shown: Shown,
     len: usize,
+    class: Class,
     take: bool,
     requests: &[u8],
     store: &mut [u8],
     slots: &mut [u32],
     bytes: &mut [u8],
 ) -> Shown {
-    let next = seen(shown, len, bytes);
+    let next = seen(shown, len, class, bytes);
     if !take {
         return next;
     }
@@ -153,10 +155,11 @@ fn stopped(shown: Shown, refusal: Refusal) -> Shown {
     next
 }
 
-// It is shown and counted.
-fn seen(shown: Shown, len: usize, bytes: &mut [u8]) -> Shown {
+// It is shown with its class, and counted.
+fn seen(shown: Shown, len: usize, class: Class, bytes: &mut [u8]) -> Shown {
     let mut next = shown;
-    next.text = text::packet(bytes, shown.text, leaves::READER, len);
+    let a = text::packet(bytes, shown.text, leaves::READER, len);
+    next.text = text::class(bytes, a, packet::class_number(class) as u64);
     next.count = text::up(shown.count);
     next
 }
@@ -180,7 +183,7 @@ fn taken(
 
 fn filed(shown: Shown, answer: Enqueued) -> Shown {
     match answer {
-        Enqueued::Filed(_, _, c) => moved(shown, c),
+        Enqueued::Filed(_, _, _, c) => moved(shown, c),
         Enqueued::Refused(refusal) => stopped(shown, refusal),
     }
 }

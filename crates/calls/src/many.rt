@@ -90,8 +90,8 @@ fn halted(halt: Halt) -> u8 {
 
 // ---- `drain`
 
-// Two for each event of the least length that the bytes can hold.
-const MARKS: usize = 4096;
+// Three for each event of the least length that the bytes can hold.
+const MARKS: usize = 6144;
 
 // One call that hands out many events. Their packets go to the start of the run of bytes, up to the
 // reader's buffer.
@@ -145,30 +145,52 @@ fn events(count: usize, marks: &[u64], bytes: &mut [u8], waiting: usize) -> usiz
     let mut i = 0;
     while i < count {
         let len = length_at(marks, i);
-        next = event(number_at(marks, i), from, len, bytes, next);
+        next = event(
+            number_at(marks, i),
+            from,
+            len,
+            class_at(marks, i),
+            bytes,
+            next,
+        );
         from = text::behind(from, len);
         i += 1;
     }
     next
 }
 
-// An event's number, and its packet, which stands from an index on.
-fn event(number: u64, from: usize, len: usize, bytes: &mut [u8], waiting: usize) -> usize {
+// An event's number, its packet, which stands from an index on, and the packet's class.
+fn event(
+    number: u64,
+    from: usize,
+    len: usize,
+    class: u64,
+    bytes: &mut [u8],
+    waiting: usize,
+) -> usize {
     let a = text::counted(bytes, waiting, b" ", number);
-    text::packet(bytes, a, from, len)
+    let b = text::packet(bytes, a, from, len);
+    text::class(bytes, b, class)
 }
 
-// The two marks of an event: its number and the length of its packet.
+// The three marks of an event: its number, the length of its packet and the number of its class.
 fn number_at(marks: &[u64], i: usize) -> u64 {
-    if marks.len() / 2 <= i {
+    if marks.len() / 3 <= i {
         return 0;
     }
-    marks[2 * i]
+    marks[3 * i]
 }
 
 fn length_at(marks: &[u64], i: usize) -> usize {
-    if marks.len() / 2 <= i {
+    if marks.len() / 3 <= i {
         return 0;
     }
-    marks[2 * i + 1] as usize
+    marks[3 * i + 1] as usize
+}
+
+fn class_at(marks: &[u64], i: usize) -> u64 {
+    if marks.len() / 3 <= i {
+        return text::NO_CLASS;
+    }
+    marks[3 * i + 2]
 }

@@ -29,7 +29,10 @@ pub(crate) fn intake(
 
 fn filed(c: Connection, answer: Enqueued) -> Called {
     match answer {
-        Enqueued::Filed(_, _, next) => sends::with(next, text::say(text::OK)),
+        Enqueued::Filed(_, _, class, next) => {
+            let number = packet::class_number(class) as u64;
+            sends::with(next, text::classed(text::OK, number))
+        }
         Enqueued::Refused(refusal) => sends::refused(c, refusal),
     }
 }
@@ -90,8 +93,10 @@ fn happened(c: Connection, answer: Event) -> Called {
 
 fn shown(handed: Handed) -> text::Answer {
     let number = handed.number;
+    let class = handed.class;
     let mut answer = text::count(text::EVENT, number.0);
     answer.len = handed.length;
+    answer.class = packet::class_number(class) as u64;
     answer
 }
 

@@ -16,6 +16,8 @@ use Rattle.held.specs.Reading as Store
 use Rattle.held.specs.Find as Find
 use Rattle.held.specs.Moves as Moves
 use Rattle.descriptors.specs.Room as Slots
+use Rattle.packet.specs.Packet.{wasSent, classOf}
+use Rattle.packet.specs.declared.Class.the-variants as Class
 use Rattle.model.specs.Client.{Client, heldPacket, setEvents}
 use Rattle.model.specs.Model as Model
 use Rattle.model.specs.Reading.{Rooms, rooms, withDescriptors, reads}
@@ -73,7 +75,7 @@ short = replicate 31 255
 
 -- what an answer shows of the packet
 abbrev shown : Handed
-shown = record { number = record { 0 = 7 }; length = 32; descriptors = 0 }
+shown = record { number = record { 0 = 7 }; length = 32; descriptors = 0; class = Class.Event }
 
 -- the state with nothing held, and the output with the packet and 8 bytes as found
 abbrev after : Connection
@@ -84,7 +86,7 @@ written = event ++ replicate 8 255
 
 -- opens what the claims compute with
 unfoldable computing : ℕ
-unfolding answerOf roomsOf outputOf modelOf guarded refuse soundb numbersb limitsb runb heldb holdsb both either choose legal bytesOf numberIn lowBytes lowNumber turned put cut field Room.sized Room.legals Room.legalRun Room.legal Room.byteAt Room.requestAt Room.requestOf Room.modeOf Room.upto Room.outstanding General.same Head.encoded Head.mostFds Head.fits Head.numOf Head.lenOf Head.fdsOf Head.kindOf Head.decoded Store.flat Store.readUpTo Store.readAll Store.records Store.only Store.fdsIn Store.all Store.rising Store.fine Store.soundb Find.sought Find.suits Find.foundEvent Moves.removed Slots.sound Slots.closing Slots.holding Slots.waiting withDescriptors reads Model.pollForEvent eventExact
+unfolding answerOf roomsOf outputOf modelOf guarded refuse soundb numbersb limitsb runb heldb holdsb both either choose legal bytesOf numberIn lowBytes lowNumber turned put cut field Room.sized Room.legals Room.legalRun Room.legal Room.byteAt Room.requestAt Room.requestOf Room.modeOf Room.upto Room.outstanding General.same Head.encoded Head.mostFds Head.fits Head.numOf Head.lenOf Head.fdsOf Head.kindOf Head.decoded Store.flat Store.readUpTo Store.readAll Store.records Store.only Store.fdsIn Store.all Store.rising Store.fine Store.soundb Find.sought Find.suits Find.foundEvent Moves.removed Slots.sound Slots.closing Slots.holding Slots.waiting withDescriptors reads Model.pollForEvent classOf wasSent eventExact
 computing = 0
 
 -- 1. HANDED OUT. `answers`: the packet is shown, and the state is handed back with nothing held. `leaves`: no byte of the rooms changed, since the record was the first in its window.

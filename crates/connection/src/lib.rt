@@ -104,9 +104,9 @@ pub fn enqueue_fds(
     sending::enqueue_fds(c, slots, list)
 }
 
-// A packet came from the server. Answers where it was filed and under which number; refused by 9, 1
-// under 32 bytes, 2 over 65,536, 3 past the last number, 20 where it answers what was not asked, 4
-// where it claims more descriptors than wait, 5 where the store has no room.
+// A packet came from the server. Answers where it was filed, under which number, and its class;
+// refused by 9, 1 under 32 bytes, 2 over 65,536, 3 past the last number, 20 where it answers what
+// was not asked, 4 where it claims more descriptors than wait, 5 where the store has no room.
 pub fn enqueue_packet(
     c: Connection,
     requests: &[u8],
@@ -225,7 +225,8 @@ pub fn poll_for_reply(
     polling::poll_for_reply(c, store, slots, number.0, out)
 }
 
-// The oldest event, with its number. Refused by 9, and 8 where out is too small.
+// The oldest event, with its number and its class, which is that of an error where one is among the
+// events. Refused by 9, and 8 where out is too small.
 pub fn poll_for_event_with_sequence(
     c: Connection,
     requests: &[u8],
@@ -241,10 +242,10 @@ pub fn poll_for_event_with_sequence(
     polling::poll_for_event(c, store, out)
 }
 
-// As many events as fit, oldest first: their packets one behind the other in out, and two marks for
-// each, its number and the length of its packet. Does as `poll_for_event_with_sequence` for one
-// after the other, behind one test, and says whether an event is left that has no room. Refused by
-// 9, and 8 where there is an event and not even one fits.
+// As many events as fit, oldest first: their packets one behind the other in out, and three marks
+// for each, its number, the length of its packet and its class. Does as
+// `poll_for_event_with_sequence` for one after the other, behind one test, and says whether an event
+// is left that has no room. Refused by 9, and 8 where there is an event and not even one fits.
 pub fn poll_for_events(
     c: Connection,
     requests: &[u8],

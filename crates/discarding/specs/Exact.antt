@@ -2,7 +2,7 @@
 use mathlib.Core.Path.{_≡_}
 use mathlib.Core.List.{List}
 use Prim.Native.Nat.{ℕ, zero, suc, _+_, _%_, _≤_}
-use lib.Dec.{leb, eqb}
+use lib.Dec.{leb}
 use lib.ListN.{length, take, drop, getD}
 use Rattle.octets.specs.Logic.{choose, both}
 use Rattle.requests.specs.Room.{putMode}
@@ -17,7 +17,7 @@ use Rattle.held.specs.declared.Found.{Found}
 use Rattle.held.specs.declared.Found.the-variants as Found
 use Rattle.held.specs.Tally.{own, lower, higher}
 use Rattle.descriptors.specs.Room as Slots
-use Rattle.packet.specs.Packet.{errorCode}
+use Rattle.packet.specs.Packet.{classOf, isError}
 use Rattle.model.specs.Model.{modeOf}
 use Rattle.model.specs.Reading.{Rooms, rooms, slotsOf}
 use Rattle.model.specs.Promise.{Done}
@@ -70,7 +70,7 @@ discardSlots m n rs d = closedRound (fdsBelow n rs) (fdsBefore m n rs) (fdsFrom 
 -- one goes; "under DiscardReply the errors among them become events"
 abbrev pub clearedAt : DiscardMode → Left → Spot → Left
 clearedAt DiscardMode.DiscardReply l p =
-    choose (eqb (getD (l .store) (p .at + headerSize) 0) errorCode) (left (l .window) (demoted (l .window) (l .store) p)) (removed (l .window) (l .store) p)
+    choose (isError (classOf (getD (l .store) (p .at + headerSize) 0))) (left (l .window) (demoted (l .window) (l .store) p)) (removed (l .window) (l .store) p)
 clearedAt DiscardMode.DiscardReplyAndError l p = removed (l .window) (l .store) p
 
 abbrev pub clearedFrom : DiscardMode → Left → Found → Left

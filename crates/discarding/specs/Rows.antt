@@ -4,7 +4,7 @@ use mathlib.Core.Bool.{Bool, true, false}
 use mathlib.Core.List.{List, [], _∷_, _++_, append-assoc, append-nil}
 use Prim.Native.Nat.{ℕ, zero, suc, _+_, _-_, _≤_}
 use native.Mathlib.Omega.{arith}
-use lib.Dec.{eqb, ltb}
+use lib.Dec.{ltb}
 use lib.ListN.{length, take, drop, getD}
 use lib.Seq.{drop-at, drop-drop, take-append-le, take-take, length-take-le}
 use Rattle.octets.specs.Logic.{choose}
@@ -26,7 +26,7 @@ use Rattle.descriptors.specs.Room as Slots
 use Rattle.descriptors.specs.Theorems as Fds
 use Rattle.model.specs.Client.{descriptorsOf}
 use Rattle.model.specs.Client as Client
-use Rattle.packet.specs.Packet.{errorCode}
+use Rattle.packet.specs.Packet.{classOf, isError}
 use Rattle.model.specs.Reading.{heldWith, withDescriptors}
 use Rattle.model.specs.ReadingLaws.{descriptors-with}
 use Rattle.model.specs.declared.DiscardMode.{DiscardMode}
@@ -122,7 +122,7 @@ module _ (d : Slots.Room) (S : Slots.Sound d) (at u v : ℕ) (some : at + u + v 
 -- the errors of a row, as events; what discarding makes events
 unfoldable pub errorsIn : List Head.Record → List Head.Record
 errorsIn [] = []
-errorsIn (h ∷ l) = choose (eqb (getD (h .packet) 0 0) errorCode) (Head.asEvent h ∷ errorsIn l) (errorsIn l)
+errorsIn (h ∷ l) = choose (isError (classOf (getD (h .packet) 0 0))) (Head.asEvent h ∷ errorsIn l) (errorsIn l)
 
 abbrev pub becoming : DiscardMode → List Head.Record → List Head.Record
 becoming DiscardMode.DiscardReply l = errorsIn l
@@ -130,7 +130,7 @@ becoming DiscardMode.DiscardReplyAndError l = []
 
 errors-first : (h : Head.Record) (l : List Head.Record) → errorsIn (h ∷ l) ≡ errorsIn (h ∷ []) ++ errorsIn l
 unfolding errorsIn choose
-errors-first h l = go (eqb (getD (h .packet) 0 0) errorCode)
+errors-first h l = go (isError (classOf (getD (h .packet) 0 0)))
   where
     go : (t : Bool) → choose t (Head.asEvent h ∷ errorsIn l) (errorsIn l) ≡ choose t (Head.asEvent h ∷ []) [] ++ errorsIn l
     go true = refl
@@ -191,9 +191,9 @@ module _ (last n : ℕ) (l : Left) (S : Store.Sound last (l .window) (l .store))
   pub one-step : (m : DiscardMode) → One last m l (F .before) (F .it) (F .after) (clearedAt m l p)
   unfolding errorsIn
   one-step DiscardMode.DiscardReply =
-      choose-either (One last DiscardMode.DiscardReply l (F .before) (F .it) (F .after)) (eqb (getD (l .store) (p .at + headerSize) 0) errorCode) _ _
-      (λ t. turned-one (sym (choose-yes _ (Head.asEvent (F .it) ∷ []) [] (ap (λ (b : ℕ). eqb b errorCode) (sym byte) ∙ t))))
-      (λ t. gone DiscardMode.DiscardReply (sym (choose-no _ (Head.asEvent (F .it) ∷ []) [] (ap (λ (b : ℕ). eqb b errorCode) (sym byte) ∙ t))))
+      choose-either (One last DiscardMode.DiscardReply l (F .before) (F .it) (F .after)) (isError (classOf (getD (l .store) (p .at + headerSize) 0))) _ _
+      (λ t. turned-one (sym (choose-yes _ (Head.asEvent (F .it) ∷ []) [] (ap (λ (b : ℕ). isError (classOf b)) (sym byte) ∙ t))))
+      (λ t. gone DiscardMode.DiscardReply (sym (choose-no _ (Head.asEvent (F .it) ∷ []) [] (ap (λ (b : ℕ). isError (classOf b)) (sym byte) ∙ t))))
   one-step DiscardMode.DiscardReplyAndError = gone DiscardMode.DiscardReplyAndError refl
 
 -- what is left once none of the number is held

@@ -1,6 +1,6 @@
 -- How discarding comes out, part by part. Assumes nothing.
 use mathlib.Core.Path.{_≡_, refl, sym, ap, _∙_, subst}
-use mathlib.Core.Bool.{Bool}
+use mathlib.Core.Bool.{Bool, true, false}
 use mathlib.Core.List.{List}
 use Prim.Native.Nat.{ℕ, zero, suc, _+_, _-_, _≤_, _<_, _%_}
 use native.Mathlib.Omega.{arith}
@@ -8,7 +8,7 @@ use native.Mathlib.Nat.{add-zero, mod-lt}
 use lib.Dec.{leb}
 use lib.ListN.{length, take, drop, getD, take-append-drop}
 use lib.Seq.{drop-drop, take-add}
-use borrow.Author.Tests.{le-leb, lt-leb, eq-eqb, ne-eqb}
+use borrow.Author.Tests.{le-leb, lt-leb}
 use Rattle.octets.specs.Logic.{choose, both}
 use Rattle.requests.specs.Room.{putMode}
 use Rattle.requests.specs.declared.Mode.{Mode}
@@ -28,7 +28,7 @@ use Rattle.held.specs.declared.Found.{Found}
 use Rattle.held.specs.declared.Found.the-variants as Found
 use Rattle.held.specs.Tally.{own}
 use Rattle.descriptors.specs.Room as Slots
-use Rattle.packet.specs.Packet.{errorCode}
+use Rattle.packet.specs.Packet.{PacketClass, classOf, isError}
 use Rattle.model.specs.Model.{modeOf}
 use Rattle.model.specs.declared.Connection.{Connection}
 use Rattle.model.specs.declared.DiscardMode.{DiscardMode}
@@ -58,15 +58,15 @@ turn-round m r k e h = (ap (λ (x : DiscardMode). turnOf x r k) (sym e), omega (
 -- ---- one packet goes
 
 module _ (w : Window) (s : List ℕ) (p : Spot) (m : DiscardMode) where
-  pub clear-error : m ≡ DiscardMode.DiscardReply → (x : ℕ) (s' : List ℕ) → x ≡ getD s (p .at + headerSize) 0 → x ≡ errorCode → s' ≡ demoted w s p → Leaves (clearedAt m (left w s) p) w s'
+  pub clear-error : m ≡ DiscardMode.DiscardReply → (x : PacketClass) (s' : List ℕ) → x ≡ classOf (getD s (p .at + headerSize) 0) → isError x ≡ true → s' ≡ demoted w s p → Leaves (clearedAt m (left w s) p) w s'
   clear-error g x s' e f d =
-      let z : clearedAt m (left w s) p ≡ left w (demoted w s p) = ap (λ (k : DiscardMode). clearedAt k (left w s) p) g ∙ choose-yes _ _ _ (eq-eqb _ _ (sym e ∙ f)) in
+      let z : clearedAt m (left w s) p ≡ left w (demoted w s p) = ap (λ (k : DiscardMode). clearedAt k (left w s) p) g ∙ choose-yes _ _ _ (ap isError (sym e) ∙ f) in
       record { window = ap (λ (l : Left). l .window) (sym z); store = d ∙ ap (λ (l : Left). l .store) (sym z) }
 
-  pub clear-reply : m ≡ DiscardMode.DiscardReply → (x : ℕ) (w' : Window) (s' : List ℕ) → x ≡ getD s (p .at + headerSize) 0 → (x ≡ errorCode → ⊥) → Leaves (removed w s p) w' s'
+  pub clear-reply : m ≡ DiscardMode.DiscardReply → (x : PacketClass) (w' : Window) (s' : List ℕ) → x ≡ classOf (getD s (p .at + headerSize) 0) → isError x ≡ false → Leaves (removed w s p) w' s'
       → Leaves (clearedAt m (left w s) p) w' s'
   clear-reply g x w' s' e f L =
-      let z : clearedAt m (left w s) p ≡ removed w s p = ap (λ (k : DiscardMode). clearedAt k (left w s) p) g ∙ choose-no _ _ _ (ne-eqb _ _ (λ k. f (e ∙ k))) in
+      let z : clearedAt m (left w s) p ≡ removed w s p = ap (λ (k : DiscardMode). clearedAt k (left w s) p) g ∙ choose-no _ _ _ (ap isError (sym e) ∙ f) in
       subst (λ (l : Left). Leaves l w' s') (sym z) L
 
   pub clear-any : m ≡ DiscardMode.DiscardReplyAndError → (w' : Window) (s' : List ℕ) → Leaves (removed w s p) w' s' → Leaves (clearedAt m (left w s) p) w' s'

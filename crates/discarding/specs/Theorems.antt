@@ -4,7 +4,7 @@ use mathlib.Core.Bool.{Bool, true, false}
 use mathlib.Core.List.{List, [], _∷_, _++_, map, append-nil}
 use Prim.Native.Nat.{ℕ, _+_, _-_, _≤_, _%_}
 use native.Mathlib.Omega.{arith}
-use lib.Dec.{leb, eqb}
+use lib.Dec.{leb}
 use lib.ListN.{length, take, drop, getD, set, take-append-drop}
 use lib.Seq.{drop-drop}
 use borrow.Author.Tests.{leb-true}
@@ -23,7 +23,7 @@ use Rattle.descriptors.specs.Room as Slots
 use Rattle.descriptors.specs.Theorems as Fds
 use Rattle.model.specs.Client.{Client, setOutstanding, descriptorsOf}
 use Rattle.model.specs.Client as Client
-use Rattle.packet.specs.Packet.{errorCode}
+use Rattle.packet.specs.Packet.{classOf, isError}
 use Rattle.model.specs.Model.{withMode, modeOf, joining, ofNumber, notOf, above, errorsOf, closingOrder, discarding, discardReply}
 use Rattle.model.specs.Model as Model
 use Rattle.model.specs.Reading.{Rooms, count, slotsOf, heldWith, withDescriptors, eventOf, reads}
@@ -43,7 +43,7 @@ use Rattle.discarding.specs.Rows.{descriptors-round, round-lists, round-
 errors-read : (a : List Head.Record) (fds : List ℕ) → map eventOf (errorsIn a) ≡ errorsOf (withDescriptors a fds)
 unfolding errorsIn errorsOf withDescriptors choose
 errors-read [] fds = refl
-errors-read (h ∷ a) fds = go (eqb (getD (h .packet) 0 0) errorCode) (errors-read a (drop (h .fds) fds))
+errors-read (h ∷ a) fds = go (isError (classOf (getD (h .packet) 0 0))) (errors-read a (drop (h .fds) fds))
   where
     go : (t : Bool) → map eventOf (errorsIn a) ≡ errorsOf (withDescriptors a (drop (h .fds) fds))
         → map eventOf (choose t (Head.asEvent h ∷ errorsIn a) (errorsIn a)) ≡ choose t (Model.asEvent (heldWith h (take (h .fds) fds)) ∷ errorsOf (withDescriptors a (drop (h .fds) fds))) (errorsOf (withDescriptors a (drop (h .fds) fds)))

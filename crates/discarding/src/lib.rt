@@ -142,7 +142,7 @@ fn clear(store: &mut [u8], window: Window, place: Spot, mode: DiscardMode) -> Wi
 {
     match mode {
         DiscardMode::DiscardReply => {
-            if held::first_byte(store, place) == packet::ERROR {
+            if packet::is_error(held::class_at(store, place.at)) {
                 held::demote(store, window, place);
                 return window;
             }

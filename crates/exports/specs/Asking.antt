@@ -11,6 +11,7 @@ use Rattle.octets.specs.Logic.{choose, either, apart, either-left, either-right
 use Rattle.octets.specs.Bytes.{littleOrder, bigOrder, legal}
 use Rattle.refusal.specs.Answer.{Answer, gives, refuses, pass}
 use Rattle.model.specs.Client.{Client}
+use Rattle.packet.specs.Class.{classAt, number-back}
 use Rattle.model.specs.Model.{Filing}
 use Rattle.model.specs.Reading.{Rooms, rooms, reads}
 use Rattle.model.specs.SendRequests.{kindOf, ShownSendings}
@@ -27,7 +28,7 @@ use Rattle.rows.specs.Theorems.{connection-back}
 use Rattle.answers.specs.Exported.{returned, shownOf, Kept, When, on, off, shown-at}
 use Rattle.answers.specs.Shown.{stateRow, placeNumber, filing, sendings, modeOf, isMode}
 use Rattle.exports.specs.Refusals.{Within, ofCalls, named}
-use Rattle.exports.specs.Run.{placeAt, Export, xm-send-request, xm-discard-reply, xm-enqueue-fds, xm-enqueue-packet, xm-poll-for-reply-or-error, xm-poll-check-for-reply-or-error, xm-poll-for-reply, xm-poll-for-event-with-sequence, xm-take-closed-fds, xm-prepare-check-for-reply-or-error, xm-send-requests, xm-enqueue-packets, xm-poll-for-events, noted, Meaningless}
+use Rattle.exports.specs.Run.{placeAt, filingAt, Export, xm-send-request, xm-discard-reply, xm-enqueue-fds, xm-enqueue-packet, xm-poll-for-reply-or-error, xm-poll-check-for-reply-or-error, xm-poll-for-reply, xm-poll-for-event-with-sequence, xm-take-closed-fds, xm-prepare-check-for-reply-or-error, xm-send-requests, xm-enqueue-packets, xm-poll-for-events, noted, Meaningless}
 
 -- ---- The row
 
@@ -79,20 +80,20 @@ place-meant Place.Replies = refl
 place-meant Place.Events = refl
 place-meant Place.Dropped = refl
 
-pub filing-meant : (x : Filing × Connection) (place number : ℕ) → (place ∷ number ∷ []) ≡ filing x → record { place = placeAt place; number = number } ≡ x .0
-filing-meant x place number e = λ i. record { place = (ap placeAt (shown-at 0 e) ∙ place-meant (x .0 .place)) i; number = shown-at 1 e i }
+pub filing-meant : (x : Filing × Connection) (place number class : ℕ) → (place ∷ number ∷ class ∷ []) ≡ filing x → filingAt place number class ≡ x .0
+filing-meant x place number class e = λ i. record { place = (ap placeAt (shown-at 0 e) ∙ place-meant (x .0 .place)) i; number = shown-at 1 e i; class = (ap classAt (shown-at 2 e) ∙ number-back (x .0 .class)) i }
 
 sent-noted : {A : Type 0} (b : Bool) (r : ℕ) (a : Answer A) → r ≡ returned a → Within ofCalls a → (l : List Entry) → noted r (λ k. sent b ∷ k) l ≡ noteSent b a l
 unfolding noteSent
 sent-noted b r (gives x) e w l = noted-given r _ l e
 sent-noted b r (refuses n) e (named p' q') l = noted-refused r n _ l e p'
 
-took-noted : (t : ℕ) (p : List ℕ) (r : ℕ) (a : Answer (Filing × Connection)) (v : List ℕ) (place number : ℕ) → r ≡ returned a → (place ∷ number ∷ []) ≡ shownOf filing a v → Within ofCalls a → (l : List Entry)
-    → noted r (λ k. noteTook t p (gives (record { place = placeAt place; number = number }, tt {0})) k) l ≡ noteTook t p a l
+took-noted : (t : ℕ) (p : List ℕ) (r : ℕ) (a : Answer (Filing × Connection)) (v : List ℕ) (place number class : ℕ) → r ≡ returned a → (place ∷ number ∷ class ∷ []) ≡ shownOf filing a v → Within ofCalls a → (l : List Entry)
+    → noted r (λ k. noteTook t p (gives (filingAt place number class, tt {0})) k) l ≡ noteTook t p a l
 unfolding noteTook
-took-noted t p r (gives x) v place number e s w l =
-    noted-given r _ l e ∙ ap (λ (f : Filing). noteTook t p (gives (f, tt {0})) l) (filing-meant x place number s)
-took-noted t p r (refuses n) v place number e s (named p' q') l = noted-refused r n _ l e p'
+took-noted t p r (gives x) v place number class e s w l =
+    noted-given r _ l e ∙ ap (λ (f : Filing). noteTook t p (gives (f, tt {0})) l) (filing-meant x place number class s)
+took-noted t p r (refuses n) v place number class e s (named p' q') l = noted-refused r n _ l e p'
 
 sends-noted : (kinds : List ℕ) (r : ℕ) (a : Answer (ShownSendings × Connection)) (v : List ℕ) (count number stop : ℕ) → r ≡ returned a → (count ∷ number ∷ stop ∷ []) ≡ shownOf sendings a v → Within ofCalls a → (l : List Entry)
     → noted r (λ k. sentAll (take count kinds) k) l ≡ noteSends kinds a l
@@ -185,7 +186,7 @@ export-came (xm-discard-reply number mode k) =
     tested (k .exported .promise) (kept-asks (discard-reply number (modeOf mode)) tt [] tt k (λ w l. noted-same _ l)) (λ h e z. kept-off k z e (mode-none mode h))
 export-came (xm-enqueue-fds list k) = kept-asks (enqueue-fds list) tt [] tt k (λ w l. noted-same _ l) (k .exported .promise)
 export-came (xm-enqueue-packet t packet b k) =
-    kept-asks (enqueue-packet packet) (b 1) (t ∷ []) tt k (took-noted t packet _ (k .exported .answer) _ _ _ (k .exported .number) (k .exported .values)) (k .exported .promise)
+    kept-asks (enqueue-packet packet) (b 1) (t ∷ []) tt k (took-noted t packet _ (k .exported .answer) _ _ _ _ (k .exported .number) (k .exported .values)) (k .exported .promise)
 export-came (xm-poll-for-reply-or-error number out fds {out' = out'} {fds' = fds'} k) = kept-asks (poll-for-reply-or-error number out fds) tt [] (out', fds') k (λ w l. noted-same _ l) (k .exported .promise)
 export-came (xm-poll-check-for-reply-or-error number out {out' = out'} k) = kept-asks (poll-check-for-reply-or-error number out) tt [] out' k (λ w l. noted-same _ l) (k .exported .promise)
 export-came (xm-poll-for-reply number out {out' = out'} k) = kept-asks (poll-for-reply number out) tt [] out' k (λ w l. noted-same _ l) (k .exported .promise)

@@ -7,7 +7,8 @@ use lib.ListN.{take, getD}
 use Rattle.octets.specs.Logic.{choose}
 use Rattle.refusal.specs.Answer.{gives}
 use Rattle.model.specs.Client.{Client}
-use Rattle.model.specs.Model.{hasReply}
+use Rattle.packet.specs.Class.{classAt}
+use Rattle.model.specs.Model.{hasReply, Filing}
 use Rattle.model.specs.Reading.{rooms, reads}
 use Rattle.model.specs.SendRequests.{kindOf}
 use Rattle.model.specs.declared.Place.{Place}
@@ -34,6 +35,10 @@ placeAt zero = Place.Replies
 placeAt (suc zero) = Place.Events
 placeAt (suc (suc n)) = Place.Dropped
 
+-- what the three numbers behind the pointers of `xm_enqueue_packet` mean
+abbrev pub filingAt : ℕ → ℕ → ℕ → Filing
+filingAt place number class = record { place = placeAt place; number = number; class = classAt class }
+
 -- AN EXPORT, called on this row and these rooms with any arguments, as its promise has it: row and rooms at exit, what is added to the log where it returned 0, and the number returned. A name with a stroke is what is there at exit.
 -- True numbers, t or ts, are the server's: no export sees them.
 pub data Export (state requests store slots : List ℕ) : (state' requests' store' slots' : List ℕ) → (List Entry → List Entry) → ℕ → Type 0 where
@@ -43,17 +48,17 @@ pub data Export (state requests store slots : List ℕ) : (state' requests' stor
       → Export state requests store slots state' requests' store' slots' (λ l. l) r
   xm-enqueue-fds : (list : List ℕ) {state' slots' : List ℕ} {r : ℕ} → XmEnqueueFds state requests store slots list state' slots' r
       → Export state requests store slots state' requests store slots' (λ l. l) r
-  xm-enqueue-packet : (t : ℕ) (packet : List ℕ) → Bytes packet → {place number : ℕ} {state' store' slots' : List ℕ} {place' number' r : ℕ} → XmEnqueuePacket state requests store slots packet place number state' store' slots' place' number' r
-      → Export state requests store slots state' requests store' slots' (λ l. noteTook t packet (gives (record { place = placeAt place'; number = number' }, tt {0})) l) r
-  xm-poll-for-reply-or-error : (number : ℕ) (out fds : List ℕ) {found size count : ℕ} {state' store' slots' out' fds' : List ℕ} {found' size' count' r : ℕ}
-      → XmPollForReplyOrError state requests store slots number out fds found size count state' store' slots' out' fds' found' size' count' r
+  xm-enqueue-packet : (t : ℕ) (packet : List ℕ) → Bytes packet → {place number class : ℕ} {state' store' slots' : List ℕ} {place' number' class' r : ℕ} → XmEnqueuePacket state requests store slots packet place number class state' store' slots' place' number' class' r
+      → Export state requests store slots state' requests store' slots' (λ l. noteTook t packet (gives (filingAt place' number' class', tt {0})) l) r
+  xm-poll-for-reply-or-error : (number : ℕ) (out fds : List ℕ) {found size count class : ℕ} {state' store' slots' out' fds' : List ℕ} {found' size' count' class' r : ℕ}
+      → XmPollForReplyOrError state requests store slots number out fds found size count class state' store' slots' out' fds' found' size' count' class' r
       → Export state requests store slots state' requests store' slots' (λ l. l) r
-  xm-poll-check-for-reply-or-error : (number : ℕ) (out : List ℕ) {result size : ℕ} {state' store' slots' out' : List ℕ} {result' size' r : ℕ}
-      → XmPollCheckForReplyOrError state requests store slots number out result size state' store' slots' out' result' size' r
+  xm-poll-check-for-reply-or-error : (number : ℕ) (out : List ℕ) {result size class : ℕ} {state' store' slots' out' : List ℕ} {result' size' class' r : ℕ}
+      → XmPollCheckForReplyOrError state requests store slots number out result size class state' store' slots' out' result' size' class' r
       → Export state requests store slots state' requests store' slots' (λ l. l) r
-  xm-poll-for-reply : (number : ℕ) (out : List ℕ) {result size : ℕ} {state' store' slots' out' : List ℕ} {result' size' r : ℕ} → XmPollForReply state requests store slots number out result size state' store' slots' out' result' size' r
+  xm-poll-for-reply : (number : ℕ) (out : List ℕ) {result size class : ℕ} {state' store' slots' out' : List ℕ} {result' size' class' r : ℕ} → XmPollForReply state requests store slots number out result size class state' store' slots' out' result' size' class' r
       → Export state requests store slots state' requests store' slots' (λ l. l) r
-  xm-poll-for-event-with-sequence : (out : List ℕ) {found number size : ℕ} {state' store' out' : List ℕ} {found' number' size' r : ℕ} → XmPollForEventWithSequence state requests store slots out found number size state' store' out' found' number' size' r
+  xm-poll-for-event-with-sequence : (out : List ℕ) {found number size class : ℕ} {state' store' out' : List ℕ} {found' number' size' class' r : ℕ} → XmPollForEventWithSequence state requests store slots out found number size class state' store' out' found' number' size' class' r
       → Export state requests store slots state' requests store' slots (λ l. l) r
   xm-take-closed-fds : (out : List ℕ) {count : ℕ} {state' slots' out' : List ℕ} {count' r : ℕ} → XmTakeClosedFds state requests store slots out count state' slots' out' count' r
       → Export state requests store slots state' requests store slots' (λ l. l) r

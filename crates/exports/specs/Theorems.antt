@@ -29,7 +29,7 @@ use Rattle.answers.specs.Exported.{returned, shownOf, shown-at}
 use Rattle.answers.specs.Shown.{stateRow, filing, fed}
 use Rattle.xiengmado.specs.Exports.{XmEnqueuePacket, XmEnqueuePackets}
 use Rattle.exports.specs.Refusals.{Within, ofCalls, named, call-within}
-use Rattle.exports.specs.Run.{Bytes, clientOf, placeAt, Export, Run, Meaningless}
+use Rattle.exports.specs.Run.{Bytes, clientOf, filingAt, Export, Run, Meaningless}
 use Rattle.exports.specs.Running.{run-row, came-nine, came-found}
 use Rattle.exports.specs.Asking.{legal-small, row-left, filing-meant, export-came}
 
@@ -71,22 +71,22 @@ exports-refused x z =
 
 -- A run with an honest server, and the `xm_enqueue_packet` that brings its next packet.
 module _ {state requests store slots : List ℕ} {l : List Entry} (k : Run state requests store slots l) (h : Honest (connectionOf state .order) l) (t : ℕ) (packet : List ℕ) (bytes : Bytes packet)
-    (carries : unnumbered (codeOf packet) ≡ false) (fair : Fair (connectionOf state .order) l t packet) {place number : ℕ} {state' store' slots' : List ℕ} {place' number' r : ℕ}
-    (enqueues : XmEnqueuePacket state requests store slots packet place number state' store' slots' place' number' r) where
-  filed : (a : Answer (Filing × Connection)) → Enqueues (connectionOf state) (rooms requests store slots) packet a (rooms requests store' slots') → r ≡ returned a → (place' ∷ number' ∷ []) ≡ shownOf filing a (place ∷ number ∷ []) → state' ≡ shownOf (stateRow state) a state
-      → r ≡ 0 → Filed (clientOf state requests store slots) packet t (record { place = placeAt place'; number = number' }, clientOf state' requests store' slots')
+    (carries : unnumbered (codeOf packet) ≡ false) (fair : Fair (connectionOf state .order) l t packet) {place number class : ℕ} {state' store' slots' : List ℕ} {place' number' class' r : ℕ}
+    (enqueues : XmEnqueuePacket state requests store slots packet place number class state' store' slots' place' number' class' r) where
+  filed : (a : Answer (Filing × Connection)) → Enqueues (connectionOf state) (rooms requests store slots) packet a (rooms requests store' slots') → r ≡ returned a → (place' ∷ number' ∷ class' ∷ []) ≡ shownOf filing a (place ∷ number ∷ class ∷ []) → state' ≡ shownOf (stateRow state) a state
+      → r ≡ 0 → Filed (clientOf state requests store slots) packet t (filingAt place' number' class', clientOf state' requests store' slots')
   unfolding stateOf
   filed (gives y) p e v s z =
       let b = call (enqueue-packet packet) (bytes 1) [] (gives y) (rooms requests store' slots') tt p (run-session k) in
       let w = row-left state state' (gives y) s (run-long k) (legal-small _ (session-sound b .order)) in
-      rw (filing-meant y place' number' v, w .is) (session-filed (run-session k) h t packet carries fair (gives y) (rooms requests store' slots') p (y .0) (y .1) refl)
+      rw (filing-meant y place' number' class' v, w .is) (session-filed (run-session k) h t packet carries fair (gives y) (rooms requests store' slots') p (y .0) (y .1) refl)
   filed (refuses n) p e v s z = absurd (none (call-within (enqueue-packet packet) (connectionOf state) (rooms requests store slots) (session-sound (run-session k)) (refuses n) (rooms requests store' slots') tt p))
     where
       none : Within ofCalls {A = Filing × Connection} (refuses n) → ⊥
       none (named i j) = omega arith
 
   -- FILED: where it returned 0 the packet is the last of the list that `place` says, whole and under its true number, which `number` is; or if dropped was reckoned by it.
-  pub exports-filed : r ≡ 0 → Filed (clientOf state requests store slots) packet t (record { place = placeAt place'; number = number' }, clientOf state' requests store' slots')
+  pub exports-filed : r ≡ 0 → Filed (clientOf state requests store slots) packet t (filingAt place' number' class', clientOf state' requests store' slots')
   exports-filed z = filed (enqueues .exported .answer) (enqueues .exported .promise) (enqueues .exported .number) (enqueues .exported .values) (enqueues .state) z
 
   -- NEVER ENDED, NEVER AHEAD: otherwise it returned 1, 2, 4 or 5.

@@ -8,7 +8,8 @@ use Rattle.octets.specs.Logic.{choose, both}
 use Rattle.refusal.specs.Answer.{Answer, gives, refuses, refuse, pass}
 use Rattle.refusal.specs.Numbers.{numberOf}
 use Rattle.requests.specs.Room.{requestAt}
-use Rattle.packet.specs.Packet.{leastPacket, mostPacket, codeOf, unnumbered, numberAfter}
+use Rattle.packet.specs.Packet.{leastPacket, mostPacket, codeOf, PacketClass, packetClass, unnumbered, numberAfter}
+use Rattle.packet.specs.Class.{saysClass}
 use Rattle.held.specs.Head.{mostStore, headerSize}
 use Rattle.held.specs.Reading.{used}
 use Rattle.model.specs.Model.{nobody, somebody, placeOf, claimed, isHeld, Task, taskBy, ahead}
@@ -26,11 +27,11 @@ abbrev pub saysAsked : Asked → Model.Asked
 saysAsked Asked.Nobody = nobody
 saysAsked (Asked.Somebody r) = somebody r
 
-abbrev pub task : Place → ℕ → ℕ → Task
-task place n k = record { place = place; number = n; claimed = k }
+abbrev pub task : Place → ℕ → ℕ → PacketClass → Task
+task place n k class = record { place = place; number = n; claimed = k; class = class }
 
 abbrev pub saysPlan : Plan → Answer Task
-saysPlan (Plan.File place n k) = gives (task place (n .0) k)
+saysPlan (Plan.File place n k class) = gives (task place (n .0) k (saysClass class))
 saysPlan (Plan.Stop r) = refuses (numberOf r)
 
 -- ---- of the state, what is asked for
@@ -82,10 +83,10 @@ unfoldable pub planBy : Connection → List ℕ → ℕ → Model.Asked → Answ
 planBy c p n a =
     refuse (ahead (codeOf p) n (c .written)) 20
     (refuse (ltb (c .counts .waiting) (claimed p a)) 4
-    (refuse (overRoom c (placeOf (codeOf p) a) (length p)) 5
+    (refuse (overRoom c (placeOf (packetClass p) a) (length p)) 5
     (gives (taskBy p n a))))
 
--- 1, 2, 3, 20, 4, 5; otherwise where the packet goes, under which number, and with how many descriptors
+-- 1, 2, 3, 20, 4, 5; otherwise where the packet goes, under which number, with how many descriptors, and its class
 unfoldable pub planOf : Connection → List ℕ → List ℕ → Answer Task
 planOf c q p =
     refuse (ltb (length p) leastPacket) 1

@@ -4,9 +4,9 @@ use mathlib.Core.Bool.{Bool, true, false}
 use mathlib.Core.List.{List}
 use Prim.Native.Nat.{ℕ, _+_, _≤_, _<_}
 use native.Mathlib.Omega.{arith}
-use lib.Dec.{ltb, eqb}
+use lib.Dec.{ltb}
 use lib.ListN.{length, getD}
-use borrow.Author.Tests.{ltb-false, lt-ltb, le-ltb, eq-eqb}
+use borrow.Author.Tests.{ltb-false, lt-ltb, le-ltb}
 use Rattle.octets.specs.Logic.{choose, both}
 use Rattle.refusal.specs.Answer.{Answer, gives, refuses, refuse, pass, gives-past, gives-rest, pass-given}
 use Rattle.refusal.specs.Numbers.{numberOf}
@@ -16,7 +16,7 @@ use Rattle.sequence.specs.declared.Full.the-variants as Full
 use Rattle.sequence.specs.declared.SequenceNumber.{SequenceNumber}
 use Rattle.refusal.specs.declared.Refusal.{Refusal}
 use Rattle.requests.specs.declared.Request.{Request}
-use Rattle.packet.specs.Packet.{leastPacket, mostPacket, codeOf, replyCode}
+use Rattle.packet.specs.Packet.{leastPacket, mostPacket, codeOf, PacketClass, packetClass, isReply}
 use Rattle.held.specs.Head.{headerSize}
 use Rattle.held.specs.Reading.{used}
 use Rattle.model.specs.Model.{placeOf, claimed, isHeld, Task, ahead}
@@ -32,7 +32,7 @@ use Rattle.filing.specs.Plan.{saysAsked, task, packetNumberIn, askedIn, 
 module _ (p : List ℕ) (a : Asked) where
   pub claims-nobody : a ≡ Asked.Nobody → 0 ≡ claimed p (saysAsked a)
   unfolding claimed choose both
-  claims-nobody e = sym (ap (λ (x : Asked). claimed p (saysAsked x)) e ∙ go (eqb (codeOf p) replyCode))
+  claims-nobody e = sym (ap (λ (x : Asked). claimed p (saysAsked x)) e ∙ go (isReply (packetClass p)))
     where
       go : (b : Bool) → _≡_ {A = ℕ} (choose (both b false) (getD p 1 0) 0) 0
       go true = refl
@@ -41,17 +41,17 @@ module _ (p : List ℕ) (a : Asked) where
   pub claims-none : (r : Request) → a ≡ Asked.Somebody r → r .descriptors ≡ false → 0 ≡ claimed p (saysAsked a)
   unfolding claimed choose both
   claims-none r e f =
-      sym (ap (λ (x : Asked). claimed p (saysAsked x)) e ∙ ap (λ (b : Bool). choose (both (eqb (codeOf p) replyCode) b) (getD p 1 0) 0) f ∙ go (eqb (codeOf p) replyCode))
+      sym (ap (λ (x : Asked). claimed p (saysAsked x)) e ∙ ap (λ (b : Bool). choose (both (isReply (packetClass p)) b) (getD p 1 0) 0) f ∙ go (isReply (packetClass p)))
     where
       go : (b : Bool) → _≡_ {A = ℕ} (choose (both b false) (getD p 1 0) 0) 0
       go true = refl
       go false = refl
 
-  pub claims-some : (r : Request) → a ≡ Asked.Somebody r → codeOf p ≡ replyCode → r .descriptors ≡ true → getD p 1 0 ≡ claimed p (saysAsked a)
+  pub claims-some : (r : Request) → a ≡ Asked.Somebody r → isReply (packetClass p) ≡ true → r .descriptors ≡ true → getD p 1 0 ≡ claimed p (saysAsked a)
   unfolding claimed choose both
   claims-some r e g f =
       sym (ap (λ (x : Asked). claimed p (saysAsked x)) e
-      ∙ (λ i. choose (both (eq-eqb (codeOf p) replyCode g i) (f i)) (getD p 1 0) 0))
+      ∙ (λ i. choose (both (g i) (f i)) (getD p 1 0) 0))
 
 -- ---- a packet that has its number
 
@@ -60,13 +60,13 @@ pub plan-ahead : (c : Connection) (p : List ℕ) (n : ℕ) (a : Model.Asked) →
 unfolding planBy refuse
 plan-ahead c p n a h = simp h
 
-module _ (c : Connection) (p : List ℕ) (n : ℕ) (h : ahead (codeOf p) n (c .written) ≡ false) (a a' : Model.Asked) (e : a ≡ a') (place : Place) (k : ℕ) (f : place ≡ placeOf (codeOf p) a) (g : k ≡ claimed p a) where
-  plan-as : refuse (ltb (c .counts .waiting) k) 4 (refuse (overRoom c place (length p)) 5 (gives (task place n k))) ≡ planBy c p n a'
+module _ (c : Connection) (p : List ℕ) (n : ℕ) (h : ahead (codeOf p) n (c .written) ≡ false) (a a' : Model.Asked) (e : a ≡ a') (class : PacketClass) (j : class ≡ packetClass p) (place : Place) (k : ℕ) (f : place ≡ placeOf class a) (g : k ≡ claimed p a) where
+  plan-as : refuse (ltb (c .counts .waiting) k) 4 (refuse (overRoom c place (length p)) 5 (gives (task place n k class))) ≡ planBy c p n a'
   unfolding planBy refuse
   plan-as =
-      let x : place ≡ placeOf (codeOf p) a' = f ∙ ap (placeOf (codeOf p)) e in
+      let x : place ≡ placeOf (packetClass p) a' = f ∙ (λ i. placeOf (j i) (e i)) in
       let y : k ≡ claimed p a' = g ∙ ap (claimed p) e in
-      λ i. refuse (sym h i) 20 (refuse (ltb (c .counts .waiting) (y i)) 4 (refuse (overRoom c (x i) (length p)) 5 (gives (task (x i) n (y i)))))
+      λ i. refuse (sym h i) 20 (refuse (ltb (c .counts .waiting) (y i)) 4 (refuse (overRoom c (x i) (length p)) 5 (gives (task (x i) n (y i) (j i)))))
 
   pub plan-few : c .counts .waiting < k → refuses 4 ≡ planBy c p n a'
   unfolding refuse
@@ -76,7 +76,7 @@ module _ (c : Connection) (p : List ℕ) (n : ℕ) (h : ahead (codeOf p) n (c .w
   unfolding refuse
   plan-over h o = sym (simp (le-ltb (c .counts .waiting) k h, o)) ∙ plan-as
 
-  pub plan-file : k ≤ c .counts .waiting → overRoom c place (length p) ≡ false → gives (task place n k) ≡ planBy c p n a'
+  pub plan-file : k ≤ c .counts .waiting → overRoom c place (length p) ≡ false → gives (task place n k class) ≡ planBy c p n a'
   unfolding refuse
   plan-file h o = sym (simp (le-ltb (c .counts .waiting) k h, o)) ∙ plan-as
 
@@ -110,18 +110,19 @@ pub record Planned (c : Connection) (q p : List ℕ) (t : Task) : Type 0 where
   pub least : leastPacket ≤ length p
   pub most : length p ≤ mostPacket
   pub number : gives (t .number) ≡ packetNumberIn c p
-  pub place-is : t .place ≡ placeOf (codeOf p) (askedIn c q (t .number))
+  pub place-is : t .place ≡ placeOf (packetClass p) (askedIn c q (t .number))
   pub claimed-is : t .claimed ≡ claimed p (askedIn c q (t .number))
+  pub class-is : t .class ≡ packetClass p
   pub some : t .claimed ≤ c .counts .waiting
   pub room : isHeld (t .place) ≡ true → used (c .window) + (headerSize + length p) ≤ c .room
 
 by-past : (c : Connection) (p : List ℕ) (n : ℕ) (a : Model.Asked) (t : Task) → gives t ≡ planBy c p n a
-    → (t ≡ task (placeOf (codeOf p) a) n (claimed p a)) × (claimed p a ≤ c .counts .waiting) × (overRoom c (placeOf (codeOf p) a) (length p) ≡ false)
+    → (t ≡ task (placeOf (packetClass p) a) n (claimed p a) (packetClass p)) × (claimed p a ≤ c .counts .waiting) × (overRoom c (placeOf (packetClass p) a) (length p) ≡ false)
 unfolding planBy
 by-past c p n a t e =
     let r₁ = gives-rest _ _ _ e in
     let r₂ = gives-rest _ _ _ r₁ in
-    let z : gives t ≡ gives (task (placeOf (codeOf p) a) n (claimed p a)) = gives-rest _ _ _ r₂ in
+    let z : gives t ≡ gives (task (placeOf (packetClass p) a) n (claimed p a) (packetClass p)) = gives-rest _ _ _ r₂ in
     (cc, ltb-false (c .counts .waiting) (claimed p a) (gives-past _ _ _ r₁), gives-past _ _ _ r₂)
 
 pub over-not : (c : Connection) (place : Place) (n : ℕ) → overRoom c place n ≡ false → isHeld place ≡ true → used (c .window) + (headerSize + n) ≤ c .room
@@ -138,14 +139,15 @@ planned c q p t e =
     let k = by-past c p n (askedIn c q n) t (b .2) in
     let N : t .number ≡ n = ap (λ (x : Task). x .number) (k .0) in
     let A : askedIn c q n ≡ askedIn c q (t .number) = ap (askedIn c q) (sym N) in
-    let P : t .place ≡ placeOf (codeOf p) (askedIn c q n) = ap (λ (x : Task). x .place) (k .0) in
+    let P : t .place ≡ placeOf (packetClass p) (askedIn c q n) = ap (λ (x : Task). x .place) (k .0) in
     let K : t .claimed ≡ claimed p (askedIn c q n) = ap (λ (x : Task). x .claimed) (k .0) in
     record {
       least = ltb-false (length p) leastPacket (gives-past _ _ _ e);
       most = ltb-false mostPacket (length p) (gives-past _ _ _ r₁);
       number = ap gives N ∙ b .1;
-      place-is = P ∙ ap (placeOf (codeOf p)) A;
+      place-is = P ∙ ap (placeOf (packetClass p)) A;
       claimed-is = K ∙ ap (claimed p) A;
+      class-is = ap (λ (x : Task). x .class) (k .0);
       some = omega (arith, K, k .1);
       room = over-not c (t .place) (length p) (ap (λ (x : Place). overRoom c x (length p)) P ∙ k .2);
     }

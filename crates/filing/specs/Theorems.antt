@@ -2,17 +2,18 @@
 use mathlib.Core.Path.{_≡_, refl, sym, ap, _∙_}
 use mathlib.Core.Bool.{Bool, true, false}
 use mathlib.Core.List.{List}
-use Prim.Native.Nat.{ℕ, _+_, _≤_, _<_}
+use Prim.Native.Nat.{ℕ, _+_, _≤_}
 use native.Mathlib.Omega.{arith}
-use lib.Dec.{ltb, eqb}
+use lib.Dec.{ltb}
 use lib.ListN.{length, getD}
-use borrow.Author.Tests.{ltb-false, eqb-true, ne-eqb}
+use borrow.Author.Tests.{ltb-false}
 use Rattle.octets.specs.Logic.{choose, both}
 use Rattle.refusal.specs.Answer.{gives, refuse, pass-agree}
 use Rattle.held.specs.Head.{headerSize}
-use Rattle.packet.specs.Packet.{leastPacket, mostPacket, codeOf, errorCode, replyCode, unnumbered}
-use Rattle.packet.specs.Laws.{unnumbered-event}
-use Rattle.model.specs.Model.{nobody, somebody, errorPlace, replyUnder, replyPlace, placeOf, wantsDescriptors, claimed, isHeld, taskBy, ahead, askedOf, decideBy, decide}
+use Rattle.packet.specs.Packet as Packet
+use Rattle.packet.specs.Packet.{leastPacket, mostPacket, codeOf, PacketClass, packetClass, isReply, isEvent, unnumbered}
+use Rattle.packet.specs.Class.{unnumbered-class}
+use Rattle.model.specs.Model.{nobody, somebody, replyUnder, replyPlace, placeOf, wantsDescriptors, claimed, isHeld, taskBy, ahead, askedOf, decideBy, decide}
 use Rattle.model.specs.Model as Model
 use Rattle.model.specs.Reading.{Rooms, reads}
 use Rattle.model.specs.ReadingLaws.{used-read, length-wait}
@@ -30,7 +31,7 @@ use Rattle.filing.specs.Numbered.{asked-read}
 -- A packet claims at most what its byte 1 says;
 pub claimed-most : (p : List ℕ) (a : Model.Asked) → claimed p a ≤ getD p 1 0
 unfolding claimed choose
-claimed-most p a = go (both (eqb (codeOf p) replyCode) (wantsDescriptors a))
+claimed-most p a = go (both (isReply (packetClass p)) (wantsDescriptors a))
   where
     go : (b : Bool) → choose b (getD p 1 0) 0 ≤ getD p 1 0
     go true = omega arith
@@ -46,39 +47,39 @@ reply-never nobody e = let z : _≡_ {A = ℕ} 0 1 = cc in omega arith
 reply-never (somebody r) e = never-event (r .mode) e
 
 -- an event claims nothing.
-pub event-claims : (p : List ℕ) (a : Model.Asked) → placeOf (codeOf p) a ≡ Place.Events → claimed p a ≡ 0
+pub event-claims : (p : List ℕ) (a : Model.Asked) → placeOf (packetClass p) a ≡ Place.Events → claimed p a ≡ 0
 unfolding claimed placeOf choose both
-event-claims p a = go (eqb (codeOf p) errorCode) refl (eqb (codeOf p) replyCode) refl
+event-claims p a = go (packetClass p)
   where
-    go : (x : Bool) → eqb (codeOf p) errorCode ≡ x → (y : Bool) → eqb (codeOf p) replyCode ≡ y → choose x (errorPlace a) (choose y (replyPlace a) Place.Events) ≡ Place.Events
-        → choose (both y (wantsDescriptors a)) (getD p 1 0) 0 ≡ 0
-    go x e false f h = refl
-    go true e true f h =
-        let u : codeOf p ≡ errorCode = eqb-true (codeOf p) errorCode e in
-        let v : codeOf p ≡ replyCode = eqb-true (codeOf p) replyCode f in
-        let z : ⊥ = omega arith in
-        absurd z
-    go false e true f h = absurd (reply-never a h)
+    go : (k : PacketClass) → placeOf k a ≡ Place.Events → choose (both (isReply k) (wantsDescriptors a)) (getD p 1 0) 0 ≡ 0
+    go Packet.error h = refl
+    go Packet.reply h = absurd (reply-never a h)
+    go (Packet.event sent) h = refl
+    go (Packet.generic sent) h = refl
 
 -- ---- the plan
 
 -- An event goes among the events and claims nothing, whatever the request of its number:
-module _ (p : List ℕ) (h : replyCode < codeOf p) where
-  pub event-place : (a : Model.Asked) → placeOf (codeOf p) a ≡ Place.Events
-  unfolding placeOf choose
-  event-place a =
-      let x : codeOf p ≡ errorCode → ⊥ = λ e. omega arith in
-      let y : codeOf p ≡ replyCode → ⊥ = λ e. omega arith in
-      simp (ne-eqb (codeOf p) errorCode x, ne-eqb (codeOf p) replyCode y)
+module _ (p : List ℕ) (h : isEvent (packetClass p) ≡ true) where
+  pub event-place : (a : Model.Asked) → placeOf (packetClass p) a ≡ Place.Events
+  unfolding placeOf
+  event-place a = go (packetClass p) h
+    where
+      go : (k : PacketClass) → isEvent k ≡ true → placeOf k a ≡ Place.Events
+      go Packet.error e = absurd (let z : _≡_ {A = ℕ} 0 1 = cc in omega arith)
+      go Packet.reply e = absurd (let z : _≡_ {A = ℕ} 0 1 = cc in omega arith)
+      go (Packet.event sent) e = refl
+      go (Packet.generic sent) e = refl
 
-  event-task : (n : ℕ) (a : Model.Asked) → taskBy p n a ≡ task Place.Events n 0
-  event-task n a = let e = event-place a in λ i. record { place = e i; number = n; claimed = event-claims p a e i }
+  event-task : (n : ℕ) (a : Model.Asked) → taskBy p n a ≡ task Place.Events n 0 (packetClass p)
+  event-task n a = let e = event-place a in λ i. record { place = e i; number = n; claimed = event-claims p a e i; class = packetClass p }
 
 -- so what is decided about one that carries no number needs no request.
 alike : (c : Connection) (p : List ℕ) (n : ℕ) (a b : Model.Asked) → unnumbered (codeOf p) ≡ true → planBy c p n a ≡ planBy c p n b
 unfolding planBy
 alike c p n a b h =
-    let e : taskBy p n a ≡ taskBy p n b = event-task p (unnumbered-event (codeOf p) h) n a ∙ sym (event-task p (unnumbered-event (codeOf p) h) n b) in
+    let k : isEvent (packetClass p) ≡ true = ap isEvent (unnumbered-class (codeOf p) h) in
+    let e : taskBy p n a ≡ taskBy p n b = event-task p k n a ∙ sym (event-task p k n b) in
     λ i. refuse (ahead (codeOf p) n (c .written)) 20 (refuse (ltb (c .counts .waiting) (e i .claimed)) 4 (refuse (overRoom c (e i .place) (length p)) 5 (gives (e i))))
 
 module _ (c : Connection) (r : Rooms) (S : Sound c r) (p : List ℕ) where
@@ -99,7 +100,7 @@ module _ (c : Connection) (r : Rooms) (S : Sound c r) (p : List ℕ) where
   by-read n a = λ i.
       refuse (ahead (codeOf p) n (c .written)) 20
       (refuse (ltb (sym (length-wait c r S) i) (claimed p a)) 4
-      (refuse (both (isHeld (placeOf (codeOf p) a)) (ltb (c .room) (sym (used-read c r S) i + (headerSize + length p)))) 5 (gives (taskBy p n a))))
+      (refuse (both (isHeld (placeOf (packetClass p) a)) (ltb (c .room) (sym (used-read c r S) i + (headerSize + length p)))) 5 (gives (taskBy p n a))))
 
   -- WHAT IS DECIDED is what the model decides, of the state as it is read.
   pub plan-read : planOf c (r .requests) p ≡ decide (reads c r) p

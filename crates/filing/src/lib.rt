@@ -9,12 +9,14 @@ ghost use mathlib.Core.Path.{_≡_};
 ghost use Prim.Native.Nat.{_≤_, _<_};
 ghost use lib.ListN.{length};
 ghost use Rattle.sequence.specs.Numbering.{lastNumber};
-ghost use Rattle.packet.specs.Packet.{leastPacket, mostPacket};
+ghost use Rattle.packet.specs.Packet.{leastPacket, mostPacket, packetClass};
+ghost use Rattle.packet.specs.Class.{saysClass};
 ghost use Rattle.requests.specs.Room.{capacity};
 ghost use Rattle.model.specs.Model.{errorUnder, errorPlace, replyUnder, replyPlace, placeOf, claimed, isHeld, ahead};
 ghost use Rattle.filing.specs.Plan.{saysAsked, saysPlan, Fitting, raisedTo, firstAfter, askedIn, overRoom, planBy, planOf, numberedState};
 use model::Connection;
 use model::Place;
+use packet::Class;
 use refusal::Refusal;
 use requests::Mode;
 use requests::Request;
@@ -27,11 +29,11 @@ pub enum Asked {
     Somebody(Request),
 }
 
-// What is to be done with a packet: nothing, or to file it there, under that number and with so
-// many descriptors.
+// What is to be done with a packet: nothing, or to file it there, under that number, with so many
+// descriptors and as one of that class.
 pub enum Plan {
     Stop(Refusal),
-    File(Place, SequenceNumber, u8),
+    File(Place, SequenceNumber, u8, Class),
 }
 
 // The next reply expected after a packet of the code.
@@ -116,25 +118,26 @@ fn reply_place(asked: Asked) -> Place
     }
 }
 
-// Where a packet of the code goes.
-fn place_of(code: u8, asked: Asked) -> Place
-    ensures { λ r. ⌜ r ≡ placeOf code (saysAsked asked) ⌝ }
+// Where a packet of the class goes.
+fn place_of(class: Class, asked: Asked) -> Place
+    ensures { λ r. ⌜ r ≡ placeOf (saysClass class) (saysAsked asked) ⌝ }
 {
-    if code == packet::ERROR {
-        return error_place(asked);
+    match class {
+        Class::Error => error_place(asked),
+        Class::Reply => reply_place(asked),
+        Class::Event => Place::Events,
+        Class::SentEvent => Place::Events,
+        Class::Generic => Place::Events,
+        Class::SentGeneric => Place::Events,
     }
-    if code == packet::REPLY {
-        return reply_place(asked);
-    }
-    Place::Events
 }
 
-// How many descriptors a packet claims.
-fn claimed(packet: &[u8], asked: Asked) -> u8
-    requires { ⌜ leastPacket ≤ length (now packet) ⌝ }
+// How many descriptors a packet of the class claims.
+fn claimed(class: Class, packet: &[u8], asked: Asked) -> u8
+    requires { ⌜ (leastPacket ≤ length (now packet)) × (saysClass class ≡ packetClass (now packet)) ⌝ }
     ensures { λ r. ⌜ r ≡ claimed (now (packet .entry)) (saysAsked asked) ⌝ }
 {
-    if packet[0] != packet::REPLY {
+    if !packet::is_reply(class) {
         return 0;
     }
     match asked {
@@ -184,15 +187,16 @@ fn plan_by(c: Connection, requests: &[u8], packet: &[u8], number: SequenceNumber
         return Plan::Stop(Refusal::Ahead);
     }
     let request = request_of(c, requests, number.0);
-    let place = place_of(packet[0], request);
-    let claim = claimed(packet, request);
+    let class = packet::class_of(packet[0]);
+    let place = place_of(class, request);
+    let claim = claimed(class, packet, request);
     if c.counts.waiting < claim as usize {
         return Plan::Stop(Refusal::FewDescriptors);
     }
     if over_room(c, place, packet.len()) {
         return Plan::Stop(Refusal::NoRoom);
     }
-    Plan::File(place, number, claim)
+    Plan::File(place, number, claim, class)
 }
 
 // What is to be done with a packet: by 1 and 2 for its length, by 3 at the end of the numbers, by 20

@@ -2,13 +2,15 @@
 ghost use mathlib.Core.Path.{_≡_};
 ghost use Prim.Native.Nat.{_+_, _≤_, _<_};
 ghost use lib.ListN.{length, getD};
-ghost use Rattle.packet.specs.Packet.{mostPacket};
+ghost use Rattle.packet.specs.Packet.{mostPacket, classOf};
+ghost use Rattle.packet.specs.Class.{saysClass};
 ghost use Rattle.held.specs.Head.{headerSize, labelled};
 ghost use Rattle.held.specs.Moves.{Room, Within, Leaves, Takes, left, stays, behind, appended, removed, demoted};
 use crate::Label;
 use crate::Spot;
 use crate::Window;
 use crate::head;
+use packet::Class;
 
 // Whether the window stays where it is for n bytes more: it holds something, and there is room
 // behind it. An empty one begins at 0 again, so that few held packets keep to few bytes.
@@ -85,16 +87,28 @@ pub fn remove(store: &mut [u8], window: Window, place: Spot) -> Window
     }
 }
 
+// The window that is left, and the class of the packet that was taken.
+pub struct Taken {
+    pub window: Window,
+    pub class: Class,
+}
+
 // The packet at a place goes to the start of out, and its record goes.
-pub fn take(store: &mut [u8], window: Window, place: Spot, out: &mut [u8]) -> Window
-    requires { ⌜ Within window (now store) place ⌝ }
+pub fn take(store: &mut [u8], window: Window, place: Spot, out: &mut [u8]) -> Taken
+    requires { ⌜ Within window (now store) place × (place .at + headerSize < length (now store)) ⌝ }
     requires { ⌜ place .len ≤ length (now out) ⌝ }
-    ensures { λ r. ⌜ Takes window (now (store .entry)) place (now (out .entry)) r (now (store .exit)) (now (out .exit)) ⌝ }
+    ensures { λ r. ⌜ Takes window (now (store .entry)) place (now (out .entry)) (r .window) (now (store .exit)) (now (out .exit)) ⌝ }
+    ensures { λ r. ⌜ saysClass (r .class) ≡ classOf (getD (now (store .entry)) (place .at + headerSize) 0) ⌝ }
 {
     let at = place.at;
     let len = place.len;
+    let class = class_at(store, at);
     octets::copy_out(out, store, at + head::HEADER, len);
-    remove(store, window, place)
+    let rest = remove(store, window, place);
+    Taken {
+        window: rest,
+        class: class,
+    }
 }
 
 // The record at a place becomes an event without descriptors and goes to the end of the window,
@@ -109,11 +123,10 @@ pub fn demote(store: &mut [u8], window: Window, place: Spot)
     octets::rotate(store, at, next, window.end);
 }
 
-// The first byte of the packet at a place: 0 in an error.
-pub fn first_byte(store: &[u8], place: Spot) -> u8
-    requires { ⌜ place .at + headerSize < length (now store) ⌝ }
-    ensures { λ r. ⌜ r ≡ getD (now (store .entry)) (place .at + headerSize) 0 ⌝ }
+// The class of the packet that the record at an index has.
+pub fn class_at(store: &[u8], at: usize) -> Class
+    requires { ⌜ at + headerSize < length (now store) ⌝ }
+    ensures { λ r. ⌜ saysClass r ≡ classOf (getD (now (store .entry)) (at + headerSize) 0) ⌝ }
 {
-    let at = place.at;
-    store[at + head::HEADER]
+    packet::class_of(store[at + head::HEADER])
 }

@@ -11,7 +11,7 @@ use Rattle.refusal.specs.Answer.{Answer, gives, refuses, refuse, gives-past, gi
 use Rattle.sequence.specs.Numbering.{full, inRange}
 use Rattle.sequence.specs.Sending.{sending-by}
 use Rattle.model.specs.Client.{Held, Client, setWaiting}
-use Rattle.packet.specs.Packet.{codeOf, unnumbered, wireOf}
+use Rattle.packet.specs.Packet.{codeOf, unnumbered, wireOf, packetClass}
 use Rattle.packet.specs.Laws.{number-last, number-full}
 use Rattle.model.specs.Deciding.{ahead-not, enqueue-chain}
 use Rattle.model.specs.Model.{hasReply, sendRequest, enqueueFds, takeClosed, packetNumber, numbered, askedOf, placeOf, claimed, filed, Filing, ahead, takeIn, enqueuePacket, withMode, discarding, discardReply, Found, nothing, at, find, takenBy, pollForReplyOrError, checkedBy, pollCheck, repliedBy, pollForReply, eventBy, pollForEvent}
@@ -133,8 +133,8 @@ pub record Taking (c : Client) (p : List ℕ) (x : Filing × Client) : Type 0 wh
   pub n : ℕ
   pub number-is : gives n ≡ packetNumber c p
   pub asked-is : ahead (codeOf p) n (c .numbers .written) ≡ false
-  pub filing-is : x .0 ≡ record { place = placeOf (codeOf p) (askedOf c n); number = n }
-  pub next-is : x .1 ≡ filed (placeOf (codeOf p) (askedOf c n)) (heldAs c p n) (countedAs c p n)
+  pub filing-is : x .0 ≡ record { place = placeOf (packetClass p) (askedOf c n); number = n; class = packetClass p }
+  pub next-is : x .1 ≡ filed (placeOf (packetClass p) (askedOf c n)) (heldAs c p n) (countedAs c p n)
 
 pub taking : (c : Client) (p : List ℕ) (x : Filing × Client) → gives x ≡ enqueuePacket c p → Taking c p x
 unfolding takeIn
@@ -163,13 +163,13 @@ pub record Counted (c : Client) (p : List ℕ) (x : Filing × Client) : Type 0 w
 module _ (c : Client) (p : List ℕ) (x : Filing × Client) (k : Taking c p x) where
   still-taken : Still (countedAs c p (k .n)) (x .1)
   still-taken =
-      let s = still-filed (placeOf (codeOf p) (askedOf c (k .n))) (heldAs c p (k .n)) (countedAs c p (k .n)) in
+      let s = still-filed (placeOf (packetClass p) (askedOf c (k .n))) (heldAs c p (k .n)) (countedAs c p (k .n)) in
       (ap (λ y. y .order) (k .next-is) ∙ s .0, ap (λ y. y .numbers) (k .next-is) ∙ s .1)
 
   -- it lands in its list
   pub lands : Lands (x .0 .place) (heldAs c p (k .n)) c (x .1)
   unfolding numbered
-  lands = rw (k .filing-is, k .next-is) (lands-filed (placeOf (codeOf p) (askedOf c (k .n))) (heldAs c p (k .n)) c (countedAs c p (k .n)) refl refl)
+  lands = rw (k .filing-is, k .next-is) (lands-filed (placeOf (packetClass p) (askedOf c (k .n))) (heldAs c p (k .n)) c (countedAs c p (k .n)) refl refl)
 
   pub counted : unnumbered (codeOf p) ≡ false → Counted c p x
   unfolding numbered choose

@@ -12,7 +12,7 @@ use Rattle.octets.specs.Field.{field}
 use Rattle.refusal.specs.Answer.{gives, refuse, pass}
 use Rattle.sequence.specs.Numbering.{wireValues, full, inRange}
 use Rattle.sequence.specs.Sending.{sending, mustSync}
-use Rattle.packet.specs.Packet.{codeOf, unnumbered, wireOf, numberAfter}
+use Rattle.packet.specs.Packet.{codeOf, unnumbered, wireOf, numberAfter, wasSent, classOf}
 use Rattle.requests.specs.Room.{underMode}
 use Rattle.model.specs.Client.{Client, costs, descriptorsOf}
 use Rattle.model.specs.Model as Model
@@ -23,7 +23,7 @@ use Rattle.honest.specs.Run.{Entry, sent, took, noteSent, noteTook, note
 
 -- opens what a call computes with
 unfoldable pub computing : ℕ
-unfolding step run noted noteSent noteTook Model.sendRequest Model.enqueueFds Model.enqueuePacket Model.discardReply Model.takeClosed Model.pollForReplyOrError Model.pollCheck Model.pollForReply Model.prepareCheck Model.pollForEvent Model.find pass refuse sending mustSync both either choose numberAfter unnumbered inRange full field numberIn cut turned bytesOf lowBytes lowNumber Model.numbered Model.askedOf Model.headOf Model.placeOf Model.claimed Model.takeIn Model.decide Model.ahead Model.decideBy costs descriptorsOf Model.withMode underMode Model.ofNumber Model.notOf Model.above Model.errorsOf Model.closingOrder
+unfolding step run noted noteSent noteTook Model.sendRequest Model.enqueueFds Model.enqueuePacket Model.discardReply Model.takeClosed Model.pollForReplyOrError Model.pollCheck Model.pollForReply Model.prepareCheck Model.pollForEvent Model.find pass refuse sending mustSync both either choose numberAfter unnumbered classOf wasSent inRange full field numberIn cut turned bytesOf lowBytes lowNumber Model.numbered Model.askedOf Model.headOf Model.placeOf Model.claimed Model.takeIn Model.decide Model.ahead Model.decideBy costs descriptorsOf Model.withMode underMode Model.ofNumber Model.notOf Model.above Model.errorsOf Model.closingOrder
 computing = 0
 
 -- a packet of 32 bytes: its code, its byte 1, its wire number in the order o, or in little order

@@ -10,9 +10,9 @@ use Rattle.octets.specs.Bytes.{numberIn, lowNumber, turned}
 use Rattle.octets.specs.Put.{cut}
 use Rattle.octets.specs.Field.{field}
 use Rattle.refusal.specs.Answer.{gives, refuses}
-use Rattle.packet.specs.Packet.{unnumbered, wireOf}
+use Rattle.packet.specs.Packet.{unnumbered, wireOf, event, wasSent, classOf}
 use Rattle.model.specs.Client.{Numbers, Client, heldPacket, setReplies, setEvents}
-use Rattle.model.specs.Model.{fresh, askedOf, claimed}
+use Rattle.model.specs.Model.{fresh, askedOf, claimed, Filing}
 use Rattle.model.specs.declared.Place.the-variants as Place
 use Rattle.honest.specs.Run.{Entry, sent, took, noteSent, noteTook, sends, Wire, Right, Ordered, Lands}
 use Rattle.honest.specs.Server.{Packet, carrying, packetsIn}
@@ -23,17 +23,20 @@ use Rattle.honest.specs.Test.{numbersAsked, numbersHeard, every, among, 
 abbrev bearing : ℕ → ℕ → ℕ → List ℕ
 bearing code a b = code ∷ 9 ∷ a ∷ b ∷ replicate 28 7
 
+abbrev filed : ℕ → Filing
+filed n = record { place = Place.Events; number = n; class = event false }
+
 -- of number t, filed under n
 abbrev came : ℕ → ℕ → Entry
-came t n = took t (bearing 2 t 0) (record { place = Place.Events; number = n })
+came t n = took t (bearing 2 t 0) (filed n)
 
 -- requests 1 with a reply, 2 without and 3 with one
 abbrev asked : List Entry
 asked = sent true ∷ sent false ∷ sent true ∷ []
 
 -- what is noted: nothing of a refusal, nor of a packet that carries no number
-pub notes : (noteSent {A = ℕ} true (gives 7) asked ≡ sent true ∷ asked) × (noteSent {A = ℕ} true (refuses 5) asked ≡ asked) × (noteTook {A = ℕ} 5 (bearing 2 4 0) (gives (record { place = Place.Events; number = 4 }, 7)) asked ≡ took 5 (bearing 2 4 0) (record { place = Place.Events; number = 4 }) ∷ asked)
-    × (noteTook {A = ℕ} 5 (bearing 11 4 0) (gives (record { place = Place.Events; number = 4 }, 7)) asked ≡ asked) × (noteTook {A = ℕ} 5 (bearing 139 4 0) (gives (record { place = Place.Events; number = 4 }, 7)) asked ≡ asked) × (noteTook {A = ℕ} 5 (bearing 2 4 0) (refuses 5) asked ≡ asked)
+pub notes : (noteSent {A = ℕ} true (gives 7) asked ≡ sent true ∷ asked) × (noteSent {A = ℕ} true (refuses 5) asked ≡ asked) × (noteTook {A = ℕ} 5 (bearing 2 4 0) (gives (filed 4, 7)) asked ≡ took 5 (bearing 2 4 0) (filed 4) ∷ asked)
+    × (noteTook {A = ℕ} 5 (bearing 11 4 0) (gives (filed 4, 7)) asked ≡ asked) × (noteTook {A = ℕ} 5 (bearing 139 4 0) (gives (filed 4, 7)) asked ≡ asked) × (noteTook {A = ℕ} 5 (bearing 2 4 0) (refuses 5) asked ≡ asked)
 unfolding noteSent noteTook unnumbered choose either
 notes = (refl, refl, refl, refl, refl, refl)
 
@@ -121,7 +124,7 @@ pub moving : Moved before afterwards
 moving = record { move = _; stay = _; replies = stays (moves (goes none)); events = goes (stays none); behind = refl }
 
 -- a packet that is taken in comes last of its list, from as many packets as came before it
-pub joining : joinedBy {A = ℕ} (fresh 108 4 500) (bearing 2 7 0) (came 4 8 ∷ sent true ∷ came 3 9 ∷ []) (gives (record { place = Place.Events; number = 7 }, 8)) before
+pub joining : joinedBy {A = ℕ} (fresh 108 4 500) (bearing 2 7 0) (came 4 8 ∷ sent true ∷ came 3 9 ∷ []) (gives (filed 7, 8)) before
     ≡ lists (before .replies) (follow 4 (bearing 2 4 0) 40 ∷ follow 5 (bearing 2 5 0) 50 ∷ record { held = heldPacket 7 (bearing 2 7 0) []; origin = 2 } ∷ [])
-unfolding packetsIn claimed askedOf choose both
+unfolding packetsIn claimed askedOf classOf wasSent choose both
 joining = refl

@@ -10,6 +10,7 @@ use lib.ListN.{length, replicate, length-replicate, replicate-append-replicate}
 use borrow.Author.Tests.{lt-leb, le-ltb}
 use Rattle.refusal.specs.Answer.{gives}
 use Rattle.sequence.specs.Numbering.{lastNumber}
+use Rattle.packet.specs.Packet as Packet
 use Rattle.model.specs.Client.{Client, setNumbers, setOutstanding}
 use Rattle.model.specs.Model.{fresh, joining, sendRequest, Filing, takeIn, enqueuePacket}
 use Rattle.model.specs.Calls.{send, enqueue, step}
@@ -31,7 +32,7 @@ abbrev event : ℕ → List ℕ
 event wire = packetOf 2 0 wire
 
 abbrev asEvents : ℕ → Filing
-asEvents n = record { place = Events; number = n }
+asEvents n = record { place = Events; number = n; class = Packet.event false }
 
 -- A packet of request 1 that carries 0 is filed under 0.
 pub wire-needed : Wrong (λ o l t p. Rises l t × Known l t × Answered l t)
@@ -100,7 +101,7 @@ asks-run (suc n) h = rw add-one at (send-to ReplyWithoutFds (n + 1) (asked (n + 
 
 -- an event of the number n that was taken in
 abbrev came : ℕ → ℕ → Client → Client
-came n wire c = takeIn c (event wire) (record { place = Events; number = n; claimed = 0 }) .1
+came n wire c = takeIn c (event wire) (record { place = Events; number = n; claimed = 0; class = Packet.event false }) .1
 
 module _ (n : ℕ) (h : 65536 ≤ n) where
   comes-none : enqueuePacket (asked n) (event 0) ≡ gives (asEvents 0, came 0 0 (asked n))

@@ -144,7 +144,7 @@ Holds P c = Each P (c .replies) × Each P (c .events)
 abbrev pub Hands : (Held → Type 0) → Said → Type 0
 Hands P (Calls.number n) = Unit {0}
 Hands P Calls.done = Unit {0}
-Hands P (Calls.filed place n) = Unit {0}
+Hands P (Calls.filed place n class) = Unit {0}
 Hands P Calls.nothing = Unit {0}
 Hands P (Calls.took h) = P h
 Hands P Calls.again = Unit {0}

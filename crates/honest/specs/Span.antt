@@ -13,7 +13,7 @@ use Rattle.refusal.specs.Answer.{Answer, gives, refuses, refuse, pass, gives-sa
 use Rattle.sequence.specs.Numbering.{lastNumber, wireValues, full, inRange, full-near}
 use Rattle.sequence.specs.Sending as Sending
 use Rattle.sequence.specs.Sending.{sendingBy, sending-by, syncSpan}
-use Rattle.packet.specs.Packet.{replyCode, wireOf}
+use Rattle.packet.specs.Packet.{replyCode, wireOf, reply}
 use Rattle.model.specs.Client.{Numbers, Client}
 use Rattle.model.specs.Model.{Filing, sendRequest}
 use Rattle.model.specs.declared.ReplyFdKind.the-variants.{NoReply}
@@ -182,7 +182,7 @@ one-too-many o n l r h e = too-many syncSpan (omega arith) o n l r h e (omega ar
 abbrev pub replyIn : ℕ → ℕ → List ℕ
 replyIn o t = packetIn o replyCode 0 (t % wireValues)
 
-pub one-run : (o : ℕ) (n : Numbers) (l : List Entry) → Ruled o n l → Honest o l → AtEdge syncSpan n → Misreckoned syncSpan o n l (replyIn o (sends (further l))) (record { place = Replies; number = n .read })
+pub one-run : (o : ℕ) (n : Numbers) (l : List Entry) → Ruled o n l → Honest o l → AtEdge syncSpan n → Misreckoned syncSpan o n l (replyIn o (sends (further l))) (record { place = Replies; number = n .read; class = reply })
 one-run o n l r h e =
     let w : Wire o (sends (further l)) (replyIn o (sends (further l))) = packet-wire o replyCode 0 (sends (further l) % wireValues) (omega arith) in
     one-too-many o n l r h e _ w _ (sym (edge-reckoned syncSpan (omega arith) o n l r h e (omega arith) _ w))

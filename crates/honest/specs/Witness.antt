@@ -14,7 +14,8 @@ use Rattle.octets.specs.Logic.{choose, both, either}
 use Rattle.octets.specs.Bytes.{bytesOf, lowBytes, turned}
 use Rattle.refusal.specs.Answer.{gives, refuse, pass}
 use Rattle.sequence.specs.Numbering.{lastNumber, wireValues}
-use Rattle.packet.specs.Packet.{unnumbered, wireOf}
+use Rattle.packet.specs.Packet as Packet
+use Rattle.packet.specs.Packet.{unnumbered, wireOf, wasSent, PacketClass, classOf}
 use Rattle.requests.specs.declared.Request.{Request}
 use Rattle.model.specs.Client.{Numbers, Client, heldPacket, costs, setNumbers, setOutstanding, setReplies}
 use Rattle.model.specs.Model as Model
@@ -65,7 +66,7 @@ abbrev moves : List Move
 moves = does (send ReplyWithoutFds) ∷ does (send NoReply) ∷ does (send ReplyWithFds) ∷ does (send ReplyWithoutFds) ∷ does (enqueue-fds (7 ∷ [])) ∷ does (discard 4 DiscardReply) ∷ brings 0 (packetOf 2 0 0) ∷ does (enqueue (packetOf 11 255 65535)) ∷ brings 1 (packetOf 1 0 1) ∷ does (poll-event 32) ∷ brings 1 (packetOf 1 0 1) ∷ does (poll-event 32) ∷ brings 2 (packetOf 0 3 2) ∷ does (poll 1 32 0) ∷ does (enqueue (packetOf 139 254 1)) ∷ does (poll-event 32) ∷ does (poll-reply 2 0) ∷ brings 3 (packetOf 1 1 3) ∷ brings 4 (packetOf 1 0 4) ∷ brings 4 (packetOf 2 0 4) ∷ does (poll-event 32) ∷ brings 4 (packetOf 2 0 4) ∷ does (check 3 32) ∷ does (take-closed 1) ∷ does (prepare 4) ∷ []
 
 abbrev says : List Said
-says = number 1 ∷ number 2 ∷ number 3 ∷ number 4 ∷ done ∷ done ∷ filed Events 0 ∷ filed Events 0 ∷ refused 5 ∷ heldAt 0 (packetOf 2 0 0) [] ∷ filed Replies 1 ∷ heldAt 0 (packetOf 11 255 65535) [] ∷ filed Replies 2 ∷ heldAt 1 (packetOf 1 0 1) [] ∷ filed Events 2 ∷ heldAt 2 (packetOf 139 254 1) [] ∷ absent ∷ filed Replies 3 ∷ filed Dropped 4 ∷ refused 5 ∷ heldAt 2 (packetOf 0 3 2) [] ∷ filed Events 4 ∷ heldAt 3 (packetOf 1 1 3) (7 ∷ []) ∷ closed (7 ∷ []) ∷ answer false ∷ []
+says = number 1 ∷ number 2 ∷ number 3 ∷ number 4 ∷ done ∷ done ∷ filed Events 0 (Packet.event false) ∷ filed Events 0 (Packet.event false) ∷ refused 5 ∷ heldAt 0 (packetOf 2 0 0) [] ∷ filed Replies 1 Packet.reply ∷ heldAt 0 (packetOf 11 255 65535) [] ∷ filed Replies 2 Packet.error ∷ heldAt 1 (packetOf 1 0 1) [] ∷ filed Events 2 (Packet.event true) ∷ heldAt 2 (packetOf 139 254 1) [] ∷ absent ∷ filed Replies 3 Packet.reply ∷ filed Dropped 4 Packet.reply ∷ refused 5 ∷ heldAt 2 (packetOf 0 3 2) [] ∷ filed Events 4 (Packet.event false) ∷ heldAt 3 (packetOf 1 1 3) (7 ∷ []) ∷ closed (7 ∷ []) ∷ answer false ∷ []
 
 pub witness-says : run (fresh 108 4 100) (made moves) .said ≡ says
 unfolding computing
@@ -89,7 +90,7 @@ abbrev third : Packet
 third = record { true-number = 3; bytes = packetOf 1 0 3 }
 
 abbrev quietLog : List Entry
-quietLog = sent true ∷ took 3 (packetOf 1 0 3) (record { place = Replies; number = 3 }) ∷ sent true ∷ sent false ∷ sent false ∷ []
+quietLog = sent true ∷ took 3 (packetOf 1 0 3) (record { place = Replies; number = 3; class = Packet.reply }) ∷ sent true ∷ sent false ∷ sent false ∷ []
 
 abbrev quiet : List Move
 quiet = does (send NoReply) ∷ does (send NoReply) ∷ does (send ReplyWithoutFds) ∷ brings 3 (third .bytes) ∷ does (send ReplyWithoutFds) ∷ []
@@ -133,7 +134,7 @@ abbrev tookOne : ℕ → ℕ → Client
 tookOne k n = setReplies (between k n (last ∷ [])) (heldPacket n (replyTo n) [] ∷ [])
 
 abbrev pub inReplies : ℕ → Filing
-inReplies n = record { place = Replies; number = n }
+inReplies n = record { place = Replies; number = n; class = Packet.reply }
 
 pub rounds : ℕ → List Entry
 rounds zero = []
@@ -155,7 +156,7 @@ module _ (k n : ℕ) (rest : List Request) (room : 2 ≤ k) (short : length rest
       rw (le-ltb (n + 1) (n + 1 + 1 - length (rest ++ (last ∷ []))) h, way, drop-at rest (last ∷ []) (length rest) refl)
 
   take-one : packetNumber (sentOne k n rest) (replyTo (n + 1)) ≡ gives (n + 1) → enqueuePacket (sentOne k n rest) (replyTo (n + 1)) ≡ gives (inReplies (n + 1), tookOne k (n + 1))
-  unfolding enqueuePacket pass refuse bytesOf turned lowBytes choose Model.takeIn Model.decide Model.ahead Model.decideBy Model.placeOf Model.claimed both either costs Model.numbered unnumbered
+  unfolding enqueuePacket pass refuse bytesOf turned lowBytes choose Model.takeIn Model.decide Model.ahead Model.decideBy Model.placeOf Model.claimed classOf wasSent both either costs Model.numbered unnumbered
   take-one e =
       let m : max (n + 1) (n + 1) ≡ n + 1 = omega arith in
       rw (e, le-ltb (n + 1) (n + 1) (omega arith), asked-one, way, drop-at rest (last ∷ []) (length rest) refl, m)
@@ -237,7 +238,7 @@ abbrev farMoves : List Move
 farMoves = does (send ReplyWithoutFds) ∷ does (send NoReply) ∷ does (send ReplyWithFds) ∷ does (send ReplyWithoutFds) ∷ does (enqueue-fds (7 ∷ [])) ∷ does (discard 65540 DiscardReply) ∷ brings 65536 (packetOf 2 0 0) ∷ does (enqueue (packetOf 11 255 65535)) ∷ brings 65537 (packetOf 1 0 1) ∷ does (poll-event 32) ∷ brings 65537 (packetOf 1 0 1) ∷ does (poll-event 32) ∷ brings 65538 (packetOf 0 3 2) ∷ does (poll 65537 32 0) ∷ does (enqueue (packetOf 139 254 1)) ∷ does (poll-event 32) ∷ does (poll-reply 65538 0) ∷ brings 65539 (packetOf 1 1 3) ∷ brings 65540 (packetOf 1 0 4) ∷ brings 65540 (packetOf 2 0 4) ∷ does (poll-event 32) ∷ brings 65540 (packetOf 2 0 4) ∷ does (check 65539 32) ∷ does (take-closed 1) ∷ does (prepare 65540) ∷ []
 
 abbrev farSays : List Said
-farSays = number 65537 ∷ number 65538 ∷ number 65539 ∷ number 65540 ∷ done ∷ done ∷ filed Events 65536 ∷ filed Events 65536 ∷ refused 5 ∷ heldAt 65536 (packetOf 2 0 0) [] ∷ filed Replies 65537 ∷ heldAt 65536 (packetOf 11 255 65535) [] ∷ filed Replies 65538 ∷ heldAt 65537 (packetOf 1 0 1) [] ∷ filed Events 65538 ∷ heldAt 65538 (packetOf 139 254 1) [] ∷ absent ∷ filed Replies 65539 ∷ filed Dropped 65540 ∷ refused 5 ∷ heldAt 65538 (packetOf 0 3 2) [] ∷ filed Events 65540 ∷ heldAt 65539 (packetOf 1 1 3) (7 ∷ []) ∷ closed (7 ∷ []) ∷ answer false ∷ []
+farSays = number 65537 ∷ number 65538 ∷ number 65539 ∷ number 65540 ∷ done ∷ done ∷ filed Events 65536 (Packet.event false) ∷ filed Events 65536 (Packet.event false) ∷ refused 5 ∷ heldAt 65536 (packetOf 2 0 0) [] ∷ filed Replies 65537 Packet.reply ∷ heldAt 65536 (packetOf 11 255 65535) [] ∷ filed Replies 65538 Packet.error ∷ heldAt 65537 (packetOf 1 0 1) [] ∷ filed Events 65538 (Packet.event true) ∷ heldAt 65538 (packetOf 139 254 1) [] ∷ absent ∷ filed Replies 65539 Packet.reply ∷ filed Dropped 65540 Packet.reply ∷ refused 5 ∷ heldAt 65538 (packetOf 0 3 2) [] ∷ filed Events 65540 (Packet.event false) ∷ heldAt 65539 (packetOf 1 1 3) (7 ∷ []) ∷ closed (7 ∷ []) ∷ answer false ∷ []
 
 pub far-says : run far (made farMoves) .said ≡ farSays
 unfolding computing
@@ -246,11 +247,11 @@ far-says = refl
 abbrev farSent : List Entry
 farSent = sent true ∷ sent true ∷ sent false ∷ sent true ∷ rounds wireValues
 
-abbrev filedIn : Place → ℕ → Filing
-filedIn place n = record { place = place; number = n }
+abbrev filedIn : Place → ℕ → PacketClass → Filing
+filedIn place n k = record { place = place; number = n; class = k }
 
 abbrev farLog : List Entry
-farLog = took 65540 (packetOf 2 0 4) (filedIn Events 65540) ∷ took 65540 (packetOf 1 0 4) (filedIn Dropped 65540) ∷ took 65539 (packetOf 1 1 3) (filedIn Replies 65539) ∷ took 65538 (packetOf 0 3 2) (filedIn Replies 65538) ∷ took 65537 (packetOf 1 0 1) (filedIn Replies 65537) ∷ took 65536 (packetOf 2 0 0) (filedIn Events 65536) ∷ farSent
+farLog = took 65540 (packetOf 2 0 4) (filedIn Events 65540 (Packet.event false)) ∷ took 65540 (packetOf 1 0 4) (filedIn Dropped 65540 Packet.reply) ∷ took 65539 (packetOf 1 1 3) (filedIn Replies 65539 Packet.reply) ∷ took 65538 (packetOf 0 3 2) (filedIn Replies 65538 Packet.error) ∷ took 65537 (packetOf 1 0 1) (filedIn Replies 65537 Packet.reply) ∷ took 65536 (packetOf 2 0 0) (filedIn Events 65536 (Packet.event false)) ∷ farSent
 
 far-logged : logged far (rounds wireValues) farMoves ≡ farLog
 unfolding computing
@@ -292,11 +293,11 @@ unfolding computing
 far-honest =
     let e : sends (rounds wireValues) ≡ wireValues = rounds-sends wireValues in
     let a = far-sent in
-    let b = took-upto _ 65536 65536 (packetOf 2 0 0) (filedIn Events 65536) (omega arith) (omega arith) a in
-    let c = took-upto _ 65536 65537 (packetOf 1 0 1) (filedIn Replies 65537) (omega arith) (omega arith) b in
-    let d = took-upto _ 65537 65538 (packetOf 0 3 2) (filedIn Replies 65538) (omega arith) (omega arith) c in
-    let f = took-upto _ 65538 65539 (packetOf 1 1 3) (filedIn Replies 65539) (omega arith) (omega arith) d in
-    let g = took-upto _ 65539 65540 (packetOf 1 0 4) (filedIn Dropped 65540) (omega arith) (omega arith) f in (
+    let b = took-upto _ 65536 65536 (packetOf 2 0 0) (filedIn Events 65536 (Packet.event false)) (omega arith) (omega arith) a in
+    let c = took-upto _ 65536 65537 (packetOf 1 0 1) (filedIn Replies 65537 Packet.reply) (omega arith) (omega arith) b in
+    let d = took-upto _ 65537 65538 (packetOf 0 3 2) (filedIn Replies 65538 Packet.error) (omega arith) (omega arith) c in
+    let f = took-upto _ 65538 65539 (packetOf 1 1 3) (filedIn Replies 65539 Packet.reply) (omega arith) (omega arith) d in
+    let g = took-upto _ 65539 65540 (packetOf 1 0 4) (filedIn Dropped 65540 Packet.reply) (omega arith) (omega arith) f in (
       upto-fair _ 65540 65540 _ (omega arith) (omega arith) (omega arith) refl g,
       (
         upto-fair _ 65539 65540 _ (omega arith) (omega arith) (omega arith) refl f,

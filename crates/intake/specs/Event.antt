@@ -2,7 +2,7 @@
 use mathlib.Core.Path.{_≡_, refl, sym, ap, _∙_}
 use mathlib.Core.Bool.{true, false}
 use mathlib.Core.List.{List}
-use Prim.Native.Nat.{ℕ, _+_, _≤_, _<_}
+use Prim.Native.Nat.{ℕ, _+_, _≤_}
 use native.Mathlib.Omega.{arith}
 use lib.ListN.{length}
 use borrow.Author.Tests.{le-ltb}
@@ -12,7 +12,7 @@ use Rattle.sequence.specs.Numbering.{lastNumber, saysFull}
 use Rattle.sequence.specs.declared.SequenceNumber.{SequenceNumber}
 use Rattle.sequence.specs.declared.Full.{Full}
 use Rattle.sequence.specs.declared.Full.the-variants as Full
-use Rattle.packet.specs.Packet.{leastPacket, mostPacket, codeOf, replyCode}
+use Rattle.packet.specs.Packet.{leastPacket, mostPacket, codeOf, packetClass, isEvent}
 use Rattle.held.specs.Head.{headerSize, held, event}
 use Rattle.held.specs.Reading.{used}
 use Rattle.held.specs.Moves.{left, Leaves, stays, behind, stays-room, append-behind}
@@ -42,7 +42,7 @@ ready-writable c q s f R = record { within = R .within; store = R .store; writte
 
 -- an event with the number n, which is not ahead, for which the window stays where it is
 pub record PlainEvent (c : Connection) (s p : List ℕ) (n : ℕ) : Type 0 where
-  pub code : replyCode < codeOf p
+  pub event : isEvent (packetClass p) ≡ true
   pub least : leastPacket ≤ length p
   pub most : length p ≤ mostPacket
   pub number : gives n ≡ packetNumberIn c p
@@ -55,13 +55,13 @@ IsPlain c s p Plain.Other = Unit {0}
 
 -- THE SHORT WAY leaves what the step gives, whatever the rooms that it is not lent.
 pub record PlainStep (c : Connection) (s p : List ℕ) (n : ℕ) (a : Connection) (s' : List ℕ) : Type 0 where
-  pub exact : (q f : List ℕ) → gives (record { value = filing Place.Events n; state = a; left = rooms q s' f }) ≡ enqueueExact c (rooms q s f) p
+  pub exact : (q f : List ℕ) → gives (record { value = filing Place.Events n p; state = a; left = rooms q s' f }) ≡ enqueueExact c (rooms q s f) p
 
 -- ---- laws
 
 pub plain-numbered : (c : Connection) (s p : List ℕ) (x : Full) → saysFull x ≡ packetNumberIn c p → (n : SequenceNumber) → x ≡ Full.Number n
-    → ahead (codeOf p) (n .0) (c .written) ≡ false → replyCode < codeOf p → leastPacket ≤ length p → length p ≤ mostPacket → stays (c .window) s (headerSize + length p) ≡ true → PlainEvent c s p (n .0)
-plain-numbered c s p x e n g a h least most t = record { code = h; least = least; most = most; number = ap saysFull (sym g) ∙ e; asked = a; stays-there = t }
+    → ahead (codeOf p) (n .0) (c .written) ≡ false → isEvent (packetClass p) ≡ true → leastPacket ≤ length p → length p ≤ mostPacket → stays (c .window) s (headerSize + length p) ≡ true → PlainEvent c s p (n .0)
+plain-numbered c s p x e n g a h least most t = record { event = h; least = least; most = most; number = ap saysFull (sym g) ∙ e; asked = a; stays-there = t }
 
 module _ (c : Connection) (s p : List ℕ) (n : ℕ) (W : Writable c s) (P : PlainEvent c s p n) where
   -- the record has its place behind the window
@@ -73,11 +73,11 @@ module _ (c : Connection) (s p : List ℕ) (n : ℕ) (W : Writable c s) (P : Pla
   unfolding overRoom both
   over-no = le-ltb (c .room) (used (c .window) + (headerSize + length p)) (omega (arith, plain-room, W .store))
 
-  plan-plain : (a : Model.Asked) → planBy c p n a ≡ gives (task Place.Events n 0)
+  plan-plain : (a : Model.Asked) → planBy c p n a ≡ gives (task Place.Events n 0 (packetClass p))
   plan-plain a =
-      sym (plan-file c p n (P .asked) a a refl Place.Events 0 (sym (event-place p (P .code) a)) (sym (event-claims p a (event-place p (P .code) a))) (omega arith) over-no)
+      sym (plan-file c p n (P .asked) a a refl (packetClass p) refl Place.Events 0 (sym (event-place p (P .event) a)) (sym (event-claims p a (event-place p (P .event) a))) (omega arith) over-no)
 
-  plan-is : (q : List ℕ) → planOf c q p ≡ gives (task Place.Events n 0)
+  plan-is : (q : List ℕ) → planOf c q p ≡ gives (task Place.Events n 0 (packetClass p))
   unfolding planOf refuse pass
   plan-is q =
       let x : planOf c q p ≡ pass (packetNumberIn c p) (λ m. planBy c p m (askedIn c q m)) = simp (le-ltb (length p) leastPacket (P .least), le-ltb mostPacket (length p) (P .most)) in

@@ -9,7 +9,7 @@ use Rattle.requests.specs.Room.{capacity}
 use Rattle.held.specs.Head.{held, reply, event}
 use Rattle.held.specs.Moves.{Left, left, Room, appended}
 use Rattle.descriptors.specs.Room as Slots
-use Rattle.packet.specs.Packet.{codeOf}
+use Rattle.packet.specs.Packet.{codeOf, packetClass}
 use Rattle.model.specs.Model.{isHeld, Filing, Task}
 use Rattle.model.specs.Reading.{Rooms, rooms, slotsOf}
 use Rattle.model.specs.Moved.{movedState}
@@ -35,19 +35,19 @@ pub record Takeable (c : Connection) (q s f : List ℕ) : Type 0 where
 
 -- ---- filing
 
--- where a packet was filed, and under which number
-abbrev pub filing : Place → ℕ → Filing
-filing place n = record { place = place; number = n }
+-- where a packet was filed, under which number, and its class
+abbrev pub filing : Place → ℕ → List ℕ → Filing
+filing place n p = record { place = place; number = n; class = packetClass p }
 
 -- what is left where the held packets are l and the descriptors are d
-abbrev pub doneBy : Place → Connection → Rooms → Left → Slots.Room → Done Filing
-doneBy place c r l d = record { value = filing place (c .read); state = movedState c (l .window) (d .counts); left = rooms (r .requests) (l .store) (d .slots) }
+abbrev pub doneBy : Place → Connection → Rooms → List ℕ → Left → Slots.Room → Done Filing
+doneBy place c r p l d = record { value = filing place (c .read) p; state = movedState c (l .window) (d .counts); left = rooms (r .requests) (l .store) (d .slots) }
 
 -- Under the last number read: a reply is held, and with it the k descriptors that it claims; an event is held and has none; those of a dropped packet are closed.
 abbrev pub filedAs : Place → Connection → Rooms → ℕ → List ℕ → Done Filing
-filedAs Place.Replies c r k p = doneBy Place.Replies c r (appended (c .window) (r .store) (held (c .read) k reply p)) (Slots.hold k (slotsOf c r))
-filedAs Place.Events c r k p = doneBy Place.Events c r (appended (c .window) (r .store) (held (c .read) 0 event p)) (slotsOf c r)
-filedAs Place.Dropped c r k p = doneBy Place.Dropped c r (left (c .window) (r .store)) (Slots.closeWaiting k (slotsOf c r))
+filedAs Place.Replies c r k p = doneBy Place.Replies c r p (appended (c .window) (r .store) (held (c .read) k reply p)) (Slots.hold k (slotsOf c r))
+filedAs Place.Events c r k p = doneBy Place.Events c r p (appended (c .window) (r .store) (held (c .read) 0 event p)) (slotsOf c r)
+filedAs Place.Dropped c r k p = doneBy Place.Dropped c r p (left (c .window) (r .store)) (Slots.closeWaiting k (slotsOf c r))
 
 -- what filing asks for: the claimed descriptors wait, and a packet that is held has room
 pub record MayFile (c : Connection) (s f : List ℕ) (place : Place) (k n : ℕ) : Type 0 where
@@ -57,7 +57,7 @@ pub record MayFile (c : Connection) (s f : List ℕ) (place : Place) (k n : ℕ)
 
 -- what filing leaves, whatever the request room
 pub record FileDone (c : Connection) (s f : List ℕ) (place : Place) (k : ℕ) (p : List ℕ) (a : Connection) (s' f' : List ℕ) : Type 0 where
-  pub done : (q : List ℕ) → record { value = filing place (c .read); state = a; left = rooms q s' f' } ≡ filedAs place c (rooms q s f) k p
+  pub done : (q : List ℕ) → record { value = filing place (c .read) p; state = a; left = rooms q s' f' } ≡ filedAs place c (rooms q s f) k p
 
 -- ---- the step
 

@@ -40,7 +40,7 @@ takeable c r S =
       slots = Fds.sound-is (slotsOf c r) .0 (S .slots);
     }
 
-filed-value : (place : Place) (c : Connection) (r : Rooms) (k : ℕ) (p : List ℕ) → filedAs place c r k p .value ≡ filing place (c .read)
+filed-value : (place : Place) (c : Connection) (r : Rooms) (k : ℕ) (p : List ℕ) → filedAs place c r k p .value ≡ filing place (c .read) p
 filed-value Place.Replies c r k p = refl
 filed-value Place.Events c r k p = refl
 filed-value Place.Dropped c r k p = refl
@@ -72,7 +72,7 @@ module _ (c : Connection) (r : Rooms) (S : Sound c r) (p : List ℕ) (byte : get
       let a : Model.Asked = askedIn c (r .requests) (t .number) in
       let none : t .place ≡ Place.Events → t .claimed ≡ 0 = λ e. P .claimed-is ∙ event-claims p a (sym (P .place-is) ∙ e) in
       λ i. gives (
-        filed-value (t .place) (next (t .number) (P .number)) r (t .claimed) p i,
+        (filed-value (t .place) (next (t .number) (P .number)) r (t .claimed) p ∙ (λ j. record { place = t .place; number = t .number; class = sym (P .class-is) j })) i,
         (filed-read (next (t .number) (P .number)) r (next-sound (t .number) (P .number)) p (t .claimed) (t .place) none (fine t P)
             ∙ ap
             (λ (x : Client). filed (t .place) (arriving x p (t .number) (t .claimed)) (setWaiting x (drop (t .claimed) (x .waiting))))

@@ -7,24 +7,23 @@ use model::Connection;
 use model::moved;
 use sequence::Full;
 use sequence::SequenceNumber;
+ghost use mathlib.Core.Path.{_≡_};
+ghost use mathlib.Core.Bool.{true};
 ghost use Prim.Native.Nat.{_≤_};
 ghost use lib.ListN.{length};
-ghost use Rattle.packet.specs.Packet.{leastPacket, mostPacket};
+ghost use Rattle.packet.specs.Packet.{leastPacket, mostPacket, packetClass, isEvent};
 ghost use Rattle.intake.specs.Event.{Writable, IsPlain, PlainEvent, PlainStep};
 
-// What a packet is: such an event with that number, or another.
+// What an event is: one that goes the short way, with that number, or another.
 pub enum Plain {
     Event(SequenceNumber),
     Other,
 }
 
 pub fn plain_of(c: Connection, store: &[u8], packet: &[u8]) -> Plain
-    requires { ⌜ Writable c (now store) × (leastPacket ≤ length (now packet)) × (length (now packet) ≤ mostPacket) ⌝ }
+    requires { ⌜ Writable c (now store) × (leastPacket ≤ length (now packet)) × (length (now packet) ≤ mostPacket) × (isEvent (packetClass (now packet)) ≡ true) ⌝ }
     ensures { λ r. ⌜ IsPlain c (now (store .entry)) (now (packet .entry)) r ⌝ }
 {
-    if packet[0] <= packet::REPLY {
-        return Plain::Other;
-    }
     let window = c.window;
     if !held::stays(store, window, held::HEADER + packet.len()) {
         return Plain::Other;

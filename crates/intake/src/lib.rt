@@ -75,10 +75,10 @@ pub fn enqueue_packet(
     ensures { λ r. ⌜ EnqueueStep c (now (requests .entry)) (now (store .entry)) (now (slots .entry)) (now (packet .entry)) r (now (store .exit)) (now (slots .exit)) ⌝ }
 {
     match filing::plan_of(c, requests, packet) {
-        Plan::File(place, number, claim) => {
+        Plan::File(place, number, claim, class) => {
             let next = filing::numbered(c, packet[0], number.0);
             let filed = file(next, store, slots, place, claim, packet);
-            Enqueued::Filed(place, number, filed)
+            Enqueued::Filed(place, number, class, filed)
         }
         Plan::Stop(refusal) => Enqueued::Refused(refusal),
     }

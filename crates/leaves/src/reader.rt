@@ -4,6 +4,7 @@ use crate::Turned;
 use crate::moves;
 use crate::refused;
 use crate::roomed;
+use packet::Class;
 use packet_reader::Advanced;
 use packet_reader::Capacity;
 use packet_reader::Made;
@@ -98,7 +99,7 @@ pub(crate) fn advance(leaves: Leaves, bytes: &[u8], n: usize) -> Turned {
     let reader = now.reader;
     match reader.advance(buffer(now.room, bytes), n) {
         Advanced::NotYet(next) => waiting(leaves, on(now, next), bytes),
-        Advanced::Packet(len, next) => with(
+        Advanced::Packet(len, _, next) => with(
             leaves,
             on(now, next),
             text::shown(text::PACKET, crate::READER, len),
@@ -112,10 +113,10 @@ fn waiting(leaves: Leaves, next: Buffered, bytes: &[u8]) -> Turned {
 }
 
 // What some bytes came to: how many were used, and the reader to go on with; and a packet of so
-// many bytes at the start of its buffer, where they made one whole.
+// many bytes at the start of its buffer, with its class, where they made one whole.
 pub enum Fed {
     NotYet(usize, Buffered),
-    Packet(usize, usize, Buffered),
+    Packet(usize, usize, Class, Buffered),
     Refused(Refusal),
 }
 
@@ -130,7 +131,7 @@ pub fn feed(now: Buffered, bytes: &mut [u8], from: usize, end: usize) -> Fed {
 fn happened(now: Buffered, n: usize, answer: Advanced) -> Fed {
     match answer {
         Advanced::NotYet(next) => Fed::NotYet(n, on(now, next)),
-        Advanced::Packet(len, next) => Fed::Packet(n, len, on(now, next)),
+        Advanced::Packet(len, class, next) => Fed::Packet(n, len, class, on(now, next)),
         Advanced::Refused(refusal) => Fed::Refused(refusal),
     }
 }

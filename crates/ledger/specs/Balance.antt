@@ -13,7 +13,7 @@ use Rattle.descriptors.specs.Counting.{count-append, count-split}
 use Rattle.model.specs.Client.{Held, Client, setReplies, setEvents, setWaiting, setClosing, descriptorsOf, arriving}
 use Rattle.model.specs.Deciding.{enqueue-chain}
 use Rattle.model.specs.Model as Model
-use Rattle.packet.specs.Packet.{codeOf}
+use Rattle.packet.specs.Packet.{packetClass}
 use Rattle.model.specs.Model.{fresh, sendRequest, enqueueFds, takeClosed, close, asEvent, numbered, askedOf, placeOf, claimed, Filing, takeIn, enqueuePacket, withMode, ofNumber, notOf, above, closingOrder, discarding, discardReply, Found, at, find, Taken, takenBy, pollForReplyOrError, checkedBy, pollCheck, repliedBy, pollForReply, eventBy, pollForEvent}
 use Rattle.model.specs.Calls.{Call, send, enqueue-fds, enqueue, discard, poll, check, poll-reply, prepare, poll-event, take-closed, Said, done, closed, refused, step, outcome, run, saysTaken, saysPoll}
 use Rattle.model.specs.declared.ReplyFdKind.{ReplyFdKind}
@@ -202,7 +202,7 @@ balances-packet f c p =
     balances-refuse f c (enqueue p) _ 20 _
     (balances-refuse f c (enqueue p) _ 4 _
     (balances-refuse f c (enqueue p) _ 5 _
-    (λ d. ap (λ (k : ℕ). k + count d []) (within-filed c p n (claimed p (askedOf c n)) (placeOf (codeOf p) (askedOf c n)) d (event-claims p (askedOf c n))))))))))
+    (λ d. ap (λ (k : ℕ). k + count d []) (within-filed c p n (claimed p (askedOf c n)) (placeOf (packetClass p) (askedOf c n)) d (event-claims p (askedOf c n))))))))))
 
 -- ---- every call, and a row of them
 

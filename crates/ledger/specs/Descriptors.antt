@@ -27,7 +27,7 @@ within c = c .waiting ++ (descriptorsOf (c .replies) ++ c .closing)
 unfoldable pub unlessRefused : List ℕ → Said → List ℕ
 unlessRefused list (number n) = list
 unlessRefused list done = list
-unlessRefused list (filed place n) = list
+unlessRefused list (filed place n class) = list
 unlessRefused list nothing = list
 unlessRefused list (took h) = list
 unlessRefused list again = list
@@ -53,7 +53,7 @@ accepted (take-closed places) said = []
 unfoldable pub tookWith : Said → List ℕ
 tookWith (number n) = []
 tookWith done = []
-tookWith (filed place n) = []
+tookWith (filed place n class) = []
 tookWith nothing = []
 tookWith (took h) = h .descriptors
 tookWith again = []
@@ -65,7 +65,7 @@ tookWith (refused n) = []
 unfoldable pub closedBy : Said → List ℕ
 closedBy (number n) = []
 closedBy done = []
-closedBy (filed place n) = []
+closedBy (filed place n class) = []
 closedBy nothing = []
 closedBy (took h) = []
 closedBy again = []

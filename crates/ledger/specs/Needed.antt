@@ -16,7 +16,8 @@ use Rattle.sequence.specs.Numbering.{lastNumber, full, inRange}
 use Rattle.sequence.specs.Sending.{sending, mustSync}
 use Rattle.requests.specs.Room.{mostRequests}
 use Rattle.requests.specs.declared.Mode.the-variants as Mode
-use Rattle.packet.specs.Packet.{leastPacket, mostPacket, unnumbered, numberAfter}
+use Rattle.packet.specs.Packet as Packet
+use Rattle.packet.specs.Packet.{leastPacket, mostPacket, unnumbered, numberAfter, wasSent, classOf}
 use Rattle.held.specs.Head.{mostStore}
 use Rattle.descriptors.specs.Room.{mostDescriptors}
 use Rattle.model.specs.Client.{Held, Client, heldPacket, used, costs, descriptorsOf, inside}
@@ -148,30 +149,30 @@ module _ (h k : Held) where
   descriptors-apart d e = took-apart (λ z. d (ap (λ (x : Held). x .descriptors) z)) e
 
   -- behind an answer that is
-  filed-apart : (h .descriptors ≡ k .descriptors → ⊥) → filed Replies 1 ∷ took h ∷ [] ≡ filed Replies 1 ∷ took k ∷ [] → ⊥
+  filed-apart : (h .descriptors ≡ k .descriptors → ⊥) → filed Replies 1 Packet.reply ∷ took h ∷ [] ≡ filed Replies 1 Packet.reply ∷ took k ∷ [] → ⊥
   filed-apart d e = let z : took h ∷ [] ≡ took k ∷ [] = cc in descriptors-apart d z
 
 -- In the order of the table. K and S by what has room; the numbers by what is said; requests by where a packet is filed; the rest by what is handed out.
 pub each-needed :
     Needed withOrder × Needed withK × Needed withS × Needed withWritten × Needed withExpected × Needed withRead × Needed withOutstanding × Needed withDescribed × Needed withRequestMode × Needed withDiscard × Needed withReplies × Needed withEvents × Needed withNumber × Needed withPacket × Needed withHeld × Needed withTurn × Needed withWaiting × Needed withClosing
-unfolding ranged each holds falls legal run step Model.sendRequest Model.enqueuePacket Model.takeClosed Model.pollForReplyOrError Model.pollCheck Model.prepareCheck Model.pollForEvent Model.find pass refuse sending mustSync both either choose numberAfter unnumbered inRange full field numberIn cut turned bytesOf lowBytes lowNumber Model.numbered Model.askedOf Model.headOf Model.placeOf Model.claimed Model.takeIn Model.decide Model.ahead Model.decideBy costs descriptorsOf
+unfolding ranged each holds falls legal run step Model.sendRequest Model.enqueuePacket Model.takeClosed Model.pollForReplyOrError Model.pollCheck Model.prepareCheck Model.pollForEvent Model.find pass refuse sending mustSync both either choose numberAfter unnumbered classOf wasSent inRange full field numberIn cut turned bytesOf lowBytes lowNumber Model.numbered Model.askedOf Model.headOf Model.placeOf Model.claimed Model.takeIn Model.decide Model.ahead Model.decideBy costs descriptorsOf
 each-needed = (
-  needed withOrder 108 66 (enqueue event ∷ []) (filed Events 1 ∷ []) (refused 20 ∷ []) refl refl refl refl (λ e. let z : _≡_ {A = ℕ} 0 1 = cc in omega arith),
+  needed withOrder 108 66 (enqueue event ∷ []) (filed Events 1 (Packet.event false) ∷ []) (refused 20 ∷ []) refl refl refl refl (λ e. let z : _≡_ {A = ℕ} 0 1 = cc in omega arith),
   needed withK 1 2 (send NoReply ∷ []) (refused 5 ∷ []) (number 2 ∷ []) refl refl refl refl (λ e. let z : _≡_ {A = ℕ} 0 1 = cc in omega arith),
-  needed withS 48 96 (enqueue event ∷ enqueue event ∷ []) (filed Events 1 ∷ refused 5 ∷ []) (filed Events 1 ∷ filed Events 1 ∷ []) refl refl refl refl (λ e. let z : _≡_ {A = ℕ} 0 1 = cc in omega arith),
+  needed withS 48 96 (enqueue event ∷ enqueue event ∷ []) (filed Events 1 (Packet.event false) ∷ refused 5 ∷ []) (filed Events 1 (Packet.event false) ∷ filed Events 1 (Packet.event false) ∷ []) refl refl refl refl (λ e. let z : _≡_ {A = ℕ} 0 1 = cc in omega arith),
   needed withWritten 1 2 (send NoReply ∷ []) (number 2 ∷ []) (number 3 ∷ []) refl refl refl refl (λ e. let z : _≡_ {A = ℕ} 2 3 = cc in omega arith),
   needed withExpected 0 1 (prepare 1 ∷ []) (answer true ∷ []) (answer false ∷ []) refl refl refl refl (λ e. let z : _≡_ {A = ℕ} 0 1 = cc in omega arith),
   needed withRead 0 1 (check 0 32 ∷ []) (again ∷ []) (absent ∷ []) refl refl refl refl (λ e. let z : _≡_ {A = ℕ} 0 1 = cc in omega arith),
-  needed withOutstanding [] (joining NoReply ∷ []) (enqueue error ∷ []) (filed Events 1 ∷ []) (filed Replies 1 ∷ []) refl refl refl refl (λ e. let z : _≡_ {A = ℕ} 0 1 = cc in omega arith),
-  needed withDescribed true false (enqueue reply ∷ poll 1 32 1 ∷ []) (filed Replies 1 ∷ took (held reply (7 ∷ [])) ∷ []) (filed Replies 1 ∷ took (held reply []) ∷ []) refl refl refl refl (λ e. filed-apart (held reply (7 ∷ [])) (held reply []) (λ l. let z : _≡_ {A = ℕ} 0 1 = cc in omega arith) e),
-  needed withRequestMode Mode.Keep Mode.DiscardReply (enqueue error ∷ []) (filed Replies 1 ∷ []) (filed Events 1 ∷ []) refl refl refl refl (λ e. let z : _≡_ {A = ℕ} 0 1 = cc in omega arith),
-  needed withDiscard DiscardReply DiscardReplyAndError (enqueue error ∷ []) (filed Events 1 ∷ []) (filed Dropped 1 ∷ []) refl refl refl refl (λ e. let z : _≡_ {A = ℕ} 0 1 = cc in omega arith),
+  needed withOutstanding [] (joining NoReply ∷ []) (enqueue error ∷ []) (filed Events 1 Packet.error ∷ []) (filed Replies 1 Packet.error ∷ []) refl refl refl refl (λ e. let z : _≡_ {A = ℕ} 0 1 = cc in omega arith),
+  needed withDescribed true false (enqueue reply ∷ poll 1 32 1 ∷ []) (filed Replies 1 Packet.reply ∷ took (held reply (7 ∷ [])) ∷ []) (filed Replies 1 Packet.reply ∷ took (held reply []) ∷ []) refl refl refl refl (λ e. filed-apart (held reply (7 ∷ [])) (held reply []) (λ l. let z : _≡_ {A = ℕ} 0 1 = cc in omega arith) e),
+  needed withRequestMode Mode.Keep Mode.DiscardReply (enqueue error ∷ []) (filed Replies 1 Packet.error ∷ []) (filed Events 1 Packet.error ∷ []) refl refl refl refl (λ e. let z : _≡_ {A = ℕ} 0 1 = cc in omega arith),
+  needed withDiscard DiscardReply DiscardReplyAndError (enqueue error ∷ []) (filed Events 1 Packet.error ∷ []) (filed Dropped 1 Packet.error ∷ []) refl refl refl refl (λ e. let z : _≡_ {A = ℕ} 0 1 = cc in omega arith),
   needed withReplies [] (held reply [] ∷ []) (poll 1 32 0 ∷ []) (nothing ∷ []) (took (held reply []) ∷ []) refl refl refl refl (λ e. let z : _≡_ {A = ℕ} 0 1 = cc in omega arith),
   needed withEvents [] (held event [] ∷ []) (poll-event 32 ∷ []) (nothing ∷ []) (took (held event []) ∷ []) refl refl refl refl (λ e. let z : _≡_ {A = ℕ} 0 1 = cc in omega arith),
   needed withNumber 0 1 (poll-event 32 ∷ []) (took (heldPacket 0 zeros []) ∷ []) (took (heldPacket 1 zeros []) ∷ []) refl refl refl refl (number-apart (heldPacket 0 zeros []) (heldPacket 1 zeros []) (λ l. omega arith)),
   needed withPacket event error (poll-event 32 ∷ []) (took (held event []) ∷ []) (took (held error []) ∷ []) refl refl refl refl (packet-apart (held event []) (held error []) (λ l. let z : _≡_ {A = ℕ} 2 0 = cc in omega arith)),
   needed withHeld (8 ∷ []) (9 ∷ []) (poll 1 32 1 ∷ []) (took (held zeros (8 ∷ [])) ∷ []) (took (held zeros (9 ∷ [])) ∷ []) refl refl refl refl (descriptors-apart (held zeros (8 ∷ [])) (held zeros (9 ∷ [])) (λ l. let z : _≡_ {A = ℕ} 8 9 = cc in omega arith)),
   needed withTurn true false (poll-event 32 ∷ []) (took (heldPacket 0 zeros []) ∷ []) (took (heldPacket 1 zeros []) ∷ []) refl refl refl refl (number-apart (heldPacket 0 zeros []) (heldPacket 1 zeros []) (λ l. omega arith)),
-  needed withWaiting (7 ∷ []) (8 ∷ []) (enqueue reply ∷ poll 1 32 1 ∷ []) (filed Replies 1 ∷ took (held reply (7 ∷ [])) ∷ []) (filed Replies 1 ∷ took (held reply (8 ∷ [])) ∷ []) refl refl refl refl (λ e. filed-apart (held reply (7 ∷ [])) (held reply (8 ∷ [])) (λ l. let z : _≡_ {A = ℕ} 7 8 = cc in omega arith) e),
+  needed withWaiting (7 ∷ []) (8 ∷ []) (enqueue reply ∷ poll 1 32 1 ∷ []) (filed Replies 1 Packet.reply ∷ took (held reply (7 ∷ [])) ∷ []) (filed Replies 1 Packet.reply ∷ took (held reply (8 ∷ [])) ∷ []) refl refl refl refl (λ e. filed-apart (held reply (7 ∷ [])) (held reply (8 ∷ [])) (λ l. let z : _≡_ {A = ℕ} 7 8 = cc in omega arith) e),
   needed withClosing [] (7 ∷ []) (take-closed 9 ∷ []) (closed [] ∷ []) (closed (7 ∷ []) ∷ []) refl refl refl refl (λ e. let z : _≡_ {A = ℕ} 0 1 = cc in omega arith),
 )

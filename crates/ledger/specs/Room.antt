@@ -8,7 +8,7 @@ use Rattle.octets.specs.Logic.{choose}
 use Rattle.refusal.specs.Answer.{gives}
 use Rattle.sequence.specs.Numbering.{lastNumber}
 use Rattle.sequence.specs.Sending.{syncSpan}
-use Rattle.packet.specs.Packet.{leastPacket, mostPacket, codeOf}
+use Rattle.packet.specs.Packet.{leastPacket, mostPacket, codeOf, packetClass}
 use Rattle.held.specs.Head.{headerSize}
 use Rattle.descriptors.specs.Room.{mostDescriptors}
 use Rattle.model.specs.Client.{Client, costs, descriptorsOf}
@@ -51,7 +51,7 @@ pub record PacketShort (f : Filled) (c : Client) (p : List ℕ) : Type 0 where
   pub numbered : packetNumber c p ≡ gives number
   pub was-asked : ahead (codeOf p) number (c .numbers .written) ≡ false
   pub enough-wait : claimed p (askedOf c number) ≤ length (c .waiting)
-  pub to-be-held : isHeld (placeOf (codeOf p) (askedOf c number)) ≡ true
+  pub to-be-held : isHeld (placeOf (packetClass p) (askedOf c number)) ≡ true
   pub full : c .most-bytes < f .bytes + (headerSize + length p)
 
 -- NO ROOM: what is filled and what a call adds is too much. No other call adds; one that makes many steps is stopped by want of room, and not refused.
@@ -76,7 +76,7 @@ NoRoom f c (poll-for-events out marks) = ⊥
 unfoldable pub costOf : List ℕ → Said → ℕ
 costOf p (number n) = 0
 costOf p done = 0
-costOf p (filed place n) = choose (isHeld place) (headerSize + length p) 0
+costOf p (filed place n class) = choose (isHeld place) (headerSize + length p) 0
 costOf p nothing = 0
 costOf p (took h) = 0
 costOf p again = 0
@@ -101,7 +101,7 @@ added (take-closed places) said = 0
 unfoldable pub givenBack : Said → ℕ
 givenBack (number n) = 0
 givenBack done = 0
-givenBack (filed place n) = 0
+givenBack (filed place n class) = 0
 givenBack nothing = 0
 givenBack (took h) = headerSize + length (h .packet)
 givenBack again = 0

@@ -12,7 +12,7 @@ use Rattle.held.specs.Head.{headerSize}
 use Rattle.model.specs.Client.{Held, Client, setWaiting, costs, used, arriving}
 use Rattle.model.specs.Deciding.{enqueue-chain}
 use Rattle.model.specs.Model as Model
-use Rattle.packet.specs.Packet.{codeOf}
+use Rattle.packet.specs.Packet.{packetClass}
 use Rattle.model.specs.Model.{sendRequest, enqueueFds, takeClosed, numbered, askedOf, placeOf, claimed, isHeld, Filing, takeIn, enqueuePacket, asEvent, Found, at, find, takenBy, pollForReplyOrError, checkedBy, pollCheck, repliedBy, pollForReply, eventBy, pollForEvent}
 use Rattle.model.specs.Calls.{Call, send, enqueue-fds, enqueue, discard, poll, check, poll-reply, prepare, poll-event, take-closed, Said, number, done, closed, refused, Step, step, outcome, saysFiling, saysTaken, saysPoll}
 use Rattle.model.specs.declared.Place.{Place}
@@ -91,7 +91,7 @@ packet-uses c p =
     (λ n.
     uses-refuse saysFiling c (enqueue p) _ 20 _
     (uses-refuse saysFiling c (enqueue p) _ 4 _
-    (uses-refuse saysFiling c (enqueue p) _ 5 _ (omega (arith, filed-uses c p n (claimed p (askedOf c n)) (placeOf (codeOf p) (askedOf c n))))))))))
+    (uses-refuse saysFiling c (enqueue p) _ 5 _ (omega (arith, filed-uses c p n (claimed p (askedOf c n)) (placeOf (packetClass p) (askedOf c n))))))))))
 
 -- ---- every call but a discard
 

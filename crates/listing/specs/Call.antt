@@ -54,7 +54,7 @@ unfoldable pub aheadBy : ℕ → List ℕ → Front → Ahead
 aheadBy read s nothing = none
 aheadBy read s part = none
 aheadBy read s long = refused 2
-aheadBy read s (whole n) = numberedOf read (take n s)
+aheadBy read s (whole n class) = numberedOf read (take n s)
 
 unfoldable pub aheadOf : ℕ → List ℕ → Ahead
 aheadOf read s = aheadBy read s (frontOf littleOrder s)

@@ -12,7 +12,7 @@ use borrow.Author.Tests.{lt-ltb, le-ltb}
 use Rattle.octets.specs.Logic.{choose}
 use Rattle.octets.specs.Bytes.{littleOrder}
 use Rattle.refusal.specs.Answer.{Answer, gives, refuses}
-use Rattle.packet.specs.Packet.{leastPacket, mostPacket, codeOf, numberAfter}
+use Rattle.packet.specs.Packet.{leastPacket, mostPacket, codeOf, numberAfter, PacketClass, classOf}
 use Rattle.packet_reader.specs.Frame.{aim, Cut, cutPackets}
 use Rattle.packet_reader.specs.CutLaws.{aim-head, aim-total, total-append}
 use Rattle.packet_reader.specs.Front.{Front, nothing, part, long, whole, frontOf, front-long, front-whole, tells-nothing, tells-part, tells-long, tells-whole, packets-none, packets-next}
@@ -93,7 +93,7 @@ lines-none read s e = go (frontOf littleOrder s) refl e
         lines-end read s (omega arith) (omega arith)
     go part p q = let w = tells-part littleOrder s (sym p) in lines-end read s (w .lacks) (w .most)
     go long p q = absurd (let z : _≡_ {A = ℕ} 0 1 = cc in omega arith)
-    go (whole n) p q = absurd (not-none (length (take n s)) (numberAfter littleOrder read (take n s)) q)
+    go (whole n j) p q = absurd (not-none (length (take n s)) (numberAfter littleOrder read (take n s)) q)
 
 -- A refusal: it is the last line.
 lines-refused : (read : ℕ) (s : List ℕ) (r : ℕ) → refused r ≡ aheadOf read s → linesOf read s ≡ refusedLine r
@@ -107,8 +107,8 @@ lines-refused read s r e = go (frontOf littleOrder s) refl e
         let w = tells-long littleOrder s (sym p) in
         let x : 2 ≡ r = cc in
         lines-long read s (w .over) ∙ ap refusedLine x
-    go (whole n) p q =
-        let w = tells-whole littleOrder s n (sym p) in
+    go (whole n j) p q =
+        let w = tells-whole littleOrder s n j (sym p) in
         lines-whole read s n (w .target) (w .fits) (w .most)
         ∙ by-refusal r (length (take n s)) (numberAfter littleOrder read (take n s)) (λ m. lineOf (codeOf (take n s)) (length (take n s)) m ++ linesOf m (drop n s)) q
 
@@ -121,8 +121,8 @@ lines-packet read s n m e = go (frontOf littleOrder s) refl e
     go nothing p q = absurd (let z : _≡_ {A = ℕ} 0 1 = cc in omega arith)
     go part p q = absurd (let z : _≡_ {A = ℕ} 0 1 = cc in omega arith)
     go long p q = absurd (let z : _≡_ {A = ℕ} 0 1 = cc in omega arith)
-    go (whole k) p q =
-        let w = tells-whole littleOrder s k (sym p) in
+    go (whole k j) p q =
+        let w = tells-whole littleOrder s k j (sym p) in
         let b = by-number n m (length (take k s)) (numberAfter littleOrder read (take k s)) (λ j. lineOf (codeOf (take k s)) (length (take k s)) j ++ linesOf j (drop k s)) q in
         let l : length (take k s) ≡ k = length-take-le k s (w .fits) in
         let x : k ≡ n = sym l ∙ b .0 in
@@ -136,11 +136,11 @@ module _ (s u : List ℕ) where
   long-enough h =
       aim-total littleOrder (s ++ u) (length (s ++ u)) (omega (arith, length-append s u)) ∙ total-append littleOrder s u h ∙ sym (aim-total littleOrder s (length s) h)
 
-  whole-append : (n : ℕ) → whole n ≡ frontOf littleOrder s → whole n ≡ frontOf littleOrder (s ++ u)
-  whole-append n e =
-      let w = tells-whole littleOrder s n e in
+  whole-append : (n : ℕ) (j : PacketClass) → whole n j ≡ frontOf littleOrder s → whole n j ≡ frontOf littleOrder (s ++ u)
+  whole-append n j e =
+      let w = tells-whole littleOrder s n j e in
       let l : length (s ++ u) ≡ length s + length u = length-append s u in
-      front-whole littleOrder (s ++ u) n (w .target ∙ sym (long-enough (omega (arith, w .least, w .fits)))) (λ z. omega (arith, w .least, w .fits)) (w .most) (omega (arith, w .fits))
+      front-whole littleOrder (s ++ u) n (w .target ∙ sym (long-enough (omega (arith, w .least, w .fits)))) (λ z. omega (arith, w .least, w .fits)) (w .most) (omega (arith, w .fits)) j (w .class ∙ ap classOf (sym (List·getD-append s u 0 0 (omega (arith, w .least, w .fits)))))
 
   long-append : long ≡ frontOf littleOrder s → long ≡ frontOf littleOrder (s ++ u)
   long-append e =
@@ -159,9 +159,9 @@ ahead-append read s u a e h = go (frontOf littleOrder s) refl e
     go nothing p q = absurd (h q)
     go part p q = absurd (h q)
     go long p q = q ∙ ap (aheadBy read (s ++ u)) (long-append s u (sym p))
-    go (whole n) p q =
-        let w = tells-whole littleOrder s n (sym p) in
-        q ∙ ap (numberedOf read) (sym (take-append-le n s u (w .fits))) ∙ ap (aheadBy read (s ++ u)) (whole-append s u n (sym p))
+    go (whole n j) p q =
+        let w = tells-whole littleOrder s n j (sym p) in
+        q ∙ ap (numberedOf read) (sym (take-append-le n s u (w .fits))) ∙ ap (aheadBy read (s ++ u)) (whole-append s u n j (sym p))
 
 -- ---- A call pays a part of what is due.
 

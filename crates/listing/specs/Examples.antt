@@ -9,8 +9,8 @@ use Rattle.octets.specs.Put.{cut}
 use Rattle.octets.specs.Field.{field}
 use Rattle.refusal.specs.Answer.{refuse}
 use Rattle.sequence.specs.Numbering.{lastNumber, full, inRange}
-use Rattle.packet.specs.Packet.{hasLength, unnumbered, numberAfter}
-use Rattle.packet_reader.specs.Frame.{total, totalOf, aim, cuts, cutPackets}
+use Rattle.packet.specs.Packet.{wasSent, classOf, unnumbered, numberAfter}
+use Rattle.packet_reader.specs.Frame.{lengthAs, totalOf, aim, cuts, cutPackets}
 use Rattle.listing.specs.Text.{digitsIn, decimal, item, firstLine, lineOf, endLine, refusedLine, lastLine, numbered, packetLines, linesOf, textOf}
 
 -- numbers of one, two, seven and nineteen digits
@@ -34,7 +34,7 @@ pub stream-text : textOf stream ≡ firstLine
     ∷ 49 ∷ 51 ∷ 57 ∷ 32 ∷ 51 ∷ 50 ∷ 32 ∷ 54 ∷ 53 ∷ 53 ∷ 51 ∷ 56 ∷ 10
     ∷ 49 ∷ 52 ∷ 48 ∷ 32 ∷ 51 ∷ 50 ∷ 32 ∷ 49 ∷ 51 ∷ 49 ∷ 48 ∷ 55 ∷ 51 ∷ 10
     ∷ 101 ∷ 110 ∷ 100 ∷ 32 ∷ 53 ∷ 10 ∷ [])
-unfolding textOf linesOf packetLines numbered lastLine lineOf item endLine decimal digitsIn cutPackets cuts aim totalOf total hasLength unnumbered numberAfter inRange full refuse field numberIn lowNumber cut turned choose either
+unfolding textOf linesOf packetLines numbered lastLine lineOf item endLine decimal digitsIn cutPackets cuts aim totalOf lengthAs classOf wasSent unnumbered numberAfter inRange full refuse field numberIn lowNumber cut turned choose either
 stream-text = refl
 
 -- a generic event of 65,540 bytes, of which 32 are there, is refused by 2, and so is the packet behind the last number by 3
@@ -43,5 +43,5 @@ over-long = 35 ∷ 7 ∷ 3 ∷ 0 ∷ 249 ∷ 63 ∷ 0 ∷ 0 ∷ replicate 24 9
 
 pub refusals : (linesOf 4 (head 2 5 0 6 ++ over-long) ≡ (50 ∷ 32 ∷ 51 ∷ 50 ∷ 32 ∷ 53 ∷ 10 ∷ 114 ∷ 101 ∷ 102 ∷ 117 ∷ 115 ∷ 101 ∷ 100 ∷ 32 ∷ 50 ∷ 10 ∷ []))
     × (linesOf lastNumber (head 3 0 0 1 ++ head 4 1 0 2) ≡ (114 ∷ 101 ∷ 102 ∷ 117 ∷ 115 ∷ 101 ∷ 100 ∷ 32 ∷ 51 ∷ 10 ∷ []))
-unfolding linesOf packetLines numbered lastLine lineOf item endLine refusedLine decimal digitsIn cutPackets cuts aim totalOf total hasLength unnumbered numberAfter inRange full refuse field numberIn lowNumber cut turned choose either
+unfolding linesOf packetLines numbered lastLine lineOf item endLine refusedLine decimal digitsIn cutPackets cuts aim totalOf lengthAs classOf wasSent unnumbered numberAfter inRange full refuse field numberIn lowNumber cut turned choose either
 refusals = (refl, refl)

@@ -19,6 +19,8 @@ use Rattle.sequence.specs.declared.Full.{Full}
 use Rattle.sequence.specs.declared.Full.the-variants as Full
 use Rattle.sequence.specs.declared.SequenceNumber.{SequenceNumber}
 use Rattle.packet.specs.Packet.{leastPacket, numberAfter}
+use Rattle.packet.specs.Class.{saysClass}
+use Rattle.packet.specs.declared.Class.{Class}
 use Rattle.packet_reader.specs.Front.{Front, nothing, part, long, whole, frontOf, saysBegins, tells-whole}
 use Rattle.packet_reader.specs.declared.Begins.{Begins}
 use Rattle.packet_reader.specs.declared.Begins.the-variants as Begins
@@ -131,12 +133,12 @@ module _ (read : ℕ) (s : List ℕ) (g : Begins) (e : saysBegins g ≡ frontOf 
   unfolding aheadBy
   ahead-long h = ahead-by Begins.Long h
 
-  pub ahead-whole : (n : ℕ) → g ≡ Begins.Whole n → (a : Next) → saysNext a ≡ numberedOf read (take n s) → saysNext a ≡ aheadOf read s
+  pub ahead-whole : (n : ℕ) (k : Class) → g ≡ Begins.Whole n k → (a : Next) → saysNext a ≡ numberedOf read (take n s) → saysNext a ≡ aheadOf read s
   unfolding aheadBy
-  ahead-whole n h a p = p ∙ ahead-by (Begins.Whole n) h
+  ahead-whole n k h a p = p ∙ ahead-by (Begins.Whole n k) h
 
-  pub whole-fits : (n : ℕ) → g ≡ Begins.Whole n → (leastPacket ≤ n) × (n ≤ length s)
-  whole-fits n h = let w = tells-whole littleOrder s n (ap saysBegins (sym h) ∙ e) in (w .least, w .fits)
+  pub whole-fits : (n : ℕ) (k : Class) → g ≡ Begins.Whole n k → (leastPacket ≤ n) × (n ≤ length s)
+  whole-fits n k h = let w = tells-whole littleOrder s n (saysClass k) (ap saysBegins (sym h) ∙ e) in (w .least, w .fits)
 
 module _ (read : ℕ) (p : List ℕ) (g : Full) (e : saysFull g ≡ numberAfter littleOrder read p) where
   pub numbered-gives : (n : SequenceNumber) → g ≡ Full.Number n → saysNext (Next.Packet (length p) n) ≡ numberedOf read p
@@ -165,8 +167,8 @@ packet-fits read s n m e = go (frontOf littleOrder s) refl e
     go nothing p q = absurd (let z : _≡_ {A = ℕ} 0 1 = cc in omega arith)
     go part p q = absurd (let z : _≡_ {A = ℕ} 0 1 = cc in omega arith)
     go long p q = absurd (let z : _≡_ {A = ℕ} 0 1 = cc in omega arith)
-    go (whole k) p q =
-        let w = tells-whole littleOrder s k (sym p) in
+    go (whole k j) p q =
+        let w = tells-whole littleOrder s k j (sym p) in
         let l : length (take k s) ≡ n = with-number (length (take k s)) n m (numberAfter littleOrder read (take k s)) q in
         let t : length (take k s) ≡ k = length-take-le k s (w .fits) in
         record { least = omega (arith, w .least); most = omega (arith, w .fits) }

@@ -83,7 +83,7 @@ fn ahead(read: SequenceNumber, bytes: &[u8]) -> Next
         Begins::Nothing => Next::Part,
         Begins::Part => Next::Part,
         Begins::Long => Next::Refused(Refusal::LongPacket),
-        Begins::Whole(n) => numbered(read, &bytes[..n]),
+        Begins::Whole(n, _) => numbered(read, &bytes[..n]),
     }
 }
 

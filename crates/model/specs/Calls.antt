@@ -3,6 +3,7 @@ use mathlib.Core.Bool.{Bool}
 use mathlib.Core.List.{List, [], _∷_}
 use Prim.Native.Nat.{ℕ}
 use Rattle.refusal.specs.Answer.{Answer, gives, refuses}
+use Rattle.packet.specs.Packet.{PacketClass}
 use Rattle.model.specs.Client.{Held, Client}
 use Rattle.model.specs.Model.{sendRequest, enqueueFds, takeClosed, Filing, enqueuePacket, discardReply, Taken, none, packet, PollReply, tryAgain, noReply, reply, pollForReplyOrError, pollCheck, pollForReply, prepareCheck, pollForEvent}
 use Rattle.model.specs.declared.ReplyFdKind.{ReplyFdKind}
@@ -26,7 +27,7 @@ pub data Call : Type 0 where
 pub data Said : Type 0 where
   number : ℕ → Said
   done : Said
-  filed : Place → ℕ → Said
+  filed : Place → ℕ → PacketClass → Said
   nothing : Said
   took : Held → Said
   again : Said
@@ -46,7 +47,7 @@ outcome f c (gives x) = record { said = f (x .0); next = x .1 }
 outcome f c (refuses n) = record { said = refused n; next = c }
 
 abbrev pub saysFiling : Filing → Said
-saysFiling f = filed (f .place) (f .number)
+saysFiling f = filed (f .place) (f .number) (f .class)
 
 abbrev pub saysTaken : Taken → Said
 saysTaken none = nothing

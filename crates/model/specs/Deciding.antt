@@ -8,7 +8,7 @@ use lib.ListN.{length}
 use borrow.Author.Tests.{ltb-false}
 use Rattle.octets.specs.Logic.{both, apart, both-yes}
 use Rattle.refusal.specs.Answer.{Answer, gives, refuse, pass, pass-agree, pass-refuse, pass-pass}
-use Rattle.packet.specs.Packet.{leastPacket, mostPacket, codeOf, unnumbered}
+use Rattle.packet.specs.Packet.{leastPacket, mostPacket, codeOf, packetClass, unnumbered}
 use Rattle.held.specs.Head.{headerSize}
 use Rattle.model.specs.Client.{Client, used}
 use Rattle.model.specs.Model.{packetNumber, Asked, askedOf, placeOf, claimed, isHeld, Filing, taskBy, ahead, decideBy, decide, takeIn, enqueuePacket}
@@ -26,7 +26,7 @@ ahead-not code n written h e = go (ltb written n) refl
 abbrev pub fittedBy : Client → List ℕ → ℕ → Asked → Answer (Filing × Client)
 fittedBy c p n a =
     refuse (ltb (length (c .waiting)) (claimed p a)) 4
-    (refuse (both (isHeld (placeOf (codeOf p) a)) (ltb (c .most-bytes) (used c + (headerSize + length p)))) 5
+    (refuse (both (isHeld (placeOf (packetClass p) a)) (ltb (c .most-bytes) (used c + (headerSize + length p)))) 5
     (gives (takeIn c p (taskBy p n a))))
 
 -- 20 before that

@@ -13,7 +13,7 @@ use Rattle.octets.specs.Field.{field}
 use Rattle.refusal.specs.Answer.{Answer, gives, refuses, refuse, pass}
 use Rattle.sequence.specs.Numbering.{full, inRange}
 use Rattle.sequence.specs.Sending.{sending, mustSync}
-use Rattle.packet.specs.Packet.{unnumbered, numberAfter}
+use Rattle.packet.specs.Packet.{wasSent, error, reply, event, generic, classOf, unnumbered, numberAfter}
 use Rattle.requests.specs.Room.{underMode}
 use Rattle.model.specs.Client.{Client, heldPacket, costs, descriptorsOf, setNumbers, setOutstanding, setReplies, setEvents, setWaiting, setClosing}
 use Rattle.model.specs.Model as Model
@@ -55,7 +55,7 @@ abbrev row1 : Row
 row1 = record {
   start = Model.fresh 108 4 500;
   calls = send ReplyWithFds ∷ send ReplyWithoutFds ∷ enqueue-fds (1 ∷ 2 ∷ []) ∷ enqueue (pk 1 1 1) ∷ enqueue (pk 1 1 1) ∷ enqueue (pk 1 0 2) ∷ discard 1 DiscardReplyAndError ∷ take-closed 9 ∷ [];
-  said = number 1 ∷ number 2 ∷ done ∷ filed Replies 1 ∷ filed Replies 1 ∷ filed Replies 2 ∷ done ∷ closed (2 ∷ 1 ∷ []) ∷ [];
+  said = number 1 ∷ number 2 ∷ done ∷ filed Replies 1 reply ∷ filed Replies 1 reply ∷ filed Replies 2 reply ∷ done ∷ closed (2 ∷ 1 ∷ []) ∷ [];
 }
 
 -- DiscardReply closes in list order, and an error among the removed becomes an event
@@ -63,7 +63,7 @@ abbrev row2 : Row
 row2 = record {
   start = Model.fresh 108 4 500;
   calls = send ReplyWithFds ∷ send ReplyWithoutFds ∷ enqueue-fds (1 ∷ 2 ∷ []) ∷ enqueue (pk 1 1 1) ∷ enqueue (pk 0 7 1) ∷ enqueue (pk 1 1 1) ∷ enqueue (pk 1 0 2) ∷ discard 1 DiscardReply ∷ take-closed 9 ∷ poll-event 32 ∷ poll 2 32 0 ∷ [];
-  said = number 1 ∷ number 2 ∷ done ∷ filed Replies 1 ∷ filed Replies 1 ∷ filed Replies 1 ∷ filed Replies 2 ∷ done ∷ closed (1 ∷ 2 ∷ []) ∷ took (heldPacket 1 (pk 0 7 1) []) ∷ took (heldPacket 2 (pk 1 0 2) []) ∷ [];
+  said = number 1 ∷ number 2 ∷ done ∷ filed Replies 1 reply ∷ filed Replies 1 error ∷ filed Replies 1 reply ∷ filed Replies 2 reply ∷ done ∷ closed (1 ∷ 2 ∷ []) ∷ took (heldPacket 1 (pk 0 7 1) []) ∷ took (heldPacket 2 (pk 1 0 2) []) ∷ [];
 }
 
 -- a reply taken by `poll_check` or `poll_for_reply` closes its descriptors; one taken with them does not
@@ -71,7 +71,7 @@ abbrev row3 : Row
 row3 = record {
   start = Model.fresh 108 4 500;
   calls = send ReplyWithFds ∷ enqueue-fds (3 ∷ 4 ∷ 5 ∷ 6 ∷ []) ∷ enqueue (pk 1 2 1) ∷ check 1 32 ∷ take-closed 2 ∷ enqueue (pk 1 1 1) ∷ poll-reply 1 32 ∷ take-closed 2 ∷ enqueue (pk 1 1 1) ∷ poll 1 32 1 ∷ take-closed 0 ∷ [];
-  said = number 1 ∷ done ∷ filed Replies 1 ∷ took (heldPacket 1 (pk 1 2 1) (3 ∷ 4 ∷ [])) ∷ closed (3 ∷ 4 ∷ []) ∷ filed Replies 1 ∷ took (heldPacket 1 (pk 1 1 1) (5 ∷ [])) ∷ closed (5 ∷ []) ∷ filed Replies 1 ∷ took (heldPacket 1 (pk 1 1 1) (6 ∷ [])) ∷ closed [] ∷ [];
+  said = number 1 ∷ done ∷ filed Replies 1 reply ∷ took (heldPacket 1 (pk 1 2 1) (3 ∷ 4 ∷ [])) ∷ closed (3 ∷ 4 ∷ []) ∷ filed Replies 1 reply ∷ took (heldPacket 1 (pk 1 1 1) (5 ∷ [])) ∷ closed (5 ∷ []) ∷ filed Replies 1 reply ∷ took (heldPacket 1 (pk 1 1 1) (6 ∷ [])) ∷ closed [] ∷ [];
 }
 
 -- the answered request stays: a second reply has its mode and takes descriptors, the first of those that wait, and an error is dropped
@@ -79,7 +79,7 @@ abbrev row4 : Row
 row4 = record {
   start = Model.fresh 108 4 500;
   calls = send ReplyWithFds ∷ enqueue-fds (6 ∷ []) ∷ enqueue-fds (7 ∷ 8 ∷ []) ∷ discard 1 DiscardReplyAndError ∷ enqueue (pk 1 1 1) ∷ enqueue (pk 1 1 1) ∷ enqueue (pk 0 0 1) ∷ take-closed 2 ∷ [];
-  said = number 1 ∷ done ∷ done ∷ done ∷ filed Dropped 1 ∷ filed Dropped 1 ∷ filed Dropped 1 ∷ closed (6 ∷ 7 ∷ []) ∷ [];
+  said = number 1 ∷ done ∷ done ∷ done ∷ filed Dropped 1 reply ∷ filed Dropped 1 reply ∷ filed Dropped 1 error ∷ closed (6 ∷ 7 ∷ []) ∷ [];
 }
 
 -- an answer to what was not asked is refused by 20, an error, a reply and an event alike, and changes nothing; one to the last written is taken, though it is above next reply expected; so is what was refused, once it was asked; codes 11 and 139 are never refused by it
@@ -87,7 +87,7 @@ abbrev row5 : Row
 row5 = record {
   start = Model.fresh 108 4 500;
   calls = send ReplyWithoutFds ∷ send NoReply ∷ enqueue (pk 2 0 3) ∷ enqueue (pk 1 0 3) ∷ enqueue (pk 0 0 3) ∷ prepare 2 ∷ check 0 0 ∷ enqueue (pk 2 0 2) ∷ enqueue (pk 2 0 1) ∷ enqueue (pk 11 0 3) ∷ enqueue (pk 139 0 3) ∷ enqueue (pk 140 0 3) ∷ send NoReply ∷ enqueue (pk 140 0 3) ∷ [];
-  said = number 1 ∷ number 2 ∷ refused 20 ∷ refused 20 ∷ refused 20 ∷ answer true ∷ again ∷ filed Events 2 ∷ refused 20 ∷ filed Events 2 ∷ filed Events 2 ∷ refused 20 ∷ number 3 ∷ filed Events 3 ∷ [];
+  said = number 1 ∷ number 2 ∷ refused 20 ∷ refused 20 ∷ refused 20 ∷ answer true ∷ again ∷ filed Events 2 (event false) ∷ refused 20 ∷ filed Events 2 (event false) ∷ filed Events 2 (event true) ∷ refused 20 ∷ number 3 ∷ filed Events 3 (event true) ∷ [];
 }
 
 -- an error: a reply without a mode, an event under DiscardReply or with no request
@@ -95,7 +95,7 @@ abbrev row6 : Row
 row6 = record {
   start = Model.fresh 108 4 500;
   calls = send NoReply ∷ send NoReply ∷ discard 2 DiscardReply ∷ enqueue (pk 0 0 0) ∷ enqueue (pk 0 0 1) ∷ enqueue (pk 0 0 2) ∷ poll-event 32 ∷ poll-event 32 ∷ poll-event 32 ∷ [];
-  said = number 1 ∷ number 2 ∷ done ∷ filed Events 0 ∷ filed Replies 1 ∷ filed Events 2 ∷ took (heldPacket 0 (pk 0 0 0) []) ∷ took (heldPacket 2 (pk 0 0 2) []) ∷ nothing ∷ [];
+  said = number 1 ∷ number 2 ∷ done ∷ filed Events 0 error ∷ filed Replies 1 error ∷ filed Events 2 error ∷ took (heldPacket 0 (pk 0 0 0) []) ∷ took (heldPacket 2 (pk 0 0 2) []) ∷ nothing ∷ [];
 }
 
 -- codes 11 and 139 carry no number; every other code is numbered
@@ -103,7 +103,7 @@ abbrev row7 : Row
 row7 = record {
   start = numbersAt 65541 0 0;
   calls = enqueue (pk 2 0 5) ∷ enqueue (pk 11 255 65535) ∷ enqueue (pk 139 254 4) ∷ enqueue (pk 140 0 6) ∷ enqueue (pk 35 0 5) ∷ [];
-  said = filed Events 5 ∷ filed Events 5 ∷ filed Events 5 ∷ filed Events 6 ∷ filed Events 65541 ∷ [];
+  said = filed Events 5 (event false) ∷ filed Events 5 (event false) ∷ filed Events 5 (event true) ∷ filed Events 6 (event true) ∷ filed Events 65541 (generic false) ∷ [];
 }
 
 -- 1 for a short packet; 4 for descriptors that do not wait, and nothing changed
@@ -111,7 +111,7 @@ abbrev row8 : Row
 row8 = record {
   start = Model.fresh 108 4 500;
   calls = enqueue (0 ∷ 0 ∷ []) ∷ send ReplyWithFds ∷ enqueue (pk 1 1 1) ∷ prepare 1 ∷ enqueue-fds (9 ∷ []) ∷ enqueue (pk 1 1 1) ∷ [];
-  said = refused 1 ∷ number 1 ∷ refused 4 ∷ answer false ∷ done ∷ filed Replies 1 ∷ [];
+  said = refused 1 ∷ number 1 ∷ refused 4 ∷ answer false ∷ done ∷ filed Replies 1 reply ∷ [];
 }
 
 -- 5 for a request over K, and for a packet over S; a dropped packet needs no room, and a moved error none
@@ -119,7 +119,7 @@ abbrev row9 : Row
 row9 = record {
   start = Model.fresh 108 1 48;
   calls = send NoReply ∷ send ReplyWithoutFds ∷ enqueue (pk 0 0 1) ∷ enqueue (pk 2 0 1) ∷ poll-reply 1 0 ∷ poll-event 32 ∷ discard 1 DiscardReplyAndError ∷ enqueue (pk 2 0 1) ∷ enqueue (pk 0 0 1) ∷ [];
-  said = number 1 ∷ refused 5 ∷ filed Replies 1 ∷ refused 5 ∷ absent ∷ took (heldPacket 1 (pk 0 0 1) []) ∷ done ∷ filed Events 1 ∷ filed Dropped 1 ∷ [];
+  said = number 1 ∷ refused 5 ∷ filed Replies 1 error ∷ refused 5 ∷ absent ∷ took (heldPacket 1 (pk 0 0 1) []) ∷ done ∷ filed Events 1 (event false) ∷ filed Dropped 1 error ∷ [];
 }
 
 -- 8 comes after nothing was found, and leaves all
@@ -127,7 +127,7 @@ abbrev row10 : Row
 row10 = record {
   start = Model.fresh 108 4 500;
   calls = send ReplyWithFds ∷ send NoReply ∷ enqueue-fds (4 ∷ []) ∷ poll 1 0 0 ∷ enqueue (pk 1 1 1) ∷ poll 1 31 1 ∷ poll 1 32 0 ∷ check 1 31 ∷ poll 1 32 1 ∷ check 1 0 ∷ enqueue (pk 2 0 2) ∷ check 1 0 ∷ poll-event 31 ∷ poll-event 32 ∷ poll-reply 1 0 ∷ [];
-  said = number 1 ∷ number 2 ∷ done ∷ nothing ∷ filed Replies 1 ∷ refused 8 ∷ refused 8 ∷ refused 8 ∷ took (heldPacket 1 (pk 1 1 1) (4 ∷ [])) ∷ again ∷ filed Events 2 ∷ absent ∷ refused 8 ∷ took (heldPacket 2 (pk 2 0 2) []) ∷ again ∷ [];
+  said = number 1 ∷ number 2 ∷ done ∷ nothing ∷ filed Replies 1 reply ∷ refused 8 ∷ refused 8 ∷ refused 8 ∷ took (heldPacket 1 (pk 1 1 1) (4 ∷ [])) ∷ again ∷ filed Events 2 (event false) ∷ absent ∷ refused 8 ∷ took (heldPacket 2 (pk 2 0 2) []) ∷ again ∷ [];
 }
 
 -- 6 without a reply and never with one; after that one more passes
@@ -135,7 +135,7 @@ abbrev row11 : Row
 row11 = record {
   start = numbersAt 65534 0 0;
   calls = send NoReply ∷ send ReplyWithoutFds ∷ send NoReply ∷ enqueue (pk 2 0 65535) ∷ [];
-  said = refused 6 ∷ number 65535 ∷ number 65536 ∷ filed Events 65535 ∷ [];
+  said = refused 6 ∷ number 65535 ∷ number 65536 ∷ filed Events 65535 (event false) ∷ [];
 }
 
 -- the end of the numbers
@@ -143,7 +143,7 @@ abbrev row12 : Row
 row12 = record {
   start = numbersAt 9223372036854775807 9223372036854775806 9223372036854775807;
   calls = send NoReply ∷ send ReplyWithoutFds ∷ enqueue (pk 2 0 0) ∷ enqueue (pk 2 0 65535) ∷ [];
-  said = refused 3 ∷ refused 3 ∷ refused 3 ∷ filed Events 9223372036854775807 ∷ [];
+  said = refused 3 ∷ refused 3 ∷ refused 3 ∷ filed Events 9223372036854775807 (event false) ∷ [];
 }
 
 -- where two refusals apply, the rules' first is given: on sending 3, 6, 5;
@@ -158,7 +158,7 @@ abbrev row15 : Row
 row15 = record {
   start = numbersAt 0 0 9223372036854775807;
   calls = enqueue (2 ∷ replicate 30 0) ∷ enqueue (pk 2 0 0) ∷ enqueue (pk 2 0 65535) ∷ enqueue (pk 11 0 0) ∷ enqueue (pk 139 0 0) ∷ [];
-  said = refused 1 ∷ refused 3 ∷ refused 20 ∷ filed Events 9223372036854775807 ∷ filed Events 9223372036854775807 ∷ [];
+  said = refused 1 ∷ refused 3 ∷ refused 20 ∷ filed Events 9223372036854775807 (event false) ∷ filed Events 9223372036854775807 (event true) ∷ [];
 }
 
 -- and 4 before 5.
@@ -166,7 +166,7 @@ abbrev row16 : Row
 row16 = record {
   start = Model.fresh 108 4 48;
   calls = send ReplyWithFds ∷ enqueue (pk 1 0 1) ∷ enqueue (pk 1 1 1) ∷ enqueue (pk 1 0 1) ∷ [];
-  said = number 1 ∷ filed Replies 1 ∷ refused 4 ∷ refused 5 ∷ [];
+  said = number 1 ∷ filed Replies 1 reply ∷ refused 4 ∷ refused 5 ∷ [];
 }
 
 -- 256 descriptors are inside, and no more
@@ -179,14 +179,14 @@ row17 = record {
 
 -- next reply expected stays where it is higher than the packet's number
 abbrev row18 : Row
-row18 = record { start = numbersAt 10 8 0; calls = enqueue (pk 2 0 5) ∷ prepare 8 ∷ prepare 9 ∷ []; said = filed Events 5 ∷ answer false ∷ answer true ∷ [] }
+row18 = record { start = numbersAt 10 8 0; calls = enqueue (pk 2 0 5) ∷ prepare 8 ∷ prepare 9 ∷ []; said = filed Events 5 (event false) ∷ answer false ∷ answer true ∷ [] }
 
 -- an error that a discard or a poll moves goes behind the events that are held
 abbrev row19 : Row
 row19 = record {
   start = Model.fresh 108 4 500;
   calls = send ReplyWithoutFds ∷ send ReplyWithoutFds ∷ enqueue (pk 2 0 1) ∷ enqueue (pk 0 7 1) ∷ enqueue (pk 0 8 2) ∷ discard 1 DiscardReply ∷ poll-reply 2 0 ∷ poll-event 32 ∷ poll-event 32 ∷ poll-event 32 ∷ [];
-  said = number 1 ∷ number 2 ∷ filed Events 1 ∷ filed Replies 1 ∷ filed Replies 2 ∷ done ∷ absent ∷ took (heldPacket 1 (pk 2 0 1) []) ∷ took (heldPacket 1 (pk 0 7 1) []) ∷ took (heldPacket 2 (pk 0 8 2) []) ∷ [];
+  said = number 1 ∷ number 2 ∷ filed Events 1 (event false) ∷ filed Replies 1 error ∷ filed Replies 2 error ∷ done ∷ absent ∷ took (heldPacket 1 (pk 2 0 1) []) ∷ took (heldPacket 1 (pk 0 7 1) []) ∷ took (heldPacket 2 (pk 0 8 2) []) ∷ [];
 }
 
 -- a request with an ordinary reply, or with none, has no descriptors, whatever byte 1 of a reply says
@@ -194,7 +194,7 @@ abbrev row20 : Row
 row20 = record {
   start = Model.fresh 108 4 500;
   calls = enqueue-fds (5 ∷ 6 ∷ []) ∷ send ReplyWithoutFds ∷ send NoReply ∷ enqueue (pk 1 2 1) ∷ enqueue (pk 1 3 2) ∷ poll 1 32 0 ∷ poll 2 32 0 ∷ [];
-  said = done ∷ number 1 ∷ number 2 ∷ filed Replies 1 ∷ filed Replies 2 ∷ took (heldPacket 1 (pk 1 2 1) []) ∷ took (heldPacket 2 (pk 1 3 2) []) ∷ [];
+  said = done ∷ number 1 ∷ number 2 ∷ filed Replies 1 reply ∷ filed Replies 2 reply ∷ took (heldPacket 1 (pk 1 2 1) []) ∷ took (heldPacket 2 (pk 1 3 2) []) ∷ [];
 }
 
 -- a reply with no outstanding request is held, and takes no descriptors
@@ -202,7 +202,7 @@ abbrev row21 : Row
 row21 = record {
   start = numbersAt 9 0 0;
   calls = enqueue-fds (5 ∷ []) ∷ enqueue (pk 1 1 7) ∷ poll 7 32 0 ∷ [];
-  said = done ∷ filed Replies 7 ∷ took (heldPacket 7 (pk 1 1 7) []) ∷ [];
+  said = done ∷ filed Replies 7 reply ∷ took (heldPacket 7 (pk 1 1 7) []) ∷ [];
 }
 
 -- each discard of a request sets its mode anew, and whether it has descriptors stays
@@ -210,7 +210,7 @@ abbrev row22 : Row
 row22 = record {
   start = Model.fresh 108 4 500;
   calls = send ReplyWithFds ∷ enqueue-fds (5 ∷ 6 ∷ []) ∷ discard 1 DiscardReply ∷ discard 1 DiscardReplyAndError ∷ enqueue (pk 0 7 1) ∷ discard 1 DiscardReply ∷ enqueue (pk 0 8 1) ∷ enqueue (pk 1 1 1) ∷ take-closed 1 ∷ [];
-  said = number 1 ∷ done ∷ done ∷ done ∷ filed Dropped 1 ∷ done ∷ filed Events 1 ∷ filed Dropped 1 ∷ closed (5 ∷ []) ∷ [];
+  said = number 1 ∷ done ∷ done ∷ done ∷ filed Dropped 1 error ∷ done ∷ filed Events 1 error ∷ filed Dropped 1 reply ∷ closed (5 ∷ []) ∷ [];
 }
 
 -- a discard of a number that is not outstanding, below or above, sets no mode
@@ -218,7 +218,7 @@ abbrev row23 : Row
 row23 = record {
   start = Model.fresh 108 4 500;
   calls = send NoReply ∷ send NoReply ∷ enqueue (pk 2 0 2) ∷ discard 1 DiscardReplyAndError ∷ discard 3 DiscardReplyAndError ∷ send NoReply ∷ enqueue (pk 0 7 2) ∷ enqueue (pk 0 8 3) ∷ [];
-  said = number 1 ∷ number 2 ∷ filed Events 2 ∷ done ∷ done ∷ number 3 ∷ filed Replies 2 ∷ filed Replies 3 ∷ [];
+  said = number 1 ∷ number 2 ∷ filed Events 2 (event false) ∷ done ∷ done ∷ number 3 ∷ filed Replies 2 error ∷ filed Replies 3 error ∷ [];
 }
 
 -- a packet of a number below the first outstanding one has no request
@@ -226,7 +226,7 @@ abbrev row24 : Row
 row24 = record {
   start = Model.fresh 108 4 500;
   calls = send ReplyWithFds ∷ enqueue (pk 0 7 0) ∷ discard 1 DiscardReply ∷ enqueue (pk 1 2 0) ∷ [];
-  said = number 1 ∷ filed Events 0 ∷ done ∷ filed Replies 0 ∷ [];
+  said = number 1 ∷ filed Events 0 error ∷ done ∷ filed Replies 0 reply ∷ [];
 }
 
 -- an event takes no descriptors, whatever its byte 1; 4 for a reply that would be dropped too
@@ -234,7 +234,7 @@ abbrev row25 : Row
 row25 = record {
   start = Model.fresh 108 4 500;
   calls = send ReplyWithFds ∷ enqueue-fds (5 ∷ []) ∷ enqueue (pk 2 3 1) ∷ discard 1 DiscardReply ∷ enqueue (pk 1 2 1) ∷ enqueue (pk 1 1 1) ∷ take-closed 1 ∷ [];
-  said = number 1 ∷ done ∷ filed Events 1 ∷ done ∷ refused 4 ∷ filed Dropped 1 ∷ closed (5 ∷ []) ∷ [];
+  said = number 1 ∷ done ∷ filed Events 1 (event false) ∷ done ∷ refused 4 ∷ filed Dropped 1 reply ∷ closed (5 ∷ []) ∷ [];
 }
 
 -- replies as they are held, between others: three of request 2, and two errors among three of request 3
@@ -296,7 +296,7 @@ abbrev row32 : Row
 row32 = record {
   start = Model.fresh 108 4 120;
   calls = send NoReply ∷ enqueue (pk 0 7 1) ∷ enqueue (pk 2 0 1) ∷ enqueue (pk 3 0 1) ∷ poll 1 32 0 ∷ enqueue (pk 3 0 1) ∷ [];
-  said = number 1 ∷ filed Replies 1 ∷ filed Events 1 ∷ refused 5 ∷ took (heldPacket 1 (pk 0 7 1) []) ∷ filed Events 1 ∷ [];
+  said = number 1 ∷ filed Replies 1 error ∷ filed Events 1 (event false) ∷ refused 5 ∷ took (heldPacket 1 (pk 0 7 1) []) ∷ filed Events 1 (event false) ∷ [];
 }
 
 -- codes 11 and 139 do not raise next reply expected to a last read that is above it, whatever their bytes; any other does
@@ -304,7 +304,7 @@ abbrev row33 : Row
 row33 = record {
   start = numbersAt 900 2 900;
   calls = enqueue (pk 11 0 7) ∷ enqueue (pk 139 0 900) ∷ prepare 900 ∷ prepare 3 ∷ prepare 2 ∷ enqueue (pk 140 0 900) ∷ prepare 900 ∷ [];
-  said = filed Events 900 ∷ filed Events 900 ∷ answer true ∷ answer true ∷ answer false ∷ filed Events 900 ∷ answer false ∷ [];
+  said = filed Events 900 (event false) ∷ filed Events 900 (event true) ∷ answer true ∷ answer true ∷ answer false ∷ filed Events 900 (event true) ∷ answer false ∷ [];
 }
 
 -- sending leaves the last read, by which alone NoReply is said
@@ -320,7 +320,7 @@ abbrev row35 : Row
 row35 = record {
   start = setNumbers (Model.fresh 66 4 500) (record { written = 257; expected = 0; read = 0 });
   calls = send NoReply ∷ enqueue (2 ∷ 0 ∷ 0 ∷ 1 ∷ replicate 28 0) ∷ enqueue (0 ∷ 7 ∷ 1 ∷ 2 ∷ replicate 28 0) ∷ [];
-  said = number 258 ∷ filed Events 1 ∷ filed Replies 258 ∷ [];
+  said = number 258 ∷ filed Events 1 (event false) ∷ filed Replies 258 error ∷ [];
 }
 
 -- 3 before 5, and 20 before 5; a packet that is ahead has no request and claims nothing, so that 4 never meets 20
@@ -338,16 +338,24 @@ abbrev row37 : Row
 row37 = record {
   start = Model.fresh 108 4 500;
   calls = send ReplyWithFds ∷ enqueue (pk 128 7 1) ∷ enqueue (pk 129 1 1) ∷ discard 1 DiscardReplyAndError ∷ enqueue (pk 128 8 1) ∷ enqueue (pk 129 2 1) ∷ [];
-  said = number 1 ∷ filed Events 1 ∷ filed Events 1 ∷ done ∷ filed Events 1 ∷ filed Events 1 ∷ [];
+  said = number 1 ∷ filed Events 1 (event true) ∷ filed Events 1 (event true) ∷ done ∷ filed Events 1 (event true) ∷ filed Events 1 (event true) ∷ [];
+}
+
+-- the class of each packet, wherever it goes, held or dropped
+abbrev row39 : Row
+row39 = record {
+  start = Model.fresh 108 4 500;
+  calls = send NoReply ∷ enqueue (pk 35 0 1) ∷ enqueue (pk 163 0 1) ∷ enqueue (pk 99 0 1) ∷ enqueue (pk 127 0 1) ∷ discard 1 DiscardReplyAndError ∷ enqueue (pk 0 0 1) ∷ enqueue (pk 1 0 1) ∷ [];
+  said = number 1 ∷ filed Events 1 (generic false) ∷ filed Events 1 (generic true) ∷ filed Events 1 (event false) ∷ filed Events 1 (event false) ∷ done ∷ filed Dropped 1 error ∷ filed Dropped 1 reply ∷ [];
 }
 
 abbrev pub table : List Row
-table = row1 ∷ row2 ∷ row3 ∷ row4 ∷ row5 ∷ row6 ∷ row7 ∷ row8 ∷ row9 ∷ row10 ∷ row11 ∷ row12 ∷ row13 ∷ row14 ∷ row15 ∷ row16 ∷ row17 ∷ row18 ∷ row19 ∷ row20 ∷ row21 ∷ row22 ∷ row23 ∷ row24 ∷ row25 ∷ row26 ∷ row27 ∷ row28 ∷ row29 ∷ row30 ∷ row31 ∷ row32 ∷ row33 ∷ row34 ∷ row35 ∷ row36 ∷ row37 ∷ row38 ∷ []
+table = row1 ∷ row2 ∷ row3 ∷ row4 ∷ row5 ∷ row6 ∷ row7 ∷ row8 ∷ row9 ∷ row10 ∷ row11 ∷ row12 ∷ row13 ∷ row14 ∷ row15 ∷ row16 ∷ row17 ∷ row18 ∷ row19 ∷ row20 ∷ row21 ∷ row22 ∷ row23 ∷ row24 ∷ row25 ∷ row26 ∷ row27 ∷ row28 ∷ row29 ∷ row30 ∷ row31 ∷ row32 ∷ row33 ∷ row34 ∷ row35 ∷ row36 ∷ row37 ∷ row38 ∷ row39 ∷ []
 
 -- THE EXAMPLES: each row runs as it says.
 pub examples : All table
-unfolding run step Model.sendRequest Model.enqueueFds Model.enqueuePacket Model.discardReply Model.takeClosed Model.pollForReplyOrError Model.pollCheck Model.pollForReply Model.prepareCheck Model.pollForEvent Model.find pass refuse sending mustSync both either choose numberAfter unnumbered inRange full field numberIn cut turned bytesOf lowBytes lowNumber Model.numbered Model.askedOf Model.headOf Model.placeOf Model.claimed Model.takeIn Model.decide Model.ahead Model.decideBy costs descriptorsOf Model.withMode underMode Model.ofNumber Model.notOf Model.above Model.errorsOf Model.closingOrder
-examples = (refl, (refl, (refl, (refl, (refl, (refl, (refl, (refl, (refl, (refl, (refl, (refl, (refl, (refl, (refl, (refl, (refl, (refl, (refl, (refl, (refl, (refl, (refl, (refl, (refl, (refl, (refl, (refl, (refl, (refl, (refl, (refl, (refl, (refl, (refl, (refl, (refl, (refl, tt))))))))))))))))))))))))))))))))))))))
+unfolding run step Model.sendRequest Model.enqueueFds Model.enqueuePacket Model.discardReply Model.takeClosed Model.pollForReplyOrError Model.pollCheck Model.pollForReply Model.prepareCheck Model.pollForEvent Model.find pass refuse sending mustSync both either choose numberAfter unnumbered classOf wasSent inRange full field numberIn cut turned bytesOf lowBytes lowNumber Model.numbered Model.askedOf Model.headOf Model.placeOf Model.claimed Model.takeIn Model.decide Model.ahead Model.decideBy costs descriptorsOf Model.withMode underMode Model.ofNumber Model.notOf Model.above Model.errorsOf Model.closingOrder
+examples = (refl, (refl, (refl, (refl, (refl, (refl, (refl, (refl, (refl, (refl, (refl, (refl, (refl, (refl, (refl, (refl, (refl, (refl, (refl, (refl, (refl, (refl, (refl, (refl, (refl, (refl, (refl, (refl, (refl, (refl, (refl, (refl, (refl, (refl, (refl, (refl, (refl, (refl, (refl, tt)))))))))))))))))))))))))))))))))))))))
 
 -- the least store, as the rules have it
 pub least-store : _≡_ {A = ℕ} Model.leastStore 48
@@ -400,14 +408,14 @@ abbrev first-event : Answer Handings
 first-event = gives (record { events = heldPacket 5 (pk 2 0 5) [] ∷ []; stopped = Batch.refused 8 })
 
 -- they are handed out as far as both outputs have room; 8 where there is no room for the first, and none where there is no event
-pub polls : (handings twoEvents 64 4 ≡ both-events) × (handings twoEvents 64 3 ≡ first-event) × (handings twoEvents 63 4 ≡ first-event) × (handings twoEvents 31 4 ≡ refuses 8) × (handings twoEvents 64 1 ≡ refuses 8)
+pub polls : (handings twoEvents 64 6 ≡ both-events) × (handings twoEvents 64 5 ≡ first-event) × (handings twoEvents 63 6 ≡ first-event) × (handings twoEvents 31 6 ≡ refuses 8) × (handings twoEvents 64 2 ≡ refuses 8)
     × (handings (Model.fresh 108 4 500) 0 0 ≡ gives (record { events = []; stopped = ended }))
 unfolding pollForEvents handed orRefused eventTurn handing roomFor turns many onTurn modelTurn Model.pollForEvent refuse choose bytesOf turned lowBytes
 polls = (refl, refl, refl, refl, refl, refl)
 
 -- of the packets taken the bytes are shown, and how many they are
 abbrev took-two : Feeding
-took-two = record { packets = record { bytes = 32; filing = record { place = Events; number = 1 } } ∷ record { bytes = 36; filing = record { place = Replies; number = 2 } } ∷ []; stopped = partial }
+took-two = record { packets = record { bytes = 32; filing = record { place = Events; number = 1; class = event false } } ∷ record { bytes = 36; filing = record { place = Replies; number = 2; class = reply } } ∷ []; stopped = partial }
 
 pub feeds : shownFed took-two ≡ record { bytes = 68; packets = 2; stopped = partial }
 unfolding Feed.bytesTaken

@@ -1,6 +1,7 @@
 pub mod Client
 pub mod Model
 pub mod Deciding
+pub mod ByClass
 pub mod Calls
 pub mod Examples
 pub mod Reading

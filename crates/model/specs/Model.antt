@@ -13,7 +13,8 @@ use Rattle.requests.specs.Room.{mostRequests, underMode}
 use Rattle.requests.specs.declared.Request.{Request}
 use Rattle.requests.specs.declared.Mode.{Mode}
 use Rattle.requests.specs.declared.Mode.the-variants as Mode
-use Rattle.packet.specs.Packet.{leastPacket, mostPacket, codeOf, errorCode, replyCode, unnumbered, numberAfter}
+use Rattle.packet.specs.Packet as Packet
+use Rattle.packet.specs.Packet.{leastPacket, mostPacket, codeOf, PacketClass, packetClass, isReply, unnumbered, numberAfter}
 use Rattle.held.specs.Head.{headerSize, mostStore}
 use Rattle.descriptors.specs.Room.{mostDescriptors}
 use Rattle.model.specs.Client.{Held, Client, setNumbers, setOutstanding, setReplies, setEvents, setWaiting, setClosing, setDescriptors, arriving, first, used, descriptorsOf, inside}
@@ -123,9 +124,12 @@ abbrev pub replyPlace : Asked → Place
 replyPlace nobody = Place.Replies
 replyPlace (somebody r) = replyUnder (r .mode)
 
--- "Anything else is an event."
-unfoldable pub placeOf : ℕ → Asked → Place
-placeOf code a = choose (eqb code errorCode) (errorPlace a) (choose (eqb code replyCode) (replyPlace a) Place.Events)
+-- "Anything else is an event.": the place depends on the first byte through the class alone
+unfoldable pub placeOf : PacketClass → Asked → Place
+placeOf Packet.error a = errorPlace a
+placeOf Packet.reply a = replyPlace a
+placeOf (Packet.event sent) a = Place.Events
+placeOf (Packet.generic sent) a = Place.Events
 
 -- "if its request has descriptors, byte 1 of them leave the head of the waiting queue"
 abbrev pub wantsDescriptors : Asked → Bool
@@ -133,7 +137,7 @@ wantsDescriptors nobody = false
 wantsDescriptors (somebody r) = r .descriptors
 
 unfoldable pub claimed : List ℕ → Asked → ℕ
-claimed p a = choose (both (eqb (codeOf p) replyCode) (wantsDescriptors a)) (getD p 1 0) 0
+claimed p a = choose (both (isReply (packetClass p)) (wantsDescriptors a)) (getD p 1 0) 0
 
 abbrev pub isHeld : Place → Bool
 isHeld Place.Replies = true
@@ -146,20 +150,22 @@ filed Place.Replies h c = setReplies c (c .replies ++ (h ∷ []))
 filed Place.Events h c = setEvents c (c .events ++ (h ∷ []))
 filed Place.Dropped h c = close (h .descriptors) c
 
--- where a packet was filed, and under which number
+-- where a packet was filed, under which number, and its class
 pub record Filing : Type 0 where
   pub place : Place
   pub number : ℕ
+  pub class : PacketClass
 
--- What is decided about a packet before anything changes: where it goes, under which number, and how many descriptors go with it.
+-- What is decided about a packet before anything changes: where it goes, under which number, how many descriptors go with it, and its class.
 pub record Task : Type 0 where
   pub place : Place
   pub number : ℕ
   pub claimed : ℕ
+  pub class : PacketClass
 
 -- as the request a of the number n has it
 abbrev pub taskBy : List ℕ → ℕ → Asked → Task
-taskBy p n a = record { place = placeOf (codeOf p) a; number = n; claimed = claimed p a }
+taskBy p n a = record { place = placeOf (packetClass p) a; number = n; claimed = claimed p a; class = packetClass p }
 
 -- 02, M-103: "A numbered packet whose full number is above the last written must be refused": by its code, its number and the last written
 unfoldable pub ahead : ℕ → ℕ → ℕ → Bool
@@ -170,7 +176,7 @@ unfoldable pub decideBy : Client → List ℕ → ℕ → Asked → Answer Task
 decideBy c p n a =
     refuse (ahead (codeOf p) n (c .numbers .written)) 20
     (refuse (ltb (length (c .waiting)) (claimed p a)) 4
-    (refuse (both (isHeld (placeOf (codeOf p) a)) (ltb (c .most-bytes) (used c + (headerSize + length p)))) 5
+    (refuse (both (isHeld (placeOf (packetClass p) a)) (ltb (c .most-bytes) (used c + (headerSize + length p)))) 5
     (gives (taskBy p n a))))
 
 -- 1, 2, 3, 20, 4, 5
@@ -183,7 +189,7 @@ decide c p =
 -- What was decided is carried out: the state gets the number, the claimed descriptors leave the waiting queue, and the packet is filed with them.
 unfoldable pub takeIn : Client → List ℕ → Task → Filing × Client
 takeIn c p t = (
-  record { place = t .place; number = t .number },
+  record { place = t .place; number = t .number; class = t .class },
   filed (t .place) (arriving c p (t .number) (t .claimed)) (setWaiting (numbered c p (t .number)) (drop (t .claimed) (c .waiting))),
 )
 
@@ -219,7 +225,7 @@ above n (h ∷ l) = choose (ltb n (h .number)) (h ∷ above n l) (above n l)
 
 -- an error among the replies, and what it is as an event
 abbrev pub isError : Held → Bool
-isError h = eqb (codeOf (h .packet)) errorCode
+isError h = Packet.isError (packetClass (h .packet))
 
 abbrev pub asEvent : Held → Held
 asEvent h = setDescriptors h []

@@ -19,6 +19,10 @@ use Rattle.held.specs.General.{same}
 use Rattle.held.specs.Head as Head
 use Rattle.held.specs.Reading as Store
 use Rattle.descriptors.specs.Room as Slots
+use Rattle.packet.specs.Packet as Packet
+use Rattle.packet.specs.Packet.{wasSent, classOf}
+use Rattle.packet.specs.declared.Class.{Class}
+use Rattle.packet.specs.declared.Class.the-variants as Class
 use Rattle.model.specs.Client.{Numbers, Held, Client, setNumbers, setOutstanding, setReplies, setEvents, setWaiting, setClosing, heldPacket, setDescriptors, arriving, first, costs, used, descriptorsOf, inside}
 use Rattle.model.specs.Model as Model
 use Rattle.model.specs.Reading.{Rooms, rooms, count, withDescriptors, reads}
@@ -96,11 +100,11 @@ pub sends : sendRequests (Model.fresh 66 4 500) (2 ∷ 1 ∷ 0 ∷ [])
 unfolding sendRequests sendTurn many onTurn modelTurn Model.sendRequest sending mustSync pass refuse both choose
 sends = refl
 
--- two marks for each event: its number, then the length of its packet; a turn for each pair, and one more
-pub marks : (marksOf answered ≡ 5 ∷ 2 ∷ 6 ∷ 1 ∷ []) × (packetsOf answered ≡ 51 ∷ 52 ∷ 61 ∷ []) × (shownHandings (record { events = answered; stopped = Batch.refused 8 }) ≡ record { count = 2; bytes = 3; stopped = Batch.refused 8 })
-    × (turns 5 ≡ true ∷ true ∷ false ∷ []) × (turns 4 ≡ true ∷ true ∷ false ∷ []) × (turns 0 ≡ false ∷ [])
-unfolding marksOf packetsOf turns
-marks = (refl, refl, refl, refl, refl, refl)
+-- three marks for each event: its number, the length of its packet, and its class; a turn for each three, and one more
+pub marks : (marksOf answered ≡ 5 ∷ 2 ∷ 2 ∷ 6 ∷ 1 ∷ 2 ∷ []) × (marksOf (heldPacket 7 (0 ∷ []) [] ∷ heldPacket 8 (163 ∷ 1 ∷ []) [] ∷ []) ≡ 7 ∷ 1 ∷ 0 ∷ 8 ∷ 2 ∷ 5 ∷ []) × (packetsOf answered ≡ 51 ∷ 52 ∷ 61 ∷ []) × (shownHandings (record { events = answered; stopped = Batch.refused 8 }) ≡ record { count = 2; bytes = 3; stopped = Batch.refused 8 })
+    × (turns 8 ≡ true ∷ true ∷ false ∷ []) × (turns 6 ≡ true ∷ true ∷ false ∷ []) × (turns 5 ≡ true ∷ false ∷ []) × (turns 0 ≡ false ∷ [])
+unfolding marksOf packetsOf turns classOf wasSent choose
+marks = (refl, refl, refl, refl, refl, refl, refl, refl)
 
 -- a log gets what each turn gave beside its input, as far as there are both
 pub noted : (notes (λ (x : ℕ) (a : ℕ) (l : List (ℕ × ℕ)). (x, a) ∷ l) (1 ∷ 2 ∷ 3 ∷ []) (7 ∷ 8 ∷ []) [] ≡ (2, 8) ∷ (1, 7) ∷ []) × (notes (λ (x : ℕ) (a : ℕ) (l : List (ℕ × ℕ)). (x, a) ∷ l) (1 ∷ []) (7 ∷ 8 ∷ []) [] ≡ (1, 7) ∷ [])
@@ -176,33 +180,35 @@ module _ (c : Connection) (r q : Rooms) where
   outcomes = (refl, refl, refl, refl, refl, refl, refl, refl, refl, refl)
 
   -- a packet of 36 bytes as a turn
-  pub taken : (modelTook 36 (gives (record { place = Place.Events; number = 5 }, whole)) ≡ goes (record { bytes = 36; filing = record { place = Place.Events; number = 5 } }) whole) × (modelTook 36 (refuses 4) ≡ stops (Feed.refused 4))
-      × (exactTook 36 (gives (record { value = record { place = Place.Events; number = 5 }; state = c; left = r })) ≡ goes (record { bytes = 36; filing = record { place = Place.Events; number = 5 } }) (site c r)) × (exactTook 36 (refuses 4) ≡ stops (Feed.refused 4))
+  pub taken : (modelTook 36 (gives (record { place = Place.Events; number = 5; class = Packet.event true }, whole)) ≡ goes (record { bytes = 36; filing = record { place = Place.Events; number = 5; class = Packet.event true } }) whole) × (modelTook 36 (refuses 4) ≡ stops (Feed.refused 4))
+      × (exactTook 36 (gives (record { value = record { place = Place.Events; number = 5; class = Packet.event true }; state = c; left = r })) ≡ goes (record { bytes = 36; filing = record { place = Place.Events; number = 5; class = Packet.event true } }) (site c r)) × (exactTook 36 (refuses 4) ≡ stops (Feed.refused 4))
   unfolding modelTook exactTook
   taken = (refl, refl, refl, refl)
 
--- what is shown of a packet that is handed out: its number, its length, and its descriptors where they go with it
+-- what is shown of a packet that is handed out: its number, its length, its descriptors where they go with it, and its class, which is an error's also among the events
 abbrev one : Held
 one = heldPacket 5 (51 ∷ 52 ∷ []) (21 ∷ 22 ∷ 23 ∷ [])
 
-abbrev handed : ℕ → ℕ → ℕ → Handed
-handed n l d = record { number = record { 0 = n }; length = l; descriptors = d }
+abbrev handed : ℕ → ℕ → ℕ → Class → Handed
+handed n l d k = record { number = record { 0 = n }; length = l; descriptors = d; class = k }
 
-pub shows : (Says.shownTaken (Model.packet one) ≡ Says.packet (handed 5 2 3)) × (Says.shownTaken Model.none ≡ Says.none) × (Says.shownPoll (Model.reply one) ≡ Says.reply (handed 5 2 0)) × (Says.shownPoll Model.tryAgain ≡ Says.again) × (Says.shownPoll Model.noReply ≡ Says.noReply)
+pub shows : (Says.shownTaken (Model.packet one) ≡ Says.packet (handed 5 2 3 Class.Event)) × (Says.shownTaken Model.none ≡ Says.none) × (Says.shownPoll (Model.reply one) ≡ Says.reply (handed 5 2 0 Class.Event)) × (Says.shownPoll Model.tryAgain ≡ Says.again) × (Says.shownPoll Model.noReply ≡ Says.noReply)
     × (Says.bytesOfTaken (Model.packet one) ≡ 51 ∷ 52 ∷ []) × (Says.descriptorsOfTaken (Model.packet one) ≡ 21 ∷ 22 ∷ 23 ∷ []) × (Says.bytesOfPoll (Model.reply one) ≡ 51 ∷ 52 ∷ [])
+    × (Says.shownTaken (Model.packet (Model.asEvent (heldPacket 6 (0 ∷ 52 ∷ []) (21 ∷ [])))) ≡ Says.packet (handed 6 2 0 Class.Error)) × (Says.shownTaken (Model.packet (heldPacket 7 (163 ∷ []) [])) ≡ Says.packet (handed 7 1 0 Class.SentGeneric))
     × (Says.bytesOfTaken Model.none ≡ []) × (Says.descriptorsOfTaken Model.none ≡ []) × (Says.bytesOfPoll Model.tryAgain ≡ []) × (Says.bytesOfPoll Model.noReply ≡ [])
-shows = (refl, refl, refl, refl, refl, refl, refl, refl, refl, refl, refl, refl)
+unfolding classOf wasSent choose
+shows = (refl, refl, refl, refl, refl, refl, refl, refl, refl, refl, refl, refl, refl, refl)
 
 -- handed out under the number 5, and without descriptors
-pub such : Says.Under 5 (handed 5 2 3) × Says.Bare (handed 5 2 0) × Says.IfShown (Says.Under 5) (Says.packet (handed 5 2 3)) × Says.IfPolled Says.Bare (Says.reply (handed 5 2 0))
+pub such : Says.Under 5 (handed 5 2 3 Class.Event) × Says.Bare (handed 5 2 0 Class.Event) × Says.IfShown (Says.Under 5) (Says.packet (handed 5 2 3 Class.Event)) × Says.IfPolled Says.Bare (Says.reply (handed 5 2 0 Class.Event))
 such = (refl, refl, refl, refl)
 
 -- what the enums say
 module _ (c : Connection) where
-  pub says : (Says.saysNext (Next.State c) ≡ gives (tt, c)) × (Says.saysSent (Sent.Number (record { 0 = 7 }) c) ≡ gives (7, c)) × (Says.saysEnqueued (Enqueued.Filed Place.Dropped (record { 0 = 7 }) c) ≡ gives (record { place = Place.Dropped; number = 7 }, c))
-      × (Says.saysPolled (Polled.Packet (handed 5 2 3) c) ≡ gives (Says.packet (handed 5 2 3), c)) × (Says.saysPolled (Polled.Nothing c) ≡ gives (Says.none, c))
-      × (Says.saysPollReply (PollReply.TryAgain c) ≡ gives (Says.again, c)) × (Says.saysPollReply (PollReply.NoReply c) ≡ gives (Says.noReply, c)) × (Says.saysPollReply (PollReply.Reply (handed 5 2 3) c) ≡ gives (Says.reply (handed 5 2 3), c))
-      × (Says.saysEvent (Event.Packet (handed 5 2 0) c) ≡ gives (Says.packet (handed 5 2 0), c)) × (Says.saysEvent (Event.Nothing c) ≡ gives (Says.none, c)) × (Says.saysClosed (Closed.Taken 6 c) ≡ gives (6, c)) × (Says.saysPrepared (Prepared.Answer true) ≡ gives true)
+  pub says : (Says.saysNext (Next.State c) ≡ gives (tt, c)) × (Says.saysSent (Sent.Number (record { 0 = 7 }) c) ≡ gives (7, c)) × (Says.saysEnqueued (Enqueued.Filed Place.Dropped (record { 0 = 7 }) Class.Generic c) ≡ gives (record { place = Place.Dropped; number = 7; class = Packet.generic false }, c))
+      × (Says.saysPolled (Polled.Packet (handed 5 2 3 Class.Event) c) ≡ gives (Says.packet (handed 5 2 3 Class.Event), c)) × (Says.saysPolled (Polled.Nothing c) ≡ gives (Says.none, c))
+      × (Says.saysPollReply (PollReply.TryAgain c) ≡ gives (Says.again, c)) × (Says.saysPollReply (PollReply.NoReply c) ≡ gives (Says.noReply, c)) × (Says.saysPollReply (PollReply.Reply (handed 5 2 3 Class.Event) c) ≡ gives (Says.reply (handed 5 2 3 Class.Event), c))
+      × (Says.saysEvent (Event.Packet (handed 5 2 0 Class.Event) c) ≡ gives (Says.packet (handed 5 2 0 Class.Event), c)) × (Says.saysEvent (Event.Nothing c) ≡ gives (Says.none, c)) × (Says.saysClosed (Closed.Taken 6 c) ≡ gives (6, c)) × (Says.saysPrepared (Prepared.Answer true) ≡ gives true)
   says = (refl, refl, refl, refl, refl, refl, refl, refl, refl, refl, refl, refl)
 
   pub says-many : (saysSentMany (SentMany.Sent 3 (record { 0 = 9 }) Stop.NoKind c) ≡ gives (record { count = 3; last = 9; stopped = Batch.meaningless }, c)) × (saysEvents (Events.Handed 2 68 Stop.End c) ≡ gives (record { count = 2; bytes = 68; stopped = Batch.ended }, c))

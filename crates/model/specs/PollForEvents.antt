@@ -5,24 +5,32 @@ use Prim.Native.Nat.{ℕ, zero, suc, _-_}
 use lib.ListN.{length}
 use Rattle.octets.specs.Logic.{choose}
 use Rattle.refusal.specs.Answer.{Answer, gives, refuses}
+use Rattle.packet.specs.Packet.{packetClass, classNumber}
 use Rattle.model.specs.Client.{Held, Client}
 use Rattle.model.specs.Model.{Taken, none, packet, pollForEvent}
 use Rattle.model.specs.Batch.{Turn, goes, stops, Many, many, Stop, ended, refused, meaningless, modelTurn}
 
--- Two outputs are lent: one for the packets, and one for marks, two for each event: its number and the length of its packet.
--- A turn that has its two marks may use all the room that is left for packets; one without marks has no room, and hands nothing out.
+-- Two outputs are lent: one for the packets, and one for marks, three for each event: its number, the length of its packet, and its class.
+abbrev pub marksEach : ℕ
+marksEach = 3
+
+abbrev pub marksFor : Held → List ℕ
+marksFor h = h .number ∷ length (h .packet) ∷ classNumber (packetClass (h .packet)) ∷ []
+
+-- A turn that has its marks may use all the room that is left for packets; one without marks has no room, and hands nothing out.
 abbrev pub withMarks : Bool
 withMarks = true
 
 abbrev pub withoutMarks : Bool
 withoutMarks = false
 
--- One turn for each pair of marks, and a last one without, which tells whether an event is left: it is refused by 8 if one is. Of five marks
--- the turns are two with marks and the last without; the fifth mark is not used.
+-- One turn for each three marks, and a last one without, which tells whether an event is left: it is refused by 8 if one is. Of seven marks
+-- the turns are two with marks and the last without; the seventh mark is not used.
 unfoldable pub turns : ℕ → List Bool
 turns zero = withoutMarks ∷ []
 turns (suc zero) = withoutMarks ∷ []
-turns (suc (suc n)) = withMarks ∷ turns n
+turns (suc (suc zero)) = withoutMarks ∷ []
+turns (suc (suc (suc n))) = withMarks ∷ turns n
 
 -- a state, with the room that is left for packets
 pub record Lent (S : Type 0) : Type 0 where
@@ -70,7 +78,7 @@ packetsOf (h ∷ l) = h .packet ++ packetsOf l
 
 unfoldable pub marksOf : List Held → List ℕ
 marksOf [] = []
-marksOf (h ∷ l) = h .number ∷ length (h .packet) ∷ marksOf l
+marksOf (h ∷ l) = marksFor h ++ marksOf l
 
 abbrev pub packetsOfHandings : Handings → List ℕ
 packetsOfHandings x = packetsOf (x .events)

@@ -6,6 +6,8 @@ use Prim.Native.Nat.{ℕ}
 use lib.ListN.{length}
 use Rattle.refusal.specs.Answer.{Answer, gives, refuses, decides}
 use Rattle.refusal.specs.Numbers.{numberOf, refusalOf, listed}
+use Rattle.packet.specs.Packet.{packetClass}
+use Rattle.packet.specs.Class.{saysClass, classed, class-back}
 use Rattle.model.specs.Client.{Held}
 use Rattle.model.specs.Model as Model
 use Rattle.model.specs.Model.{Filing}
@@ -30,9 +32,9 @@ use Rattle.model.specs.declared.Prepared.the-variants as Prepared
 
 -- ---- what is shown of a packet that is handed out
 
--- its number, its length, and so many descriptors
+-- its number, its length, so many descriptors, and its class
 abbrev pub handedWith : Held → ℕ → Handed
-handedWith h fds = record { number = record { 0 = h .number }; length = length (h .packet); descriptors = fds }
+handedWith h fds = record { number = record { 0 = h .number }; length = length (h .packet); descriptors = fds; class = classed (packetClass (h .packet)) }
 
 -- nothing, or a packet with its descriptors
 pub data Shown : Type 0 where
@@ -95,7 +97,7 @@ saysSent (Sent.Number n c) = gives (n .0, c)
 saysSent (Sent.Refused r) = refuses (numberOf r)
 
 abbrev pub saysEnqueued : Enqueued → Answer (Filing × Connection)
-saysEnqueued (Enqueued.Filed p n c) = gives (record { place = p; number = n .0 }, c)
+saysEnqueued (Enqueued.Filed p n k c) = gives (record { place = p; number = n .0; class = saysClass k }, c)
 saysEnqueued (Enqueued.Refused r) = refuses (numberOf r)
 
 abbrev pub saysPolled : Polled → Answer (Shown × Connection)
@@ -141,12 +143,12 @@ unfolding backSent
 sent-one = decides saysSent backSent (elim [ Sent.Number n c ↦ refl | Sent.Refused r ↦ ap Sent.Refused (listed r) ])
 
 backEnqueued : Answer (Filing × Connection) → Enqueued
-backEnqueued (gives x) = Enqueued.Filed (x .0 .place) (record { 0 = x .0 .number }) (x .1)
+backEnqueued (gives x) = Enqueued.Filed (x .0 .place) (record { 0 = x .0 .number }) (classed (x .0 .class)) (x .1)
 backEnqueued (refuses n) = Enqueued.Refused (refusalOf n)
 
 pub enqueued-one : (a b : Enqueued) → saysEnqueued a ≡ saysEnqueued b → a ≡ b
 unfolding backEnqueued
-enqueued-one = decides saysEnqueued backEnqueued (elim [ Enqueued.Filed p n c ↦ refl | Enqueued.Refused r ↦ ap Enqueued.Refused (listed r) ])
+enqueued-one = decides saysEnqueued backEnqueued (elim [ Enqueued.Filed p n k c ↦ ap (λ x. Enqueued.Filed p n x c) (class-back k) | Enqueued.Refused r ↦ ap Enqueued.Refused (listed r) ])
 
 backClosed : Answer (ℕ × Connection) → Closed
 backClosed (gives x) = Closed.Taken (x .0) (x .1)

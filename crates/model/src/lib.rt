@@ -12,6 +12,7 @@ ghost use Rattle.model.specs.Moved.{movedState};
 ghost use Rattle.model.specs.SendRequests.{kindOf};
 use descriptors::Counts;
 use held::Window;
+use packet::Class;
 use refusal::Refusal;
 use sequence::SequenceNumber;
 pub use soundness::LEAST_STORE;
@@ -91,18 +92,19 @@ pub enum Sent {
     Refused(Refusal),
 }
 
-// `enqueue_packet`: where the packet was filed, and under which number.
+// `enqueue_packet`: where the packet was filed, under which number, and its class.
 pub enum Enqueued {
-    Filed(Place, SequenceNumber, Connection),
+    Filed(Place, SequenceNumber, Class, Connection),
     Refused(Refusal),
 }
 
-// What is handed out of a held packet: its number, and how many bytes and descriptors of it are in
-// the outputs.
+// What is handed out of a held packet: its number, how many bytes and descriptors of it are in the
+// outputs, and its class. An error may be among the events.
 pub struct Handed {
     pub number: SequenceNumber,
     pub length: usize,
     pub descriptors: usize,
+    pub class: Class,
 }
 
 // `poll_for_reply_or_error`: a packet of the number is in the outputs, with its descriptors.

@@ -4,12 +4,12 @@ use mathlib.Core.Bool.{Bool, true, false}
 use mathlib.Core.List.{List}
 use Prim.Native.Nat.{ℕ, _+_, _%_, _≤_, _<_}
 use native.Mathlib.Omega.{arith}
-use lib.Dec.{ltb, eqb}
-use borrow.Author.Tests.{ltb-false, le-ltb, eqb-true}
-use Rattle.octets.specs.Logic.{choose, either}
+use lib.Dec.{ltb}
+use borrow.Author.Tests.{ltb-false, le-ltb}
+use Rattle.octets.specs.Logic.{choose}
 use Rattle.refusal.specs.Answer.{Answer, gives, refuses, refuse, gives-past, gives-rest, gives-same}
 use Rattle.sequence.specs.Numbering.{lastNumber, wireValues, FullNumber, full, inRange, number-is, full-near}
-use Rattle.packet.specs.Packet.{codeOf, replyCode, sentBit, keymapNotify, unnumbered, wireOf, numberAfter}
+use Rattle.packet.specs.Packet.{codeOf, unnumbered, wireOf, numberAfter}
 
 in-range : (n m : ℕ) → gives n ≡ inRange m → (n ≡ m) × (m ≤ lastNumber)
 unfolding inRange
@@ -18,16 +18,6 @@ in-range n m e = (gives-same (gives-rest _ _ _ e), ltb-false lastNumber m (gives
 full-from : (read wire : ℕ) → read ≤ full read wire
 unfolding full
 full-from read wire = omega arith
-
--- A packet that carries no number is neither an error nor a reply.
-pub unnumbered-event : (code : ℕ) → unnumbered code ≡ true → replyCode < code
-unfolding unnumbered either
-unnumbered-event code = go (eqb code keymapNotify) refl (eqb code (sentBit + keymapNotify)) refl
-  where
-    go : (a : Bool) → eqb code keymapNotify ≡ a → (b : Bool) → eqb code (sentBit + keymapNotify) ≡ b → either a b ≡ true → replyCode < code
-    go true e b f h = omega (arith, eqb-true code keymapNotify e)
-    go false e true f h = omega (arith, eqb-true code (sentBit + keymapNotify) f)
-    go false e false f h = absurd (let z : _≡_ {A = ℕ} 0 1 = cc in omega arith)
 
 module _ (o read : ℕ) (p : List ℕ) where
   -- A packet that carries no number has the last read's,

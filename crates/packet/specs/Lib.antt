@@ -1,3 +1,4 @@
 pub mod Packet
+pub mod Class
 pub mod Laws
 pub mod Examples

@@ -1,13 +1,14 @@
 // Inside: what a packet is (Core, Protocol Formats; 01, Framing, and Numbering and filing).
 //
-// The bounds of its length, what its first byte means, where it has its wire number, and the number
-// that it is filed under after a last read. Whoever frames, reads, holds, files or hands out a
-// packet asks here; nothing is kept, and nothing is written.
+// The bounds of its length, what its first byte means (its class), where it has its wire number, and
+// the number that it is filed under after a last read. Whoever frames, reads, holds, files or hands
+// out a packet asks here; nothing is kept, and nothing is written.
 ghost use mathlib.Core.Path.{_≡_};
 ghost use Prim.Native.Nat.{_≤_};
 ghost use lib.ListN.{length};
 ghost use Rattle.sequence.specs.Numbering.{saysFull};
-ghost use Rattle.packet.specs.Packet.{leastPacket, hasLength, unnumbered, wireNumber, numberAfter};
+ghost use Rattle.packet.specs.Class.{saysClass};
+ghost use Rattle.packet.specs.Packet.{leastPacket, classOf, hasLength, isError, isReply, isPlain, classNumber, unnumbered, wireNumber, numberAfter};
 use sequence::Full;
 use sequence::SequenceNumber;
 use sequence::WireNumber;
@@ -35,14 +36,103 @@ const WIRE: usize = 2;
 
 pub const LENGTH: usize = 4;
 
-// Whether a packet of the code has a length of its own; the others have 32 bytes.
-pub fn has_length(code: u8) -> bool
-    ensures { λ r. ⌜ r ≡ hasLength code ⌝ }
+// What kind of packet it is. Sent are the events, plain or generic, that SendEvent made.
+pub enum Class {
+    Error,
+    Reply,
+    Event,
+    SentEvent,
+    Generic,
+    SentGeneric,
+}
+
+// The class of a packet that begins with the code.
+pub fn class_of(code: u8) -> Class
+    ensures { λ r. ⌜ saysClass r ≡ classOf code ⌝ }
 {
-    if code == REPLY {
-        return true;
+    if REPLY < code {
+        let sent = SENT <= code;
+        if code % SENT == GENERIC_EVENT {
+            return if sent {
+                Class::SentGeneric
+            } else {
+                Class::Generic
+            };
+        }
+        return if sent { Class::SentEvent } else { Class::Event };
     }
-    code % SENT == GENERIC_EVENT
+    if code == REPLY {
+        return Class::Reply;
+    }
+    Class::Error
+}
+
+// Whether packets of the class have a length of their own; the others have 32 bytes.
+pub fn has_length(class: Class) -> bool
+    ensures { λ r. ⌜ r ≡ hasLength (saysClass class) ⌝ }
+{
+    match class {
+        Class::Error => false,
+        Class::Reply => true,
+        Class::Event => false,
+        Class::SentEvent => false,
+        Class::Generic => true,
+        Class::SentGeneric => true,
+    }
+}
+
+pub fn is_error(class: Class) -> bool
+    ensures { λ r. ⌜ r ≡ isError (saysClass class) ⌝ }
+{
+    match class {
+        Class::Error => true,
+        Class::Reply => false,
+        Class::Event => false,
+        Class::SentEvent => false,
+        Class::Generic => false,
+        Class::SentGeneric => false,
+    }
+}
+
+pub fn is_reply(class: Class) -> bool
+    ensures { λ r. ⌜ r ≡ isReply (saysClass class) ⌝ }
+{
+    match class {
+        Class::Error => false,
+        Class::Reply => true,
+        Class::Event => false,
+        Class::SentEvent => false,
+        Class::Generic => false,
+        Class::SentGeneric => false,
+    }
+}
+
+// An event without a length of its own, whoever made it.
+pub fn is_plain(class: Class) -> bool
+    ensures { λ r. ⌜ r ≡ isPlain (saysClass class) ⌝ }
+{
+    match class {
+        Class::Error => false,
+        Class::Reply => false,
+        Class::Event => true,
+        Class::SentEvent => true,
+        Class::Generic => false,
+        Class::SentGeneric => false,
+    }
+}
+
+// The number that stands for a class where no enum can be handed on.
+pub fn class_number(class: Class) -> u8
+    ensures { λ r. ⌜ r ≡ classNumber (saysClass class) ⌝ }
+{
+    match class {
+        Class::Error => 0,
+        Class::Reply => 1,
+        Class::Event => 2,
+        Class::SentEvent => 3,
+        Class::Generic => 4,
+        Class::SentGeneric => 5,
+    }
 }
 
 // Whether a packet of the code carries no number, whoever made it.

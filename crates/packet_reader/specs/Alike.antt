@@ -6,13 +6,13 @@ use Prim.Native.Nat.{ℕ, _+_, _-_, _≤_}
 use native.Mathlib.Omega.{arith}
 use lib.Dec.{leb, ltb, eqb}
 use lib.ListN.{length, take, drop, length-append, length-drop}
-use lib.Seq.{length-take-le}
+use lib.Seq.{length-take-le, take-append-le}
 use borrow.Author.Tests.{ltb-true, ltb-false}
 use Rattle.octets.specs.Logic.{choose, both}
 use Rattle.octets.specs.Bytes.{legal}
 use Rattle.octets.specs.Put.{put, length-put, take-put}
 use Rattle.refusal.specs.Answer.{Answer, gives, refuse}
-use Rattle.packet.specs.Packet.{leastPacket}
+use Rattle.packet.specs.Packet.{leastPacket, PacketClass, packetClass}
 use Rattle.packet_reader.specs.Frame.{aim}
 use Rattle.packet_reader.specs.Reader.{room, soundb, capacity, Progress, waits, whole, fresh, reached, advanced}
 use Rattle.packet_reader.specs.Sound.{Sound, is-sound}
@@ -52,11 +52,13 @@ module _ (r : PacketReader) (a u v : List ℕ) (n : ℕ) (e : length u ≡ lengt
       let l = size in
       let f : aim (r .order) (a ++ u) (r .filled) ≡ aim (r .order) (a ++ v) (r .filled) = aims (r .filled) (omega arith) in
       let g : aim (r .order) (a ++ u) (r .filled + n) ≡ aim (r .order) (a ++ v) (r .filled + n) = aims (r .filled + n) h in
+      let p : packetClass (take (r .filled + n) (a ++ u)) ≡ packetClass (take (r .filled + n) (a ++ v)) =
+      ap packetClass (take-append-le (r .filled + n) a u h ∙ sym (take-append-le (r .filled + n) a v h)) in
       λ i.
       refuse (not (both (room (l i)) (both (legal (r .order)) (both (eqb (r .target) (f i)) (both (leb (r .target) (l i)) (ltb (r .filled) (r .target))))))) 9
       (refuse (ltb (r .target - r .filled) n) 7
       (refuse (ltb (l i) (g i)) 2
-      (gives (choose (ltb (r .filled + n) (g i)) (waits (record { order = r .order; filled = r .filled + n; target = g i })) (whole (g i) (fresh (r .order)))))))
+      (gives (choose (ltb (r .filled + n) (g i)) (waits (record { order = r .order; filled = r .filled + n; target = g i })) (whole (g i) (p i) (fresh (r .order)))))))
 
 -- ---- two readers that are alike
 
@@ -131,7 +133,7 @@ module _ (r : PacketReader) (s : List ℕ) (q : PacketReader) (t : List ℕ) (k 
         bytes = put-bytes x (m .0 .within);
       }))
 
-  alike-packet : (x : List ℕ) (m n : ℕ) (r₁ q₁ : PacketReader) → advanced r (put s (r .filled) x) (length x) ≡ gives (whole m r₁) → advanced q (put t (q .filled) x) (length x) ≡ gives (whole n q₁)
+  alike-packet : (x : List ℕ) (m n : ℕ) {j l : PacketClass} (r₁ q₁ : PacketReader) → advanced r (put s (r .filled) x) (length x) ≡ gives (whole m j r₁) → advanced q (put t (q .filled) x) (length x) ≡ gives (whole n l q₁)
       → (take m (put s (r .filled) x) ≡ take n (put t (q .filled) x)) × Alike r₁ (put s (r .filled) x) q₁ (put t (q .filled) x)
   alike-packet x m n r₁ q₁ e f =
       let s' : List ℕ = put s (r .filled) x in
@@ -145,7 +147,7 @@ module _ (r : PacketReader) (s : List ℕ) (q : PacketReader) (t : List ℕ) (k 
       )
 
 -- a packet that waits is not whole
-not-both : (a b : Answer Progress) (r q : PacketReader) (n : ℕ) → a ≡ b → a ≡ gives (waits r) → b ≡ gives (whole n q) → ⊥
+not-both : (a b : Answer Progress) (r q : PacketReader) (n : ℕ) {k : PacketClass} → a ≡ b → a ≡ gives (waits r) → b ≡ gives (whole n k q) → ⊥
 not-both a b r q n e f g = let z : _≡_ {A = ℕ} 0 1 = cc in omega arith
 
 -- FOR EVER: two readers that are alike and are given the same pieces give the same packets, and are alike again.

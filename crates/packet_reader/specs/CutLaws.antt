@@ -4,7 +4,7 @@ use mathlib.Core.Bool.{Bool, true, false}
 use mathlib.Core.List.{List, [], _++_}
 use Prim.Native.Nat.{ℕ, zero, suc, _+_, _*_, _≤_, _<_}
 use native.Mathlib.Omega.{arith}
-use lib.ListN.{length, take, drop, getD, length-append, take-append-drop, List·getD-append}
+use lib.ListN.{length, take, drop, length-append, take-append-drop, List·getD-append}
 use lib.Seq.{take-at, drop-at, length-take-le}
 use lib.Dec.{ltb}
 use borrow.Author.Tests.{ltb-true, ltb-false, lt-ltb, le-ltb}
@@ -12,8 +12,9 @@ use Rattle.octets.specs.Logic.{choose}
 use Rattle.octets.specs.Bytes.{numberIn}
 use Rattle.octets.specs.Put.{cut-append}
 use Rattle.octets.specs.Field.{field}
-use Rattle.packet.specs.Packet.{leastPacket, hasLength}
-use Rattle.packet_reader.specs.Frame.{total, totalOf, aim, Cut, cons, cuts}
+use Rattle.packet.specs.Packet.{leastPacket, PacketClass, packetClass, hasLength}
+use Rattle.packet.specs.Class.{class-taken}
+use Rattle.packet_reader.specs.Frame.{lengthAs, total, totalOf, aim, Cut, cons, cuts}
 
 -- ---- the length of a packet
 
@@ -23,8 +24,8 @@ choose-least true x y m h k = h
 choose-least false x y m h k = k
 
 pub total-least : (o : ℕ) (s : List ℕ) → leastPacket ≤ totalOf o s
-unfolding totalOf total
-total-least o s = choose-least (hasLength (getD s 0 0)) (leastPacket + 4 * field o 4 4 s) leastPacket leastPacket (omega arith) (omega arith)
+unfolding totalOf lengthAs
+total-least o s = choose-least (hasLength (packetClass s)) (leastPacket + 4 * field o 4 4 s) leastPacket leastPacket (omega arith) (omega arith)
 
 pub aim-least : (o : ℕ) (s : List ℕ) (f : ℕ) → leastPacket ≤ aim o s f
 unfolding aim
@@ -37,6 +38,10 @@ aim-head o s f h = simp (lt-ltb _ _ h)
 pub aim-total : (o : ℕ) (s : List ℕ) (f : ℕ) → leastPacket ≤ f → aim o s f ≡ totalOf o s
 unfolding aim choose
 aim-total o s f h = simp (le-ltb _ _ h)
+
+-- so the bytes of a packet that is whole tell its class
+pub class-filled : (o : ℕ) (s : List ℕ) (n t : ℕ) (k : PacketClass) → k ≡ packetClass s → t ≡ aim o s n → t ≤ n → k ≡ packetClass (take n s)
+class-filled o s n t k e h l = e ∙ sym (class-taken n s (omega (arith, aim-least o s n)))
 
 -- the first 32 bytes decide
 pub total-append : (o : ℕ) (a u : List ℕ) → leastPacket ≤ length a → totalOf o (a ++ u) ≡ totalOf o a

@@ -1,15 +1,26 @@
--- How long a packet is, and how a run of bytes is cut into packets. Assumes nothing.
+-- How long a packet is and of which class, and how a run of bytes is cut into packets. Assumes nothing.
 use mathlib.Core.List.{List, [], _∷_}
 use Prim.Native.Nat.{ℕ, zero, suc, _+_, _*_}
 use lib.Dec.{ltb}
 use lib.ListN.{length, take, drop}
 use Rattle.octets.specs.Logic.{choose}
 use Rattle.octets.specs.Field.{field}
-use Rattle.packet.specs.Packet.{leastPacket, codeOf, hasLength, lengthAt}
+use Rattle.packet.specs.Packet.{leastPacket, codeOf, PacketClass, classOf, hasLength, lengthAt}
 
--- the bytes of a packet that begins with the code and whose bytes 4 to 7 write the length
-unfoldable pub total : ℕ → ℕ → ℕ
-total code units = choose (hasLength code) (leastPacket + 4 * units) leastPacket
+-- the bytes of a packet of a class: 32, and where the class has a length, four for each unit of it
+unfoldable pub lengthAs : PacketClass → ℕ → ℕ
+lengthAs k units = choose (hasLength k) (leastPacket + 4 * units) leastPacket
+
+-- THE FRAMING RULE: length and class of a packet that begins with the code and whose bytes 4 to 7 write the length
+pub record Frame : Type 0 where
+  pub length : ℕ
+  pub class : PacketClass
+
+abbrev pub frame : ℕ → ℕ → Frame
+frame code units = record { length = lengthAs (classOf code) units; class = classOf code }
+
+abbrev pub total : ℕ → ℕ → ℕ
+total code units = frame code units .length
 
 -- the same of the packet that bytes begin with
 unfoldable pub totalOf : ℕ → List ℕ → ℕ

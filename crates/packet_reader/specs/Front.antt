@@ -5,49 +5,50 @@ use mathlib.Core.List.{List, [], _++_, append-assoc}
 use Prim.Native.Nat.{ℕ, zero, suc, _-_, _≤_, _<_}
 use native.Mathlib.Omega.{arith}
 use lib.Dec.{ltb, eqb}
-use lib.ListN.{length, take, drop, getD, length-drop, take-append-drop}
+use lib.ListN.{length, take, drop, length-drop, take-append-drop}
 use borrow.Author.Tests.{ltb-true, ltb-false, lt-ltb, le-ltb, eqb-true, eqb-false, eq-eqb, ne-eqb}
 use Rattle.octets.specs.Logic.{choose}
-use Rattle.packet.specs.Packet.{leastPacket, mostPacket, hasLength}
-use Rattle.packet_reader.specs.Frame.{total, totalOf, aim, cons, cuts, cutPackets}
+use Rattle.packet.specs.Packet.{leastPacket, mostPacket, PacketClass, packetClass, hasLength}
+use Rattle.packet.specs.Class.{saysClass, classed, class-back}
+use Rattle.packet_reader.specs.Frame.{lengthAs, totalOf, aim, cons, cuts, cutPackets}
 use Rattle.packet_reader.specs.CutLaws.{aim-least, aim-head, aim-total, cut-rest}
 use Rattle.packet_reader.specs.Stream.{joined}
 use Rattle.packet_reader.specs.declared.Begins.{Begins}
 use Rattle.packet_reader.specs.declared.Begins.the-variants as Begins
 
--- nothing, part of a packet, a packet that is longer than any may be (as far as its first 32 bytes tell), or a whole one of so many bytes
+-- nothing, part of a packet, a packet that is longer than any may be (as far as its first 32 bytes tell), or a whole one of so many bytes and that class
 pub data Front : Type 0 where
   nothing : Front
   part : Front
   long : Front
-  whole : ℕ → Front
+  whole : ℕ → PacketClass → Front
 
 unfoldable pub frontOf : ℕ → List ℕ → Front
 frontOf o s =
     choose (eqb (length s) 0) nothing
     (choose (ltb mostPacket (aim o s (length s))) long
-    (choose (ltb (length s) (aim o s (length s))) part (whole (aim o s (length s)))))
+    (choose (ltb (length s) (aim o s (length s))) part (whole (aim o s (length s)) (packetClass s))))
 
 -- what the enum says
 abbrev pub saysBegins : Begins → Front
 saysBegins Begins.Nothing = nothing
 saysBegins Begins.Part = part
 saysBegins Begins.Long = long
-saysBegins (Begins.Whole n) = whole n
+saysBegins (Begins.Whole n k) = whole n (saysClass k)
 
 -- Two answers that say the same are equal.
 backBegins : Front → Begins
 backBegins nothing = Begins.Nothing
 backBegins part = Begins.Part
 backBegins long = Begins.Long
-backBegins (whole n) = Begins.Whole n
+backBegins (whole n k) = Begins.Whole n (classed k)
 
 back-begins : (a : Begins) → backBegins (saysBegins a) ≡ a
 unfolding backBegins
 back-begins Begins.Nothing = refl
 back-begins Begins.Part = refl
 back-begins Begins.Long = refl
-back-begins (Begins.Whole n) = refl
+back-begins (Begins.Whole n k) = ap (Begins.Whole n) (class-back k)
 
 pub begins-one : (a b : Begins) → saysBegins a ≡ saysBegins b → a ≡ b
 begins-one a b e = sym (back-begins a) ∙ ap backBegins e ∙ back-begins b
@@ -74,17 +75,17 @@ module _ (o : ℕ) (s : List ℕ) where
     unfolding frontOf choose
     front-part k l = simp (ne-eqb (length s) 0 h, sym e, le-ltb mostPacket t k, lt-ltb (length s) t l)
 
-    pub front-whole : t ≤ mostPacket → t ≤ length s → whole t ≡ frontOf o s
+    pub front-whole : t ≤ mostPacket → t ≤ length s → (j : PacketClass) → j ≡ packetClass s → whole t j ≡ frontOf o s
     unfolding frontOf choose
-    front-whole k l = simp (ne-eqb (length s) 0 h, sym e, le-ltb mostPacket t k, le-ltb (length s) t l)
+    front-whole k l j c = ap (whole t) c ∙ simp (ne-eqb (length s) 0 h, sym e, le-ltb mostPacket t k, le-ltb (length s) t l)
 
 -- a packet that has no length of its own has 32 bytes
-total-fixed : (o : ℕ) (s : List ℕ) → hasLength (getD s 0 0) ≡ false → totalOf o s ≡ leastPacket
-unfolding totalOf total choose
+total-fixed : (o : ℕ) (s : List ℕ) → hasLength (packetClass s) ≡ false → totalOf o s ≡ leastPacket
+unfolding totalOf lengthAs choose
 total-fixed o s e = simp e
 
-pub front-fixed : (o : ℕ) (s : List ℕ) → leastPacket ≤ length s → hasLength (getD s 0 0) ≡ false → whole leastPacket ≡ frontOf o s
-front-fixed o s h e = front-whole o s leastPacket (sym (aim-total o s (length s) h ∙ total-fixed o s e)) (λ z. omega arith) (omega arith) h
+pub front-fixed : (o : ℕ) (s : List ℕ) → leastPacket ≤ length s → hasLength (packetClass s) ≡ false → whole leastPacket (packetClass s) ≡ frontOf o s
+front-fixed o s h e = front-whole o s leastPacket (sym (aim-total o s (length s) h ∙ total-fixed o s e)) (λ z. omega arith) (omega arith) h (packetClass s) refl
 
 -- ---- and what each tells
 
@@ -97,7 +98,8 @@ pub record Long (o : ℕ) (s : List ℕ) : Type 0 where
   pub some : 0 < length s
   pub over : mostPacket < aim o s (length s)
 
-pub record Whole (o : ℕ) (s : List ℕ) (n : ℕ) : Type 0 where
+pub record Whole (o : ℕ) (s : List ℕ) (n : ℕ) (k : PacketClass) : Type 0 where
+  pub class : k ≡ packetClass s
   pub target : n ≡ aim o s (length s)
   pub least : leastPacket ≤ n
   pub fits : n ≤ length s
@@ -108,7 +110,7 @@ abbrev Tells : ℕ → List ℕ → Front → Type 0
 Tells o s nothing = length s ≡ 0
 Tells o s part = Part o s
 Tells o s long = Long o s
-Tells o s (whole n) = Whole o s n
+Tells o s (whole n k) = Whole o s n k
 
 module _ (o : ℕ) (s : List ℕ) where
   tells : Tells o s (frontOf o s)
@@ -116,7 +118,7 @@ module _ (o : ℕ) (s : List ℕ) where
   tells = go (eqb (length s) 0) refl (ltb mostPacket (aim o s (length s))) refl (ltb (length s) (aim o s (length s))) refl
     where
       go : (a : Bool) → eqb (length s) 0 ≡ a → (b : Bool) → ltb mostPacket (aim o s (length s)) ≡ b → (c : Bool) → ltb (length s) (aim o s (length s)) ≡ c
-          → Tells o s (choose a nothing (choose b long (choose c part (whole (aim o s (length s))))))
+          → Tells o s (choose a nothing (choose b long (choose c part (whole (aim o s (length s)) (packetClass s)))))
       go true e b f c g = eqb-true (length s) 0 e
       go false e true f c g =
           let z : length s ≡ 0 → ⊥ = eqb-false (length s) 0 e in
@@ -125,7 +127,7 @@ module _ (o : ℕ) (s : List ℕ) where
           let z : length s ≡ 0 → ⊥ = eqb-false (length s) 0 e in
           record { some = omega arith; lacks = ltb-true _ _ g; most = ltb-false _ _ f }
       go false e false f false g =
-          record { target = refl; least = aim-least o s (length s); fits = ltb-false _ _ g; most = ltb-false _ _ f }
+          record { class = refl; target = refl; least = aim-least o s (length s); fits = ltb-false _ _ g; most = ltb-false _ _ f }
 
   pub tells-nothing : nothing ≡ frontOf o s → length s ≡ 0
   tells-nothing e = subst (Tells o s) (sym e) tells
@@ -136,8 +138,8 @@ module _ (o : ℕ) (s : List ℕ) where
   pub tells-long : long ≡ frontOf o s → Long o s
   tells-long e = subst (Tells o s) (sym e) tells
 
-  pub tells-whole : (n : ℕ) → whole n ≡ frontOf o s → Whole o s n
-  tells-whole n e = subst (Tells o s) (sym e) tells
+  pub tells-whole : (n : ℕ) (k : PacketClass) → whole n k ≡ frontOf o s → Whole o s n k
+  tells-whole n k e = subst (Tells o s) (sym e) tells
 
 -- ---- The packets of a run, from its front
 

@@ -1,11 +1,13 @@
 -- THE PROMISES of the public calls: what a contract says of the answer r, and that any two answers that it allows are equal. Of `buffer` that is `Lent` (`Reader.antt`). Assumes nothing.
-use mathlib.Core.Path.{_≡_, sym, _∙_}
+use mathlib.Core.Path.{_≡_, sym, ap, _∙_}
 use mathlib.Core.List.{List}
 use Prim.Native.Nat.{ℕ}
 use lib.ListN.{length}
-use Rattle.packet_reader.specs.Frame.{total}
+use Rattle.packet.specs.Class.{saysClass, class-one}
+use Rattle.packet_reader.specs.Frame.{Frame, frame}
 use Rattle.packet_reader.specs.Front.{frontOf, saysBegins, begins-one}
 use Rattle.packet_reader.specs.Reader.{made, capacity, unfilled, advanced, saysMade, saysCapacity, saysAdvanced, made-one, capacity-one, advanced-one}
+use Rattle.packet_reader.specs.declared.Framed.{Framed}
 use Rattle.packet_reader.specs.declared.Begins.{Begins}
 use Rattle.packet_reader.specs.declared.PacketReader.{PacketReader}
 use Rattle.packet_reader.specs.declared.Span.{Span}
@@ -13,13 +15,19 @@ use Rattle.packet_reader.specs.declared.Made.{Made}
 use Rattle.packet_reader.specs.declared.Capacity.{Capacity}
 use Rattle.packet_reader.specs.declared.Advanced.{Advanced}
 
--- `packet_length`
-module _ (code units : ℕ) where
-  abbrev pub Measures : ℕ → Type 0
-  Measures r = r ≡ total code units
+-- `frame`
+abbrev pub saysFramed : Framed → Frame
+saysFramed r = record { length = r .length; class = saysClass (r .class) }
 
-  pub measures-one : (a b : ℕ) → Measures a → Measures b → a ≡ b
-  measures-one a b x y = x ∙ sym y
+module _ (code units : ℕ) where
+  abbrev pub Frames : Framed → Type 0
+  Frames r = saysFramed r ≡ frame code units
+
+  pub frames-one : (a b : Framed) → Frames a → Frames b → a ≡ b
+  frames-one a b x y =
+      let e : saysFramed a ≡ saysFramed b = x ∙ sym y in
+      let k : a .class ≡ b .class = class-one _ _ (ap (λ (f : Frame). f .class) e) in
+      λ i. record { length = e i .length; class = k i }
 
 -- `front`
 module _ (order : ℕ) (bytes : List ℕ) where

@@ -4,14 +4,15 @@ use mathlib.Core.Bool.{Bool, not}
 use mathlib.Core.List.{List}
 use Prim.Native.Nat.{ℕ, _+_, _-_}
 use lib.Dec.{leb, ltb, eqb}
-use lib.ListN.{length}
+use lib.ListN.{length, take}
 use denote.Ref.{RefT}
 use Rattle.octets.specs.Logic.{choose, both}
 use Rattle.octets.specs.Bytes.{legal}
 use Rattle.octets.specs.Put.{cut}
 use Rattle.refusal.specs.Answer.{Answer, gives, refuses, refuse, decides}
 use Rattle.refusal.specs.Numbers.{numberOf, refusalOf, listed}
-use Rattle.packet.specs.Packet.{leastPacket, mostPacket}
+use Rattle.packet.specs.Packet.{leastPacket, mostPacket, PacketClass, packetClass}
+use Rattle.packet.specs.Class.{saysClass, classed, class-back}
 use Rattle.packet_reader.specs.Frame.{aim}
 use Rattle.packet_reader.specs.declared.PacketReader.{PacketReader}
 use Rattle.packet_reader.specs.declared.Span.{Span}
@@ -62,16 +63,16 @@ pub record Lent (r : PacketReader) (b p : RefT (List ℕ)) : Type 0 where
   pub shows : p .now ≡ part (unfilled r (b .now)) (b .now)
   pub stands : p .ptr ≡ (b .ptr .0, unfilled r (b .now) .start + b .ptr .1)
 
--- what a packet has come to
+-- what a packet has come to; a whole one is handed on with its class
 pub data Progress : Type 0 where
   waits : PacketReader → Progress
-  whole : ℕ → PacketReader → Progress
+  whole : ℕ → PacketClass → PacketReader → Progress
 
--- with n bytes filled: 2 where the packet is longer than the buffer; otherwise it waits for more, or is whole and the reader begins anew
+-- with n bytes filled: 2 where the packet is longer than the buffer; otherwise it waits for more, or is whole, of the class of those n bytes, and the reader begins anew
 unfoldable pub reached : ℕ → List ℕ → ℕ → Answer Progress
 reached o s n =
     refuse (ltb (length s) (aim o s n)) 2
-    (gives (choose (ltb n (aim o s n)) (waits (record { order = o; filled = n; target = aim o s n })) (whole (aim o s n) (fresh o))))
+    (gives (choose (ltb n (aim o s n)) (waits (record { order = o; filled = n; target = aim o s n })) (whole (aim o s n) (packetClass (take n s)) (fresh o))))
 
 -- `advance`: 9, 7 for more bytes than the part has, 2
 unfoldable pub advanced : PacketReader → List ℕ → ℕ → Answer Progress
@@ -89,7 +90,7 @@ saysCapacity (Capacity.Refused r) = refuses (numberOf r)
 
 abbrev pub saysAdvanced : Advanced → Answer Progress
 saysAdvanced (Advanced.NotYet r) = gives (waits r)
-saysAdvanced (Advanced.Packet n r) = gives (whole n r)
+saysAdvanced (Advanced.Packet n k r) = gives (whole n (saysClass k) r)
 saysAdvanced (Advanced.Refused r) = refuses (numberOf r)
 
 -- ---- laws
@@ -113,12 +114,12 @@ capacity-one = decides saysCapacity backCapacity (elim [ Capacity.Bytes n ↦ re
 
 backAdvanced : Answer Progress → Advanced
 backAdvanced (gives (waits r)) = Advanced.NotYet r
-backAdvanced (gives (whole n r)) = Advanced.Packet n r
+backAdvanced (gives (whole n k r)) = Advanced.Packet n (classed k) r
 backAdvanced (refuses n) = Advanced.Refused (refusalOf n)
 
 pub advanced-one : (a b : Advanced) → saysAdvanced a ≡ saysAdvanced b → a ≡ b
 unfolding backAdvanced
-advanced-one = decides saysAdvanced backAdvanced (elim [ Advanced.NotYet r ↦ refl | Advanced.Packet n r ↦ refl | Advanced.Refused r ↦ ap Advanced.Refused (listed r) ])
+advanced-one = decides saysAdvanced backAdvanced (elim [ Advanced.NotYet r ↦ refl | Advanced.Packet n k r ↦ ap (λ x. Advanced.Packet n x r) (class-back k) | Advanced.Refused r ↦ ap Advanced.Refused (listed r) ])
 
 -- Any two parts that `buffer` may lend show the same and stand in the same place.
 pub lent-one : {r : PacketReader} {b p q : RefT (List ℕ)} → Lent r b p → Lent r b q → (p .now ≡ q .now) × (p .ptr ≡ q .ptr)

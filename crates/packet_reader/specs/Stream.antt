@@ -11,6 +11,7 @@ use borrow.Author.Tests.{ltb-true, ltb-false, not-false}
 use Rattle.octets.specs.Logic.{choose}
 use Rattle.octets.specs.Put.{put, take-put}
 use Rattle.refusal.specs.Answer.{gives, gives-past, gives-rest}
+use Rattle.packet.specs.Packet.{PacketClass, packetClass}
 use Rattle.packet_reader.specs.Frame.{aim, cuts}
 use Rattle.packet_reader.specs.Reader.{Progress, waits, whole, fresh, reached, advanced}
 use Rattle.packet_reader.specs.Sound.{Sound, sound-is}
@@ -27,7 +28,7 @@ pub data Feeds : PacketReader → List ℕ → List (List ℕ) → List (List �
   done : {r : PacketReader} {s : List ℕ} → Feeds r s [] [] r s
   more : {r r₁ r₂ : PacketReader} {s s₂ x : List ℕ} {xs ps : List (List ℕ)} → advanced r (put s (r .filled) x) (length x) ≡ gives (waits r₁)
       → Feeds r₁ (put s (r .filled) x) xs ps r₂ s₂ → Feeds r s (x ∷ xs) ps r₂ s₂
-  packet : {r r₁ r₂ : PacketReader} {s s₂ x : List ℕ} {xs ps : List (List ℕ)} {t : ℕ} → advanced r (put s (r .filled) x) (length x) ≡ gives (whole t r₁)
+  packet : {r r₁ r₂ : PacketReader} {s s₂ x : List ℕ} {xs ps : List (List ℕ)} {t : ℕ} {k : PacketClass} → advanced r (put s (r .filled) x) (length x) ≡ gives (whole t k r₁)
       → Feeds r₁ (put s (r .filled) x) xs ps r₂ s₂ → Feeds r s (x ∷ xs) (take t (put s (r .filled) x) ∷ ps) r₂ s₂
 
 -- ---- what an answer tells
@@ -42,15 +43,15 @@ pub record Moved (r : PacketReader) (s : List ℕ) (n : ℕ) : Type 0 where
   pub within : n ≤ r .target - r .filled
   pub fits : aim (r .order) s (r .filled + n) ≤ length s
 
-of-waits : (b : Bool) (p q r : PacketReader) (t : ℕ) → waits r ≡ choose b (waits p) (whole t q) → (b ≡ true) × (p ≡ r)
+of-waits : (b : Bool) (p q r : PacketReader) (t : ℕ) (j : PacketClass) → waits r ≡ choose b (waits p) (whole t j q) → (b ≡ true) × (p ≡ r)
 unfolding choose
-of-waits true p q r t e = (refl, (cc))
-of-waits false p q r t e = absurd (let z : _≡_ {A = ℕ} 0 1 = cc in omega arith)
+of-waits true p q r t j e = (refl, (cc))
+of-waits false p q r t j e = absurd (let z : _≡_ {A = ℕ} 0 1 = cc in omega arith)
 
-of-whole : (b : Bool) (p q r : PacketReader) (t k : ℕ) → whole k r ≡ choose b (waits p) (whole t q) → (b ≡ false) × ((t ≡ k) × (q ≡ r))
+of-whole : (b : Bool) (p q r : PacketReader) (t u : ℕ) (j k : PacketClass) → whole u k r ≡ choose b (waits p) (whole t j q) → (b ≡ false) × ((t ≡ u) × (q ≡ r) × (k ≡ j))
 unfolding choose
-of-whole true p q r t k e = absurd (let z : _≡_ {A = ℕ} 0 1 = cc in omega arith)
-of-whole false p q r t k e = (refl, ((cc), (cc)))
+of-whole true p q r t u j k e = absurd (let z : _≡_ {A = ℕ} 0 1 = cc in omega arith)
+of-whole false p q r t u j k e = (refl, ((cc), (cc), (cc)))
 
 module _ (r : PacketReader) (s : List ℕ) (n : ℕ) where
   moved : {x : Progress} → gives x ≡ advanced r s n → Moved r s n
@@ -60,20 +61,24 @@ module _ (r : PacketReader) (s : List ℕ) (n : ℕ) where
       record { was = sound-is r s (not-false _ (gives-past _ _ _ e)); within = ltb-false _ _ (gives-past _ _ _ f); fits = ltb-false _ _ (gives-past _ _ _ g) }
 
   progress : {x : Progress} → gives x ≡ advanced r s n
-      → x ≡ choose (ltb (r .filled + n) (aim (r .order) s (r .filled + n))) (waits (grown r s n)) (whole (aim (r .order) s (r .filled + n)) (fresh (r .order)))
+      → x ≡ choose (ltb (r .filled + n) (aim (r .order) s (r .filled + n))) (waits (grown r s n)) (whole (aim (r .order) s (r .filled + n)) (packetClass (take (r .filled + n) s)) (fresh (r .order)))
   unfolding advanced reached
   progress e = let f = gives-rest _ _ _ (gives-rest _ _ _ (gives-rest _ _ _ e)) in cc
 
   pub from-more : (r₁ : PacketReader) → advanced r s n ≡ gives (waits r₁) → Moved r s n × ((r .filled + n < aim (r .order) s (r .filled + n)) × (grown r s n ≡ r₁))
-  from-more r₁ h = let p = of-waits _ _ _ _ _ (progress (sym h)) in (moved (sym h), (ltb-true _ _ (p .0), p .1))
+  from-more r₁ h = let p = of-waits _ _ _ _ _ _ (progress (sym h)) in (moved (sym h), (ltb-true _ _ (p .0), p .1))
 
-  pub from-packet : (r₁ : PacketReader) (t : ℕ) → advanced r s n ≡ gives (whole t r₁)
+  pub from-packet : (r₁ : PacketReader) (t : ℕ) {k : PacketClass} → advanced r s n ≡ gives (whole t k r₁)
       → Moved r s n × ((r .filled + n ≡ t) × ((aim (r .order) s (r .filled + n) ≡ t) × (fresh (r .order) ≡ r₁)))
   from-packet r₁ t h =
-      let p = of-whole _ _ _ _ _ _ (progress (sym h)) in
+      let p = of-whole _ _ _ _ _ _ _ _ (progress (sym h)) in
       let m = moved (sym h) in
       let f : aim (r .order) s (r .filled + n) ≤ r .filled + n = ltb-false _ _ (p .0) in
       (m, (omega (arith, p .1 .0, m .within, m .was .not-reached, m .was .target-given, aim-grows (r .order) s (r .filled) (r .filled + n) (omega arith)), (p .1 .0, p .1 .1)))
+
+  -- THE CLASS of a whole packet is that of the packet that is handed on.
+  pub class-handed : (r₁ : PacketReader) (t : ℕ) {k : PacketClass} → advanced r s n ≡ gives (whole t k r₁) → k ≡ packetClass (take t s)
+  class-handed r₁ t h = of-whole _ _ _ _ _ _ _ _ (progress (sym h)) .1 .2 ∙ ap (λ (m : ℕ). packetClass (take m s)) (from-packet r₁ t h .1 .0)
 
 -- ---- each state that is left is sound
 

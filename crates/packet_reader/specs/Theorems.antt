@@ -10,6 +10,7 @@ use borrow.Author.Tests.{ltb-true, ltb-false, le-ltb}
 use Rattle.octets.specs.Logic.{choose}
 use Rattle.octets.specs.Put.{put, length-put, take-put, take-put-before}
 use Rattle.refusal.specs.Answer.{Answer, gives, refuses, refuse}
+use Rattle.packet.specs.Packet.{PacketClass, packetClass}
 use Rattle.packet_reader.specs.Frame.{aim, Cut, cutPackets}
 use Rattle.packet_reader.specs.Reader.{Progress, waits, whole, fresh, reached, advanced}
 use Rattle.packet_reader.specs.Sound.{Sound, is-sound}
@@ -47,7 +48,7 @@ fed-sound {r} {s = s} (packet {r₁ = r₁} {x = x} {t = t} p q) h =
 -- What a piece that fits the lent part can come to: the reader goes on, soundly, or the packet is longer than the buffer.
 pub data Comes (r : PacketReader) (s x : List ℕ) : Answer Progress → Type 0 where
   goes-on : {r₁ : PacketReader} → Sound r₁ (put s (r .filled) x) → Comes r s x (gives (waits r₁))
-  ends : {t : ℕ} {r₁ : PacketReader} → Sound r₁ (put s (r .filled) x) → Comes r s x (gives (whole t r₁))
+  ends : {t : ℕ} {k : PacketClass} {r₁ : PacketReader} → Sound r₁ (put s (r .filled) x) → Comes r s x (gives (whole t k r₁))
   too-long : length s < aim (r .order) (take (r .filled) s ++ x) (r .filled + length x) → Comes r s x (refuses 2)
 
 module _ (r : PacketReader) (s x : List ℕ) (h : Sound r s) (k : length x ≤ r .target - r .filled) where
@@ -79,7 +80,7 @@ module _ (r : PacketReader) (s x : List ℕ) (h : Sound r s) (k : length x ≤ r
   t = aim (r .order) s' n
 
   by-tests : (b c : Bool) → ltb (length s') t ≡ b → ltb n t ≡ c
-      → Comes r s x (refuse b 2 (gives (choose c (waits (record { order = r .order; filled = n; target = t })) (whole t (fresh (r .order))))))
+      → Comes r s x (refuse b 2 (gives (choose c (waits (record { order = r .order; filled = n; target = t })) (whole t (packetClass (take n s')) (fresh (r .order))))))
   unfolding s' n t refuse choose
   by-tests true c p q =
       let b : r .filled + length x ≤ length s = bound in

@@ -1,27 +1,47 @@
-// The packet reader: how long a packet is, and a partial packet in a buffer that the caller lends.
+// The packet reader: how long a packet is and of which class, and a partial packet in a buffer that
+// the caller lends.
 //
 // A reader keeps how many bytes of the buffer are filled and how many the packet will have, as far
 // as the bytes so far tell: 32 at first, and once 32 are there the whole length. The caller puts
 // bytes into the part that `buffer` lends and counts them by `advance`, which says when a packet is
-// whole. Bytes past the filled ones mean nothing. The reader never writes the buffer itself. Where
-// whole packets already lie side by side, `front` says what stands first, with no buffer.
+// whole, and of which class it is. Bytes past the filled ones mean nothing. The reader never writes
+// the buffer itself. Where whole packets already lie side by side, `front` says what stands first,
+// with no buffer.
 ghost use mathlib.Core.Path.{_≡_};
 ghost use Prim.Native.Nat.{_≤_};
 ghost use lib.ListN.{length};
-ghost use Rattle.packet_reader.specs.Frame.{aim};
+ghost use Rattle.packet.specs.Class.{saysClass};
+ghost use Rattle.packet_reader.specs.Frame.{lengthAs, aim};
 ghost use Rattle.packet_reader.specs.Reader.{fresh as Reader·fresh, soundb, Lent};
-ghost use Rattle.packet_reader.specs.Promises.{Measures, Fronts, Makes, Remains, Lies, Advances};
+ghost use Rattle.packet_reader.specs.Promises.{Frames, Fronts, Makes, Remains, Lies, Advances};
+use packet::Class;
 use refusal::Refusal;
 
 // The most bytes that a buffer may have.
 pub const MOST_BUFFER: usize = packet::MOST_PACKET;
 
-// How many bytes a packet has that begins with code and whose 32-bit field at bytes 4 to 7 is
+// What the first bytes of a packet tell: how many bytes it has, and its class.
+pub struct Framed {
+    pub length: usize,
+    pub class: Class,
+}
+
+// The framing rule, for a packet that begins with code and whose 32-bit field at bytes 4 to 7 is
 // field.
-pub fn packet_length(code: u8, field: u32) -> usize
-    ensures { λ r. ⌜ Measures code field r ⌝ }
+pub fn frame(code: u8, field: u32) -> Framed
+    ensures { λ r. ⌜ Frames code field r ⌝ }
 {
-    if packet::has_length(code) {
+    let class = packet::class_of(code);
+    Framed {
+        length: length_as(class, field),
+        class: class,
+    }
+}
+
+fn length_as(class: Class, field: u32) -> usize
+    ensures { λ r. ⌜ r ≡ lengthAs (saysClass class) field ⌝ }
+{
+    if packet::has_length(class) {
         return packet::LEAST_PACKET + 4 * (field as usize);
     }
     packet::LEAST_PACKET
@@ -35,11 +55,11 @@ fn aim_of(order: u8, bytes: &[u8], filled: usize) -> usize
     if filled < packet::LEAST_PACKET {
         return packet::LEAST_PACKET;
     }
-    let code = bytes[0];
-    if !packet::has_length(code) {
+    let class = packet::class_of(bytes[0]);
+    if !packet::has_length(class) {
         return packet::LEAST_PACKET;
     }
-    packet_length(code, octets::get_u32(order, bytes, packet::LENGTH))
+    length_as(class, octets::get_u32(order, bytes, packet::LENGTH))
 }
 
 // Inside, for savepoints: how many bytes a packet will have of which these are there. An order other
@@ -54,12 +74,12 @@ pub fn wanted(order: u8, bytes: &[u8]) -> usize
 }
 
 // What a run of bytes begins with: it has none, or begins with a part of a packet, with a packet
-// that is longer than any may be, or with a whole one of so many bytes.
+// that is longer than any may be, or with a whole one of so many bytes and that class.
 pub enum Begins {
     Nothing,
     Part,
     Long,
-    Whole(usize),
+    Whole(usize, Class),
 }
 
 // Inside, for `batch` and `listing`: the order was tested, and no refusal is given here. One other
@@ -80,7 +100,7 @@ pub fn front(order: u8, bytes: &[u8]) -> Begins
     if bytes.len() < target {
         return Begins::Part;
     }
-    Begins::Whole(target)
+    Begins::Whole(target, packet::class_of(bytes[0]))
 }
 
 // A reader's state: byte order, bytes filled, and the bytes that the packet will have.
@@ -107,10 +127,10 @@ pub enum Capacity {
 }
 
 // What counting filled bytes comes to: the packet isn't whole yet, or it is, with so many bytes at
-// the start of the buffer, and the reader begins anew.
+// the start of the buffer and of that class, and the reader begins anew.
 pub enum Advanced {
     NotYet(PacketReader),
-    Packet(usize, PacketReader),
+    Packet(usize, Class, PacketReader),
     Refused(Refusal),
 }
 
@@ -191,7 +211,7 @@ impl PacketReader {
                 target: target,
             });
         }
-        Advanced::Packet(target, fresh(order))
+        Advanced::Packet(target, packet::class_of(buf[0]), fresh(order))
     }
 }
 

@@ -3,7 +3,7 @@ use mathlib.Core.Path.{_≡_}
 use mathlib.Core.Bool.{Bool}
 use mathlib.Core.List.{List, []}
 use Prim.Native.Nat.{ℕ, _+_}
-use lib.Dec.{ltb, eqb}
+use lib.Dec.{ltb}
 use lib.ListN.{length, getD}
 use Rattle.octets.specs.Logic.{choose, either}
 use Rattle.octets.specs.Put.{cut}
@@ -17,7 +17,8 @@ use Rattle.held.specs.declared.Found.the-variants as Found
 use Rattle.descriptors.specs.Room as Slots
 use Rattle.model.specs.Client.{Held, heldPacket}
 use Rattle.model.specs.Model as Model
-use Rattle.packet.specs.Packet.{errorCode}
+use Rattle.packet.specs.Packet.{PacketClass, classOf, isError}
+use Rattle.packet.specs.declared.Class.{Class}
 use Rattle.model.specs.Model.{Taken}
 use Rattle.model.specs.Reading.{Rooms, rooms, slotsOf}
 use Rattle.model.specs.Moved.{movedState}
@@ -40,9 +41,13 @@ moved x c r l d = record { value = x; state = movedState c (l .window) (d .count
 abbrev pub packetAt : List ℕ → Spot → List ℕ
 packetAt s p = cut (p .at + headerSize) (p .len) s
 
--- what is handed out of it, with so many descriptors
-abbrev pub handedAt : Spot → ℕ → Handed
-handedAt p fds = record { number = record { 0 = p .number }; length = p .len; descriptors = fds }
+-- its class
+abbrev pub classAt : List ℕ → Spot → PacketClass
+classAt s p = classOf (getD s (p .at + headerSize) 0)
+
+-- what is handed out of it, with that class and so many descriptors
+abbrev pub handedAt : Spot → Class → ℕ → Handed
+handedAt p class fds = record { number = record { 0 = p .number }; length = p .len; descriptors = fds; class = class }
 
 -- it is held with these descriptors
 abbrev pub heldAt : Rooms → Spot → List ℕ → Held
@@ -99,9 +104,8 @@ checkedExact c r n bytes = checkedFrom c r n bytes (foundReply n (c .window) (r 
 
 -- ---- `poll_for_reply`: the same, but an error becomes an event, which needs no output
 
--- the first byte of the packet at a place is an error's
 abbrev pub errorAt : Rooms → Spot → Bool
-errorAt r p = eqb (getD (r .store) (p .at + headerSize) 0) errorCode
+errorAt r p = isError (classAt (r .store) p)
 
 abbrev pub repliedFrom : Connection → Rooms → ℕ → Found → Answer (Done Model.PollReply)
 repliedFrom c r bytes Found.Nothing = gives (stays Model.tryAgain c r)

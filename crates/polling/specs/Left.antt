@@ -3,7 +3,6 @@ use mathlib.Core.Path.{_≡_, refl, sym, ap, _∙_}
 use mathlib.Core.List.{List, [], _∷_, _++_, map}
 use Prim.Native.Nat.{ℕ, _+_, _-_, _≤_}
 use native.Mathlib.Omega.{arith}
-use lib.Dec.{eqb}
 use lib.ListN.{length, take, drop, getD}
 use Rattle.octets.specs.Put.{cut, put-empty, length-cut}
 use Rattle.held.specs.Head as Head
@@ -17,7 +16,7 @@ use Rattle.descriptors.specs.Room as Slots
 use Rattle.descriptors.specs.Theorems as Fds
 use Rattle.model.specs.Client.{heldPacket, setReplies, setEvents}
 use Rattle.model.specs.Model as Model
-use Rattle.packet.specs.Packet.{errorCode}
+use Rattle.packet.specs.Packet.{classOf, isError}
 use Rattle.model.specs.Model.{find}
 use Rattle.model.specs.Reading.{Rooms, rooms, slotsOf, heldWith, withDescriptors, eventOf, reads}
 use Rattle.model.specs.ReadingLaws.{with-without, events-append}
@@ -166,7 +165,7 @@ module _ (c : Connection) (r : Rooms) (S : Sound c r) where
     -- its first byte in the store is its packet's
     pub same-error : errorAt r p ≡ Model.isError (replyAt c r p)
     same-error =
-        ap (λ (b : ℕ). eqb b errorCode) (Held.first-law (c .read) (c .window) (r .store) (parts .held) Head.reply p (F .before) it (F .after) (F .lies) .1
+        ap (λ (b : ℕ). isError (classOf b)) (Held.first-law (c .read) (c .window) (r .store) (parts .held) Head.reply p (F .before) it (F .after) (F .lies) .1
         ∙ ap (λ (l : List ℕ). getD l 0 0) (sym reply-packet))
 
     pub bytes-is : p .len ≡ length (replyAt c r p .packet)

@@ -4,11 +4,11 @@ use mathlib.Core.Bool.{Bool, true, false}
 use mathlib.Core.List.{List, [], _∷_}
 use Prim.Native.Nat.{ℕ, _+_, _≤_, _<_}
 use native.Mathlib.Omega.{arith}
-use lib.Dec.{ltb, eqb}
+use lib.Dec.{ltb}
 use lib.ListN.{length, getD}
-use borrow.Author.Tests.{lt-ltb, le-ltb, eq-eqb, ne-eqb}
+use borrow.Author.Tests.{lt-ltb, le-ltb}
 use Rattle.octets.specs.Logic.{choose, either}
-use Rattle.octets.specs.Put.{put, put-none, length-cut}
+use Rattle.octets.specs.Put.{put, put-none, getD-cut, length-cut}
 use Rattle.refusal.specs.Answer.{Answer, gives, refuses, given-refusal, past-refusal}
 use Rattle.refusal.specs.declared.Refusal.the-variants as Refusal
 use Rattle.held.specs.General.{choose-yes, choose-no}
@@ -18,7 +18,7 @@ use Rattle.held.specs.Rows.{fdsIn-append}
 use Rattle.held.specs.Find.{foundReply, foundEvent}
 use Rattle.held.specs.Moves.{Left, Leaves, Within, Takes, demoted, handed}
 use Rattle.held.specs.Lies.{FirstReply, FirstEvent, FindsReply, FindsEvent}
-use Rattle.held.specs.Theorems.{find-reply-law, find-event-law, place-law, first-law}
+use Rattle.held.specs.Theorems.{find-reply-law, find-event-law, place-law, fits-law, first-law}
 use Rattle.held.specs.declared.Window.{Window}
 use Rattle.held.specs.declared.Spot.{Spot}
 use Rattle.held.specs.declared.Found.the-variants as Found
@@ -27,7 +27,9 @@ use Rattle.descriptors.specs.Theorems.{length-holding}
 use Rattle.descriptors.specs.declared.Counts.{Counts}
 use Rattle.model.specs.Client.{heldPacket}
 use Rattle.model.specs.Model as Model
-use Rattle.packet.specs.Packet.{errorCode}
+use Rattle.packet.specs.Packet.{packetClass, classOf, isError}
+use Rattle.packet.specs.Class.{saysClass, class-is}
+use Rattle.packet.specs.declared.Class.{Class}
 use Rattle.model.specs.Reading.{Rooms, rooms, slotsOf}
 use Rattle.model.specs.Sound.{Ready}
 use Rattle.model.specs.Promise.{Done, Exact, answerOf, roomsOf, outputOf, exact-refused}
@@ -39,7 +41,7 @@ use Rattle.model.specs.declared.Polled.the-variants as Polled
 use Rattle.model.specs.declared.PollReply.the-variants as PollReply
 use Rattle.model.specs.declared.Event.the-variants as Event
 use Rattle.model.specs.Moved.{movedState}
-use Rattle.polling.specs.Exact.{stays, moved, packetAt, handedAt, eventAt, replyAt, without, turnedEvent, handingOut, closing, eventFrom, eventExact, takenFrom, takenExact, checkedFrom, checkedExact, errorAt, repliedFrom, repliedExact, EventStep, TakenStep, CheckedStep, RepliedStep}
+use Rattle.polling.specs.Exact.{stays, moved, packetAt, classAt, handedAt, eventAt, replyAt, without, turnedEvent, handingOut, closing, eventFrom, eventExact, takenFrom, takenExact, checkedFrom, checkedExact, errorAt, repliedFrom, repliedExact, EventStep, TakenStep, CheckedStep, RepliedStep}
 
 -- ---- outcomes
 
@@ -61,9 +63,17 @@ output-refused : {A : Type 0} (f : A → List ℕ) (e : Answer (Done A)) (out : 
 unfolding outputOf
 output-refused f e out n h = ap (λ k. outputOf f k out) h
 
--- what is handed out of a place is as much as its packet and its descriptors
-handed-is : (p : Spot) (packet fds : List ℕ) (k : ℕ) → p .len ≡ length packet → k ≡ length fds → handedAt p k ≡ handedWith (heldPacket (p .number) packet fds) (length fds)
-handed-is p packet fds k l n = λ j. record { number = record { 0 = p .number }; length = l j; descriptors = n j }
+-- what is handed out of a place is as much as its packet and its descriptors, and its packet's class
+pub class-here : (s : List ℕ) (p : Spot) → 0 < p .len → classAt s p ≡ packetClass (packetAt s p)
+class-here s p h =
+    let z : p .at + headerSize ≡ p .at + headerSize + 0 = omega arith in
+    ap (λ (n : ℕ). classOf (getD s n 0)) z ∙ ap classOf (sym (getD-cut s (p .at + headerSize) (p .len) 0 h))
+
+handed-is : (s : List ℕ) (p : Spot) (j : Class) (fds : List ℕ) (k : ℕ) → 0 < p .len → saysClass j ≡ classAt s p → p .len ≡ length (packetAt s p) → k ≡ length fds
+    → handedAt p j k ≡ handedWith (heldPacket (p .number) (packetAt s p) fds) (length fds)
+handed-is s p j fds k h e l n =
+    let q = class-is j (packetClass (packetAt s p)) (e ∙ class-here s p h) in
+    λ i. record { number = record { 0 = p .number }; length = l i; descriptors = n i; class = q i }
 
 -- ---- the oldest event
 
@@ -84,6 +94,12 @@ module _ (met : MetEvent) where
   pub event-within : Within (c .window) s p
   event-within = place-law (c .read) (c .window) s H event p [] (event-found .it) (event-found .after) (event-found .lies)
 
+  pub event-byte : p .at + headerSize < length s
+  event-byte = first-law (c .read) (c .window) s H event p [] (event-found .it) (event-found .after) (event-found .lies) .0
+
+  event-some : 0 < p .len
+  event-some = omega (arith, event-found .len, fits-law (c .read) (c .window) s H event p [] (event-found .it) (event-found .after) (event-found .lies) .least)
+
   module _ (out : List ℕ) where
     pub event-short : length out < p .len → EventStep c s out (Event.Refused Refusal.OutShort) s out
     unfolding eventExact
@@ -94,15 +110,15 @@ module _ (met : MetEvent) where
           output = λ q f. output-refused bytesOfTaken _ out 8 (z q f);
         }
 
-    pub event-taken : p .len ≤ length out → (w : Window) (s' out' : List ℕ) (h : Handed) (c' : Connection) → Takes (c .window) s p out w s' out' → h ≡ handedAt p 0 → c' ≡ movedState c w (c .counts)
+    pub event-taken : p .len ≤ length out → (w : Window) (s' out' : List ℕ) (j : Class) (h : Handed) (c' : Connection) → saysClass j ≡ classAt s p → Takes (c .window) s p out w s' out' → h ≡ handedAt p j 0 → c' ≡ movedState c w (c .counts)
         → EventStep c s out (Event.Packet h c') s' out'
     unfolding eventExact handed
-    event-taken h w s' out' x c' T i g =
+    event-taken h w s' out' j x c' J T i g =
         let d : List ℕ → List ℕ → Done Model.Taken = λ q f. moved (Model.packet (eventAt (rooms q s f) p)) c (rooms q s f) (without c (rooms q s f) p) (slotsOf c (rooms q s f)) in
         let z : (q f : List ℕ) → gives (d q f) ≡ eventExact c (rooms q s f) (length out) = λ q f. past-refusal _ _ _ (le-ltb (length out) (p .len) h) ∙ ap (eventFrom c (rooms q s f) (length out)) e in
         let l : p .len ≡ length (packetAt s p) = sym (length-cut (p .at + headerSize) (p .len) s (omega (arith, event-within .fits, event-within .within))) in
         record {
-          exact = λ q f. exact-as shownTaken _ (rooms q s f) (d q f) (Says.packet x) c' (rooms q s' f) (z q f) (ap Says.packet (i ∙ handed-is p (packetAt s p) [] 0 l refl))
+          exact = λ q f. exact-as shownTaken _ (rooms q s f) (d q f) (Says.packet x) c' (rooms q s' f) (z q f) (ap Says.packet (i ∙ handed-is s p j [] 0 event-some J l refl))
               (g ∙ ap (λ (v : Window). movedState c v (c .counts)) (T .left .window))
               (ap (λ (x : List ℕ). rooms q x f) (T .left .store));
           output = λ q f. output-as bytesOfTaken _ out out' (d q f) (z q f) (T .output);
@@ -140,6 +156,9 @@ module _ (met : MetReply) where
 
   pub reply-byte : p .at + headerSize < length s
   reply-byte = first-law (c .read) (c .window) s (R .held) reply p (reply-found .before) (reply-found .it) (reply-found .after) (reply-found .lies) .0
+
+  reply-some : 0 < p .len
+  reply-some = omega (arith, reply-found .len, fits-law (c .read) (c .window) s (R .held) reply p (reply-found .before) (reply-found .it) (reply-found .after) (reply-found .lies) .least)
 
   -- Its descriptors are among those held.
   pub reply-run : p .before + p .fds ≤ c .counts .held
@@ -189,15 +208,15 @@ module _ (met : MetReply) where
     pub taken-given : p .len ≤ length out → p .fds ≤ length fds → (w : Window) (n' : Counts) (s' f' out' fds' : List ℕ) (c' : Connection)
         → Takes (c .window) s p out w s' out'
         → Slots.Gives (Slots.handOut (p .before) (p .fds) (Slots.room f (c .counts))) (Slots.heldRun (p .before) (p .fds) (Slots.room f (c .counts))) fds (Slots.room f' n') fds'
-        → (x : Handed) → x ≡ handedAt p (p .fds) → c' ≡ movedState c w n' → TakenStep c n s f out fds (Polled.Packet x c') s' f' out' fds'
+        → (j : Class) → saysClass j ≡ classAt s p → (x : Handed) → x ≡ handedAt p j (p .fds) → c' ≡ movedState c w n' → TakenStep c n s f out fds (Polled.Packet x c') s' f' out' fds'
     unfolding takenExact handed either
-    taken-given h k w n' s' f' out' fds' c' T G x i g =
+    taken-given h k w n' s' f' out' fds' c' T G j J x i g =
         let d : List ℕ → Done Model.Taken = λ q. moved (Model.packet (replyAt c (rooms q s f) p)) c (rooms q s f) (without c (rooms q s f) p) (handingOut c (rooms q s f) p) in
         let b : either (ltb (length out) (p .len)) (ltb (length fds) (p .fds)) ≡ false = λ j. either (le-ltb (length out) (p .len) h j) (le-ltb (length fds) (p .fds) k j) in
         let z : (q : List ℕ) → gives (d q) ≡ takenExact c (rooms q s f) n (length out) (length fds) = λ q. past-refusal _ _ _ b ∙ ap (takenFrom c (rooms q s f) (length out) (length fds)) e in
         record {
           exact = λ q. exact-as shownTaken _ (rooms q s f) (d q) (Says.packet x) c' (rooms q s' f') (z q)
-              (ap Says.packet (i ∙ handed-is p (packetAt s p) (Slots.heldRun (p .before) (p .fds) (Slots.room f (c .counts))) (p .fds) packet-length run-length))
+              (ap Says.packet (i ∙ handed-is s p j (Slots.heldRun (p .before) (p .fds) (Slots.room f (c .counts))) (p .fds) reply-some J packet-length run-length))
               (state-left w _ _ n' f' s' c' (T .left) (G .left) g)
               (rooms-left q w _ _ n' f' s' (T .left) (G .left));
           output = λ q. output-as bytesOfTaken _ out out' (d q) (z q) (T .output);
@@ -217,14 +236,14 @@ module _ (met : MetReply) where
     pub checked-given : p .len ≤ length out → (w : Window) (n' : Counts) (s' f' out' : List ℕ) (c' : Connection)
         → Takes (c .window) s p out w s' out'
         → Slots.room f' n' ≡ Slots.closeHeld (p .before) (p .fds) (Slots.room f (c .counts))
-        → (x : Handed) → x ≡ handedAt p 0 → c' ≡ movedState c w n' → CheckedStep c n s f out (PollReply.Reply x c') s' f' out'
+        → (j : Class) → saysClass j ≡ classAt s p → (x : Handed) → x ≡ handedAt p j 0 → c' ≡ movedState c w n' → CheckedStep c n s f out (PollReply.Reply x c') s' f' out'
     unfolding checkedExact handed
-    checked-given h w n' s' f' out' c' T G x i g =
+    checked-given h w n' s' f' out' c' T G j J x i g =
         let d : List ℕ → Done Model.PollReply = λ q. moved (Model.reply (replyAt c (rooms q s f) p)) c (rooms q s f) (without c (rooms q s f) p) (closing c (rooms q s f) p) in
         let z : (q : List ℕ) → gives (d q) ≡ checkedExact c (rooms q s f) n (length out) =
         λ q. past-refusal _ _ _ (le-ltb (length out) (p .len) h) ∙ ap (checkedFrom c (rooms q s f) n (length out)) e in
         record {
-          exact = λ q. exact-as shownPoll _ (rooms q s f) (d q) (Says.reply x) c' (rooms q s' f') (z q) (ap Says.reply (i ∙ handed-is p (packetAt s p) [] 0 packet-length refl))
+          exact = λ q. exact-as shownPoll _ (rooms q s f) (d q) (Says.reply x) c' (rooms q s' f') (z q) (ap Says.reply (i ∙ handed-is s p j [] 0 reply-some J packet-length refl))
               (state-left w _ _ n' f' s' c' (T .left) G g)
               (rooms-left q w _ _ n' f' s' (T .left) G);
           output = λ q. output-as bytesOfPoll _ out out' (d q) (z q) (T .output);
@@ -232,21 +251,18 @@ module _ (met : MetReply) where
 
     -- ---- `poll_for_reply`
 
-    is-error : (b : ℕ) → b ≡ getD s (p .at + headerSize) 0 → b ≡ errorCode → (r : Rooms) → r .store ≡ s → errorAt r p ≡ true
-    is-error b x y r z = ap (λ (l : List ℕ). eqb (getD l (p .at + headerSize) 0) errorCode) z ∙ eq-eqb _ _ (sym x ∙ y)
+    as-error : (j : Class) (t : Bool) → saysClass j ≡ classAt s p → isError (saysClass j) ≡ t → (r : Rooms) → r .store ≡ s → errorAt r p ≡ t
+    as-error j t x y r z = ap (λ (l : List ℕ). isError (classAt l p)) z ∙ ap isError (sym x) ∙ y
 
-    no-error : (b : ℕ) → b ≡ getD s (p .at + headerSize) 0 → (b ≡ errorCode → ⊥) → (r : Rooms) → r .store ≡ s → errorAt r p ≡ false
-    no-error b x y r z = ap (λ (l : List ℕ). eqb (getD l (p .at + headerSize) 0) errorCode) z ∙ ne-eqb _ _ (λ k. y (x ∙ k))
-
-    pub replied-error : (b : ℕ) → b ≡ getD s (p .at + headerSize) 0 → b ≡ errorCode → (n' : Counts) (s' f' : List ℕ) (c' : Connection)
+    pub replied-error : (j : Class) → saysClass j ≡ classAt s p → isError (saysClass j) ≡ true → (n' : Counts) (s' f' : List ℕ) (c' : Connection)
         → s' ≡ demoted (c .window) s p
         → Slots.room f' n' ≡ Slots.closeHeld (p .before) (p .fds) (Slots.room f (c .counts))
         → c' ≡ movedState c (c .window) n' → RepliedStep c n s f out (PollReply.NoReply c') s' f' out
     unfolding repliedExact choose
-    replied-error b x y n' s' f' c' T G g =
+    replied-error j x y n' s' f' c' T G g =
         let d : List ℕ → Done Model.PollReply = λ q. moved Model.noReply c (rooms q s f) (turnedEvent c (rooms q s f) p) (closing c (rooms q s f) p) in
         let z : (q : List ℕ) → gives (d q) ≡ repliedExact c (rooms q s f) n (length out) =
-        λ q. sym (choose-yes (errorAt (rooms q s f) p) _ _ (is-error b x y (rooms q s f) refl)) ∙ ap (repliedFrom c (rooms q s f) (length out)) e in
+        λ q. sym (choose-yes (errorAt (rooms q s f) p) _ _ (as-error j true x y (rooms q s f) refl)) ∙ ap (repliedFrom c (rooms q s f) (length out)) e in
         record {
           exact = λ q. exact-as shownPoll _ (rooms q s f) (d q) Says.noReply c' (rooms q s' f') (z q) refl
               (g ∙ (λ k. movedState c (c .window) (G k .counts)))
@@ -254,24 +270,24 @@ module _ (met : MetReply) where
           output = λ q. output-none bytesOfPoll _ out (d q) (z q) refl;
         }
 
-    pub replied-short : (b : ℕ) → b ≡ getD s (p .at + headerSize) 0 → (b ≡ errorCode → ⊥) → length out < p .len → RepliedStep c n s f out (PollReply.Refused Refusal.OutShort) s f out
+    pub replied-short : (j : Class) → saysClass j ≡ classAt s p → isError (saysClass j) ≡ false → length out < p .len → RepliedStep c n s f out (PollReply.Refused Refusal.OutShort) s f out
     unfolding repliedExact choose
-    replied-short b x y h =
+    replied-short j x y h =
         let z : (q : List ℕ) → refuses 8 ≡ repliedExact c (rooms q s f) n (length out) =
-        λ q. given-refusal _ _ _ (lt-ltb (length out) (p .len) h) ∙ sym (choose-no (errorAt (rooms q s f) p) _ _ (no-error b x y (rooms q s f) refl)) ∙ ap (repliedFrom c (rooms q s f) (length out)) e in
+        λ q. given-refusal _ _ _ (lt-ltb (length out) (p .len) h) ∙ sym (choose-no (errorAt (rooms q s f) p) _ _ (as-error j false x y (rooms q s f) refl)) ∙ ap (repliedFrom c (rooms q s f) (length out)) e in
         record { exact = λ q. exact-refused shownPoll _ (rooms q s f) 8 (z q); output = λ q. output-refused bytesOfPoll _ out 8 (z q) }
 
-    pub replied-given : (b : ℕ) → b ≡ getD s (p .at + headerSize) 0 → (b ≡ errorCode → ⊥) → p .len ≤ length out → (w : Window) (n' : Counts) (s' f' out' : List ℕ) (c' : Connection)
+    pub replied-given : (j : Class) → saysClass j ≡ classAt s p → isError (saysClass j) ≡ false → p .len ≤ length out → (w : Window) (n' : Counts) (s' f' out' : List ℕ) (c' : Connection)
         → Takes (c .window) s p out w s' out'
         → Slots.room f' n' ≡ Slots.closeHeld (p .before) (p .fds) (Slots.room f (c .counts))
-        → (x : Handed) → x ≡ handedAt p 0 → c' ≡ movedState c w n' → RepliedStep c n s f out (PollReply.Reply x c') s' f' out'
+        → (k : Class) → saysClass k ≡ classAt s p → (v : Handed) → v ≡ handedAt p k 0 → c' ≡ movedState c w n' → RepliedStep c n s f out (PollReply.Reply v c') s' f' out'
     unfolding repliedExact handed choose
-    replied-given b x y h w n' s' f' out' c' T G v i g =
+    replied-given j x y h w n' s' f' out' c' T G k K v i g =
         let d : List ℕ → Done Model.PollReply = λ q. moved (Model.reply (replyAt c (rooms q s f) p)) c (rooms q s f) (without c (rooms q s f) p) (closing c (rooms q s f) p) in
         let z : (q : List ℕ) → gives (d q) ≡ repliedExact c (rooms q s f) n (length out) =
-        λ q. past-refusal _ _ _ (le-ltb (length out) (p .len) h) ∙ sym (choose-no (errorAt (rooms q s f) p) _ _ (no-error b x y (rooms q s f) refl)) ∙ ap (repliedFrom c (rooms q s f) (length out)) e in
+        λ q. past-refusal _ _ _ (le-ltb (length out) (p .len) h) ∙ sym (choose-no (errorAt (rooms q s f) p) _ _ (as-error j false x y (rooms q s f) refl)) ∙ ap (repliedFrom c (rooms q s f) (length out)) e in
         record {
-          exact = λ q. exact-as shownPoll _ (rooms q s f) (d q) (Says.reply v) c' (rooms q s' f') (z q) (ap Says.reply (i ∙ handed-is p (packetAt s p) [] 0 packet-length refl))
+          exact = λ q. exact-as shownPoll _ (rooms q s f) (d q) (Says.reply v) c' (rooms q s' f') (z q) (ap Says.reply (i ∙ handed-is s p k [] 0 reply-some K packet-length refl))
               (state-left w _ _ n' f' s' c' (T .left) G g)
               (rooms-left q w _ _ n' f' s' (T .left) G);
           output = λ q. output-as bytesOfPoll _ out out' (d q) (z q) (T .output);

@@ -13,6 +13,7 @@ use model::Handed;
 use model::PollReply;
 use model::Polled;
 use model::moved;
+use packet::Class;
 use refusal::Refusal;
 use sequence::SequenceNumber;
 ghost use mathlib.Core.Path.{_≡_};
@@ -32,9 +33,10 @@ pub fn poll_for_event(c: Connection, store: &mut [u8], out: &mut [u8]) -> Event
             if out.len() < len {
                 return Event::Refused(Refusal::OutShort);
             }
-            let next = held::take(store, window, place, out);
-            let handed = handed_out(place, 0);
-            Event::Packet(handed, moved(c, next, c.counts))
+            let taken = held::take(store, window, place, out);
+            let class = taken.class;
+            let event = handed_out(place, class, 0);
+            Event::Packet(event, moved(c, taken.window, c.counts))
         }
         Found::Nothing => Event::Nothing(c),
     }
@@ -66,9 +68,10 @@ pub fn poll_for_reply_or_error(
                 return Polled::Refused(Refusal::OutShort);
             }
             let rest = descriptors::hand_out(slots, counts, place.before, n, fds);
-            let next = held::take(store, window, place, out);
-            let handed = handed_out(place, n);
-            Polled::Packet(handed, moved(c, next, rest))
+            let taken = held::take(store, window, place, out);
+            let class = taken.class;
+            let handed = handed_out(place, class, n);
+            Polled::Packet(handed, moved(c, taken.window, rest))
         }
         Found::Nothing => Polled::Nothing(c),
     }
@@ -96,9 +99,10 @@ pub fn poll_check(
             }
             let n = place.fds as usize;
             let rest = descriptors::close_held(slots, counts, place.before, n);
-            let next = held::take(store, window, place, out);
-            let handed = handed_out(place, 0);
-            PollReply::Reply(handed, moved(c, next, rest))
+            let taken = held::take(store, window, place, out);
+            let class = taken.class;
+            let handed = handed_out(place, class, 0);
+            PollReply::Reply(handed, moved(c, taken.window, rest))
         }
         Found::Nothing => {
             if number < c.read {
@@ -127,7 +131,7 @@ pub fn poll_for_reply(
         Found::At(place) => {
             let len = place.len;
             let n = place.fds as usize;
-            if held::first_byte(store, place) == packet::ERROR {
+            if packet::is_error(held::class_at(store, place.at)) {
                 let rest = descriptors::close_held(slots, counts, place.before, n);
                 held::demote(store, window, place);
                 return PollReply::NoReply(moved(c, window, rest));
@@ -136,21 +140,24 @@ pub fn poll_for_reply(
                 return PollReply::Refused(Refusal::OutShort);
             }
             let rest = descriptors::close_held(slots, counts, place.before, n);
-            let next = held::take(store, window, place, out);
-            let handed = handed_out(place, 0);
-            PollReply::Reply(handed, moved(c, next, rest))
+            let taken = held::take(store, window, place, out);
+            let class = taken.class;
+            let handed = handed_out(place, class, 0);
+            PollReply::Reply(handed, moved(c, taken.window, rest))
         }
         Found::Nothing => PollReply::TryAgain(c),
     }
 }
 
-// What is handed out of the record at a place, with so many descriptors.
-fn handed_out(place: Spot, fds: usize) -> Handed
-    ensures { λ r. ⌜ r ≡ handedAt place fds ⌝ }
+// What is handed out of the record at a place, whose packet has that class, with so many
+// descriptors.
+fn handed_out(place: Spot, class: Class, fds: usize) -> Handed
+    ensures { λ r. ⌜ r ≡ handedAt place class fds ⌝ }
 {
     Handed {
         number: SequenceNumber(place.number),
         length: place.len,
         descriptors: fds,
+        class: class,
     }
 }

@@ -112,6 +112,9 @@ fn command(
         script::STOP => {
             return stopping(state, bytes);
         }
+        script::CLASSES => {
+            return classing(state, bytes);
+        }
         _ => {
             let next = named(state, place, bytes);
             return call(next, op, requests, store, slots, bytes);
@@ -159,6 +162,14 @@ fn stopping(state: State, bytes: &mut [u8]) -> State {
     checks.stop = true;
     let a = text::word(bytes, state.waiting, b"stop ok");
     at(with_checks(state, checks), a)
+}
+
+// ---- `classes`
+
+// How packets are shown is no state: it is kept with the text.
+fn classing(state: State, bytes: &mut [u8]) -> State {
+    text::show_classes(bytes);
+    at(state, text::word(bytes, state.waiting, b"classes ok"))
 }
 
 // ---- `new`

@@ -18,7 +18,7 @@ use Rattle.connect.specs.Handshake as Handshake
 use Rattle.connect.specs.declared.handshake.Connect.{Connect}
 use Rattle.id_allocator.specs.Ids as Ids
 use Rattle.id_allocator.specs.declared.IdAllocator.{IdAllocator}
-use Rattle.rows.specs.State.{connectionSlots, threeSlots, fits, fits-long, fits-zeros, connectionAt, connectionOf, connection-on, connectionRow, elements, is-elements, sentRow, byteRow, row, readerOf, readerRow, handshakeOf, handshakeRow, idsOf, idsRow}
+use Rattle.rows.specs.State.{connectionSlots, threeSlots, fits, fits-long, fits-zeros, connectionAt, connectionOf, connection-on, connectionRow, elements, is-elements, keptRow, sentRow, byteRow, row, readerOf, readerRow, handshakeOf, handshakeRow, idsOf, idsRow}
 
 -- ---- A state that is put into a row is read back from it, whatever stood there.
 
@@ -37,6 +37,14 @@ handshake-back s x l q = rw (is-elements threeSlots s l) (simp (lt-ltb _ _ q))
 pub ids-back : (s : List ℕ) (x : IdAllocator) → length s ≡ threeSlots → idsOf (idsRow s x) ≡ x
 unfolding row idsOf choose elements
 ids-back s x l = rw (is-elements threeSlots s l)
+
+-- ---- What a call leaves is put into the row that the state was read from by writing twelve numbers,
+
+pub kept-row : (s : List ℕ) (c : Connection) → fits s ≡ true → keptRow s c ≡ connectionRow s c
+unfolding keptRow connectionRow choose elements
+kept-row s c h =
+    let z = fits-zeros s h in
+    rw (is-elements connectionSlots s (fits-long s h .0)) (simp (z .0, z .1, z .2, z .3))
 
 -- ---- What a send leaves is put into the row that the state was read from by writing two numbers.
 

@@ -12,6 +12,7 @@ pub use state::ids;
 pub use state::put_connection;
 pub use state::put_handshake;
 pub use state::put_ids;
+pub use state::put_kept;
 pub use state::put_reader;
 pub use state::put_sent;
 pub use state::reader;

@@ -7,7 +7,8 @@ use lib.ListN.{replicate}
 use Rattle.octets.specs.Logic.{both, either, choose}
 use Rattle.octets.specs.Bytes.{legal, lowBytes, turned, bytesOf}
 use Rattle.octets.specs.Field.{field}
-use Rattle.packet_reader.specs.Frame.{aim, total, totalOf}
+use Rattle.packet.specs.Packet.{wasSent, classOf}
+use Rattle.packet_reader.specs.Frame.{lengthAs, totalOf, aim}
 use Rattle.packet_reader.specs.Reader as Reader
 use Rattle.id_allocator.specs.Ids as Ids
 use Rattle.requests.specs.Room.{byteOf, putRequest}
@@ -47,7 +48,7 @@ worked = record {
 }
 
 pub worked-sound : sound worked ≡ true
-unfolding sound inRange inNumbers heldFits neverFall soundPartial each both either choose legal costs aim total totalOf Reader.room Ids.sound Ids.powerBelow
+unfolding sound inRange inNumbers heldFits neverFall soundPartial each both either choose legal costs aim lengthAs classOf wasSent totalOf Reader.room Ids.sound Ids.powerBelow
 worked-sound = refl
 
 -- its bytes, a line of the page to a line

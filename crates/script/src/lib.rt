@@ -18,6 +18,7 @@ pub use input::stop;
 pub use line::fds;
 pub use names::ADVANCE;
 pub use names::BAD;
+pub use names::CLASSES;
 pub use names::DISCARD;
 pub use names::DRAIN;
 pub use names::EXPECT;
@@ -127,7 +128,10 @@ fn rest(code: u8, input: &mut [u8], start: usize, end: usize) -> Op {
             return line::read(code, text::cut(input, start, end));
         }
         names::FULL => {
-            return line::full(code, text::cut(input, start, end));
+            return line::fixed(code, b"full", text::cut(input, start, end));
+        }
+        names::ON => {
+            return line::fixed(code, b"on", text::cut(input, start, end));
         }
         names::LINE => {
             return make(code, start as u64, end as u64, 0);

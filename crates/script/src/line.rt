@@ -49,10 +49,10 @@ fn last(op: Op, whole: bool, word: u64) -> Op {
     if whole { op } else { bad(text::up(word)) }
 }
 
-// The word `full`, and nothing behind it.
-pub(crate) fn full(code: u8, rest: &[u8]) -> Op {
+// That word, and nothing behind it.
+pub(crate) fn fixed(code: u8, word: &[u8], rest: &[u8]) -> Op {
     let end = words::end(rest, 0);
-    if !words::same(text::cut(rest, 0, end), b"full") {
+    if !words::same(text::cut(rest, 0, end), word) {
         return bad(2);
     }
     last(make(code, 1, 0, 0), end == rest.len(), 2)

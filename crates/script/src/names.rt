@@ -52,22 +52,24 @@ pub const RESTORE: u8 = 23;
 
 pub const ADVANCE: u8 = 24;
 
-pub const HADVANCE: u8 = 25;
+pub const CLASSES: u8 = 25;
 
-pub const POLL_EVENT: u8 = 26;
+pub const HADVANCE: u8 = 26;
 
-pub const POLL_REPLY: u8 = 27;
+pub const POLL_EVENT: u8 = 27;
 
-pub const POLL_CHECK: u8 = 28;
+pub const POLL_REPLY: u8 = 28;
 
-pub const POLL_REPLY_OR_ERROR: u8 = 29;
+pub const POLL_CHECK: u8 = 29;
+
+pub const POLL_REPLY_OR_ERROR: u8 = 30;
 
 // A line that cannot be read; an empty line or a remark; and `send` with a count.
-pub const BAD: u8 = 30;
+pub const BAD: u8 = 31;
 
-pub const NOTHING: u8 = 31;
+pub const NOTHING: u8 = 32;
 
-pub const SENDMANY: u8 = 32;
+pub const SENDMANY: u8 = 33;
 
 // Whether it is one of the reader, the handshake and the ids.
 pub fn is_leaf(code: u8) -> bool {
@@ -124,7 +126,7 @@ fn of(name: &[u8]) -> u8 {
         }
         7 => {
             return among(
-                b"prepare discard sendall feedall restore advance",
+                b"prepare discard sendall feedall restore advance classes",
                 name,
                 PREPARE,
             );
@@ -157,8 +159,8 @@ fn among(row: &[u8], name: &[u8], first: u8) -> u8 {
 }
 
 // How what stands behind a name is read: as hex digits, as kinds of requests, as descriptors, as a
-// number, or as words of several kinds; there is nothing; it is a line of any bytes; or the word
-// `full`, or nothing.
+// number, or as words of several kinds; there is nothing; it is a line of any bytes; the word `full`,
+// or nothing; or the word `on`.
 pub(crate) const DIGITS: u8 = 0;
 
 pub(crate) const KINDS: u8 = 1;
@@ -175,6 +177,8 @@ pub(crate) const LINE: u8 = 6;
 
 pub(crate) const FULL: u8 = 7;
 
+pub(crate) const ON: u8 = 8;
+
 pub(crate) fn rest_of(code: u8) -> u8 {
     match code {
         INTAKE | FILL | FEED | FEEDIN | HFILL | FEEDALL | RESTORE => DIGITS,
@@ -183,6 +187,7 @@ pub(crate) fn rest_of(code: u8) -> u8 {
         POLL_REPLY | POLL_CHECK | POLL_REPLY_OR_ERROR | PREPARE | ADVANCE | HADVANCE => NUMBER,
         SEND | DISCARD | NEW | IDS | RANGE => WORDS,
         STATE => FULL,
+        CLASSES => ON,
         EXPECT => LINE,
         _ => EMPTY,
     }

@@ -1,6 +1,7 @@
 -- WRONG ENGINES that the promises shut out, whatever the code. Each theorem takes answers that the promise of a call allows, and says what they are not. Assumes nothing.
 use mathlib.Core.List.{List, [], _∷_}
 use mathlib.Core.Path.{_≡_, refl, sym, ap, _∙_}
+use mathlib.Core.Bool.{false}
 use Prim.Native.Nat.{ℕ}
 use native.Mathlib.Omega.{arith}
 use lib.ListN.{replicate}
@@ -8,6 +9,7 @@ use Rattle.octets.specs.Logic.{both, either}
 use Rattle.octets.specs.Bytes.{legal}
 use Rattle.refusal.specs.Answer.{Answer, gives, refuses, gives-same}
 use Rattle.requests.specs.Room.{capacity}
+use Rattle.packet.specs.Packet as Packet
 use Rattle.model.specs.Client.{Client, heldPacket, setNumbers, setOutstanding, setEvents}
 use Rattle.model.specs.Model.{roomy, fresh, joining, Filing, sendRequest, enqueuePacket}
 use Rattle.model.specs.Reading.{Rooms, rooms, reads}
@@ -41,7 +43,7 @@ abbrev event : ℕ → List ℕ
 event wire = packetOf 2 0 wire
 
 abbrev filedAs : ℕ → Filing
-filedAs n = record { place = Events; number = n }
+filedAs n = record { place = Events; number = n; class = Packet.event false }
 
 -- after a request, and then after an event of the number n
 abbrev asked : Client

@@ -11,8 +11,9 @@ use Rattle.octets.specs.Bytes.{bytesOf, numberIn, lowBytes, lowNumber, turned}
 use Rattle.octets.specs.Put.{cut}
 use Rattle.octets.specs.Field.{field}
 use Rattle.sequence.specs.Numbering.{full, inRange}
-use Rattle.packet.specs.Packet.{hasLength, unnumbered, numberAfter}
-use Rattle.packet_reader.specs.Frame.{total, totalOf, aim, cuts, cutPackets}
+use Rattle.packet.specs.Packet as Packet
+use Rattle.packet.specs.Packet.{wasSent, classOf, unnumbered, numberAfter, packetClass}
+use Rattle.packet_reader.specs.Frame.{lengthAs, totalOf, aim, cuts, cutPackets}
 use Rattle.model.specs.Client.{Held, Client, heldPacket, costs, setNumbers, setEvents}
 use Rattle.model.specs.Model as Model
 use Rattle.model.specs.Batch.{many, onTurn, refused, notes}
@@ -32,7 +33,7 @@ event code wire = code ∷ 0 ∷ (bytesOf 108 2 wire ++ replicate 28 0)
 
 -- an event that was taken, with its true number and the engine's
 abbrev taken : ℕ → List ℕ → ℕ → Entry
-taken t p n = took t p (record { place = Events; number = n })
+taken t p n = took t p (record { place = Events; number = n; class = packetClass p })
 
 -- so many requests were sent
 abbrev asked : ℕ → Client
@@ -40,11 +41,11 @@ asked n = setNumbers (Model.fresh 108 4 500) (record { written = n; expected = 0
 
 -- true numbers 70, 80, 85 and 90 of a run of four events, of which those of codes 11 and 139 carry no number; the engine reads 1 and 2 from the wire
 pub fed : noteFed (70 ∷ 80 ∷ 85 ∷ 90 ∷ []) (asked 2) (event 2 1 ++ (event 11 0 ++ (event 139 5 ++ event 3 2))) (gives (tt {0})) [] ≡ taken 90 (event 3 2) 2 ∷ taken 70 (event 2 1) 1 ∷ []
-unfolding noteFed notes notePacket tookOf noteTook enqueuePackets cutPackets cuts aim totalOf total hasLength field numberIn cut lowNumber turned bytesOf lowBytes choose both either many onTurn modelTook stopAt Model.enqueuePacket numberAfter unnumbered inRange full Model.numbered Model.askedOf Model.headOf Model.placeOf Model.claimed Model.takeIn Model.decide Model.ahead Model.decideBy costs refuse pass
+unfolding noteFed notes notePacket tookOf noteTook enqueuePackets cutPackets cuts aim totalOf lengthAs classOf wasSent field numberIn cut lowNumber turned bytesOf lowBytes choose both either many onTurn modelTook stopAt Model.enqueuePacket numberAfter unnumbered inRange full Model.numbered Model.askedOf Model.headOf Model.placeOf Model.claimed Model.takeIn Model.decide Model.ahead Model.decideBy costs refuse pass
 fed = refl
 
 -- a packet alone, taken and refused
-pub alone : (noteTook 70 (event 2 1) (gives (record { place = Events; number = 1 }, tt {0})) [] ≡ taken 70 (event 2 1) 1 ∷ []) × (noteTook {A = Unit {0}} 70 (event 2 1) (refuses 5) [] ≡ [])
+pub alone : (noteTook 70 (event 2 1) (gives (record { place = Events; number = 1; class = packetClass (event 2 1) }, tt {0})) [] ≡ taken 70 (event 2 1) 1 ∷ []) × (noteTook {A = Unit {0}} 70 (event 2 1) (refuses 5) [] ≡ [])
 unfolding noteTook unnumbered choose either bytesOf lowBytes turned
 alone = (refl, refl)
 
@@ -65,9 +66,9 @@ afterSeven = setEvents (setNumbers (Model.fresh 108 4 500) (record { written = 7
 
 -- it is filed under its true number where that is 7, and not where it is 8
 pub filings : FiledAll (asked 7) (bringing 7 ∷ []) afterSeven × (FiledAll (asked 7) (bringing 8 ∷ []) afterSeven → ⊥)
-unfolding Model.enqueuePacket numberAfter unnumbered inRange full field numberIn cut lowNumber turned bytesOf lowBytes choose both either Model.numbered Model.askedOf Model.headOf Model.placeOf Model.claimed Model.takeIn Model.decide Model.ahead Model.decideBy costs refuse pass
+unfolding Model.enqueuePacket numberAfter unnumbered classOf wasSent inRange full field numberIn cut lowNumber turned bytesOf lowBytes choose both either Model.numbered Model.askedOf Model.headOf Model.placeOf Model.claimed Model.takeIn Model.decide Model.ahead Model.decideBy costs refuse pass
 filings = (
-  ((record { place = Events; number = 7 }, afterSeven), refl, λ e. record { number = refl; last-read = refl; record-is = (refl, refl) }, refl),
+  ((record { place = Events; number = 7; class = Packet.event false }, afterSeven), refl, λ e. record { number = refl; last-read = refl; record-is = (refl, refl) }, refl),
   λ k. let z : k .0 .0 .number ≡ 7 = ap (λ y. y .0 .number) (gives-same (k .1)) in omega (arith, z, k .2 refl .number),
 )
 

@@ -14,13 +14,14 @@ use Rattle.octets.specs.Put.{put}
 use Rattle.requests.specs.Room.{capacity}
 use Rattle.refusal.specs.Answer.{Answer, gives, refuses, refuse, pass, gives-same, past-refusal}
 use Rattle.model.specs.Client.{Client, inside}
-use Rattle.packet.specs.Packet.{hasLength}
+use Rattle.packet.specs.Packet as Packet
+use Rattle.packet.specs.Packet.{wasSent, classOf, PacketClass}
 use Rattle.id_allocator.specs.Ids as Ids
 use Rattle.id_allocator.specs.declared.IdAllocator.{IdAllocator}
 use Rattle.packet_reader.specs.Reader as Reader
 use Rattle.packet_reader.specs.Sound as ReaderSound
 use Rattle.packet_reader.specs.declared.PacketReader.{PacketReader}
-use Rattle.packet_reader.specs.Frame.{total, totalOf, aim, cuts, cutPackets}
+use Rattle.packet_reader.specs.Frame.{lengthAs, totalOf, aim, cuts, cutPackets}
 use Rattle.model.specs.Model.{roomy, fresh, Filing}
 use Rattle.model.specs.Batch.{many, onTurn, modelTurn, notes}
 use Rattle.model.specs.Feed.{modelTook}
@@ -231,11 +232,11 @@ aLast = record { true-number = 2; bytes = packetOf 3 0 2 }
 abbrev server : List Packet
 server = anEvent ∷ aKeymap ∷ aSent ∷ aReply ∷ aLast ∷ []
 
-abbrev filed : Place → ℕ → Filing
-filed place n = record { place = place; number = n }
+abbrev filed : Place → ℕ → PacketClass → Filing
+filed place n k = record { place = place; number = n; class = k }
 
 abbrev witnessLog : List Entry
-witnessLog = sent true ∷ took 2 (aLast .bytes) (filed Events 2) ∷ took 2 (aReply .bytes) (filed Replies 2) ∷ took 0 (anEvent .bytes) (filed Events 0) ∷ sent true ∷ sent false ∷ []
+witnessLog = sent true ∷ took 2 (aLast .bytes) (filed Events 2 (Packet.event false)) ∷ took 2 (aReply .bytes) (filed Replies 2 Packet.reply) ∷ took 0 (anEvent .bytes) (filed Events 0 (Packet.event false)) ∷ sent true ∷ sent false ∷ []
 
 -- a run of bytes, and outputs of so many places
 abbrev zeros : ℕ → List ℕ
@@ -255,7 +256,7 @@ lastRun = aReply .bytes ++ aLast .bytes
 
 -- the session, with a step more while those three are held: any that leaves it as it is read
 witness-with : ((l : List Entry) (m : Client) → m .most-requests ≡ 4 → m .most-bytes ≡ 150 → inside m ≡ 0 → Reached server (aReply ∷ aLast ∷ []) m l → Reached server (aReply ∷ aLast ∷ []) m l) → (m : Client) × Reached server [] m witnessLog
-unfolding computing shown next tookOne tookMany noteSends sentAll noteFed notes notePacket tookOf enqueuePackets cutPackets cuts aim totalOf total hasLength many onTurn modelTook stopAt sendTurn sendRequests pollForEvents handed orRefused eventTurn handing modelTurn roomFor turns every
+unfolding computing shown next tookOne tookMany noteSends sentAll noteFed notes notePacket tookOf enqueuePackets cutPackets cuts aim totalOf lengthAs classOf wasSent many onTurn modelTook stopAt sendTurn sendRequests pollForEvents handed orRefused eventTurn handing modelTurn roomFor turns every
 witness-with a-step = (
   _,
   on server [] [] _ (send-request ReplyWithoutFds) _ tt refl

@@ -1,4 +1,6 @@
 // What calls answer, as it is written.
+use super::classes;
+use super::classes::NO_CLASS;
 use refusal::Refusal;
 
 // Words of at most eight letters as numbers, the first letter lowest.
@@ -36,7 +38,8 @@ pub const REPLY: u64 = 0x796c706572;
 
 // A word and, if it is counted, a number; another word with its number; the number of the refusal
 // that stopped it; and a packet, so many bytes of the run from an index on. What is 0 isn't written,
-// and each part that is has a blank before it.
+// and each part that is has a blank before it. The last is the number of a packet's class, or that of
+// none, which `class` writes.
 pub struct Answer {
     pub word: u64,
     pub counted: bool,
@@ -46,6 +49,7 @@ pub struct Answer {
     pub stop: u8,
     pub from: usize,
     pub len: usize,
+    pub class: u64,
 }
 
 pub fn say(word: u64) -> Answer {
@@ -58,6 +62,7 @@ pub fn say(word: u64) -> Answer {
         stop: 0,
         from: 0,
         len: 0,
+        class: NO_CLASS,
     }
 }
 
@@ -94,6 +99,12 @@ pub fn shown(word: u64, from: usize, len: usize) -> Answer {
     answer
 }
 
+pub fn classed(word: u64, class: u64) -> Answer {
+    let mut answer = say(word);
+    answer.class = class;
+    answer
+}
+
 pub fn whether(yes: bool) -> Answer {
     if yes { say(TRUE) } else { say(FALSE) }
 }
@@ -103,7 +114,8 @@ pub fn tell(out: &mut [u8], waiting: usize, answer: Answer) -> usize {
     let b = numbered(out, a, answer.counted, answer.n);
     let c = item(out, b, answer.also, answer.m);
     let d = item(out, c, stopped(answer.stop), answer.stop as u64);
-    bytes(out, d, answer.from, answer.len)
+    let e = bytes(out, d, answer.from, answer.len);
+    classes::class(out, e, answer.class)
 }
 
 // The word before the number of a refusal, where there is one.

@@ -6,6 +6,7 @@
 // waits, and the text goes on behind it, so that the last answer still stands there. Behind a write
 // that failed nothing is written. Packets that are shown stand in the same run, somewhere before.
 mod answers;
+mod classes;
 mod notes;
 mod run;
 
@@ -30,17 +31,21 @@ pub use answers::SENT;
 pub use answers::TRUE;
 pub use answers::also;
 pub use answers::both;
+pub use answers::classed;
 pub use answers::count;
 pub use answers::refusal;
 pub use answers::say;
 pub use answers::shown;
 pub use answers::tell;
 pub use answers::whether;
+pub use classes::NO_CLASS;
+pub use classes::class;
 use libc::STDERR_FILENO;
 use libc::STDOUT_FILENO;
 pub use notes::NOTES;
 pub use notes::failed;
 pub use notes::parted;
+pub use notes::show_classes;
 pub use run::behind;
 pub use run::cut;
 pub use run::up;
@@ -49,8 +54,9 @@ pub use run::up;
 pub const START: usize = NOTES + 32;
 
 // Free bytes before an answer: more than the longest that is compared and a verdict take, and more
-// than a `feed` with all that its reader can hold, 270,464.
-const FREE: usize = 278528;
+// than a `feed` with all that its reader can hold, 290,948: 134 before the packets, 262,142 digits,
+// and 14 for the blank and the class of each of 2,048 packets.
+const FREE: usize = 294912;
 
 pub fn word(out: &mut [u8], waiting: usize, text: &[u8]) -> usize {
     let end = out.len();

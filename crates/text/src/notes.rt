@@ -1,6 +1,7 @@
 // What is known of the text, in the bytes before it: up to where it is written; where the last answer
-// begins and ends; whether a write failed; and whether the start of the last answer is gone. At first
-// all are 0, and places are counted from where the text begins.
+// begins and ends; whether a write failed; whether the start of the last answer is gone; and whether
+// packets are shown with their classes. At first all are 0, and places are counted from where the text
+// begins.
 use octets::LITTLE;
 
 pub const NOTES: usize = 2753540;
@@ -14,6 +15,8 @@ pub(crate) const END: usize = NOTES + 16;
 const FAILED: usize = NOTES + 24;
 
 const PARTED: usize = NOTES + 25;
+
+const CLASSES: usize = NOTES + 26;
 
 // The place that a note has.
 pub(crate) fn place(out: &[u8], note: usize) -> usize {
@@ -72,4 +75,13 @@ pub fn parted(out: &[u8]) -> bool {
 
 pub(crate) fn part(out: &mut [u8], yes: bool) {
     set(out, PARTED, yes);
+}
+
+pub(crate) fn shows_classes(out: &[u8]) -> bool {
+    is_set(out, CLASSES)
+}
+
+// From here on packets are shown with their classes.
+pub fn show_classes(out: &mut [u8]) {
+    set(out, CLASSES, true);
 }

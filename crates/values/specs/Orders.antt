@@ -17,8 +17,8 @@ use Rattle.id_allocator.specs.Ids.{powerBelow, sound, noIds, generated, updated
 use Rattle.id_allocator.specs.declared.IdAllocator.{IdAllocator}
 use Rattle.xc_misc.specs.Requests.{roomFor}
 use Rattle.xc_misc.specs.Replies.{listOf, reaches, unitsChecked, replyChecked, listChecked, list}
-use Rattle.packet.specs.Packet.{hasLength}
-use Rattle.packet_reader.specs.Frame.{total, totalOf, aim}
+use Rattle.packet.specs.Packet.{wasSent, classOf}
+use Rattle.packet_reader.specs.Frame.{lengthAs, totalOf, aim}
 use Rattle.packet_reader.specs.Reader as Reader
 
 -- 32 bytes that begin with a code, write a length in units and, as a list of ids does, a count; least significant byte first
@@ -65,7 +65,7 @@ requests = (refl, refl)
 
 -- "advance 9, 7, 2"; "elsewhere 9, then by number"
 pub readers : Gets (Reader.made 0 31) 9 × Gets (Reader.made 0 32) 13 × Gets (Reader.advanced (Reader.fresh 0) (packet 1 1 0) 33) 9 × Gets (Reader.advanced (Reader.fresh 108) (packet 1 1 0) 33) 7 × Gets (Reader.advanced (Reader.fresh 108) (packet 1 1 0) 32) 2
-unfolding Reader.made Reader.room Reader.soundb Reader.advanced Reader.reached aim totalOf total hasLength legal field numberIn lowNumber turned cut choose refuse both either
+unfolding Reader.made Reader.room Reader.soundb Reader.advanced Reader.reached aim totalOf lengthAs classOf wasSent legal field numberIn lowNumber turned cut choose refuse both either
 readers = (refl, refl, refl, refl, refl)
 
 -- "Packet buffer P: 32 to 65,536"

@@ -6,8 +6,8 @@ use native.Mathlib.Omega.{arith}
 use Rattle.refusal.specs.Answer.{Answer, gives, refuses, refuse}
 use Rattle.octets.specs.Logic.{choose, both, either}
 use Rattle.sequence.specs.Numbering.{wireValues, FullNumber, full, inRange, full-least}
-use Rattle.packet.specs.Packet.{hasLength}
-use Rattle.packet_reader.specs.Frame.{total}
+use Rattle.packet.specs.Packet.{wasSent, classOf}
+use Rattle.packet_reader.specs.Frame.{lengthAs, total}
 use Rattle.id_allocator.specs.Ids.{powerBelow, sound, noIds, generated, updated}
 use Rattle.id_allocator.specs.Runs.{afterCalls, call}
 use Rattle.id_allocator.specs.declared.IdAllocator.{IdAllocator}
@@ -68,7 +68,7 @@ by-sum read wire a h e = record { number = full read wire; is-least = full-least
 
 -- THE VALUES: every row of the table holds.
 pub values : All table
-unfolding inRange full refuse hasLength total choose both either powerBelow sound noIds generated updated afterCalls call
+unfolding inRange full refuse lengthAs classOf wasSent choose both either powerBelow sound noIds generated updated afterCalls call
 values = (
   by-sum 0 0 _ (omega arith) refl,
   (

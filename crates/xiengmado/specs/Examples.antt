@@ -17,6 +17,6 @@ pub looks : (requestKept (4 ∷ 3 ∷ 0 ∷ []) 7 ≡ gives (record { descriptor
 unfolding requestKept capacity sized requestAt byteAt requestOf modeOf kindNumber refuse both choose
 looks = (refl, refl, refl, refl, refl, refl)
 
--- a version's three numbers in their places; this is 0.1.0
-pub versions : (versionOf 1 2 3 ≡ 66051) × XmVersion 256
+-- a version's three numbers in their places; this is 0.2.0
+pub versions : (versionOf 1 2 3 ≡ 66051) × XmVersion 512
 versions = (refl, refl)

@@ -88,69 +88,69 @@ module _ (state requests store slots list : List ℕ) where
       (z .2, ap (λ (k : Rooms). k .slots) (z .3), z .0)
 
 -- `xm_enqueue_packet`
-module _ (state requests store slots packet : List ℕ) (place number : ℕ) where
-  abbrev pub XmEnqueuePacket : (state' store' slots' : List ℕ) (place' number' r : ℕ) → Type 0
-  XmEnqueuePacket state' store' slots' place' number' r =
+module _ (state requests store slots packet : List ℕ) (place number class : ℕ) where
+  abbrev pub XmEnqueuePacket : (state' store' slots' : List ℕ) (place' number' class' r : ℕ) → Type 0
+  XmEnqueuePacket state' store' slots' place' number' class' r =
       Kept (λ a. Enqueues (connectionOf state) (rooms requests store slots) packet a (rooms requests store' slots'))
-      filing (stateRow state) (place ∷ number ∷ []) (place' ∷ number' ∷ []) state state' r
+      filing (stateRow state) (place ∷ number ∷ class ∷ []) (place' ∷ number' ∷ class' ∷ []) state state' r
 
-  pub xm-enqueue-packet-one : {state₁ store₁ slots₁ : List ℕ} {place₁ number₁ r₁ : ℕ} {state₂ store₂ slots₂ : List ℕ} {place₂ number₂ r₂ : ℕ} → XmEnqueuePacket state₁ store₁ slots₁ place₁ number₁ r₁ → XmEnqueuePacket state₂ store₂ slots₂ place₂ number₂ r₂
-      → (state₁ ≡ state₂) × (store₁ ≡ store₂) × (slots₁ ≡ slots₂) × (place₁ ≡ place₂) × (number₁ ≡ number₂) × (r₁ ≡ r₂)
+  pub xm-enqueue-packet-one : {state₁ store₁ slots₁ : List ℕ} {place₁ number₁ class₁ r₁ : ℕ} {state₂ store₂ slots₂ : List ℕ} {place₂ number₂ class₂ r₂ : ℕ} → XmEnqueuePacket state₁ store₁ slots₁ place₁ number₁ class₁ r₁ → XmEnqueuePacket state₂ store₂ slots₂ place₂ number₂ class₂ r₂
+      → (state₁ ≡ state₂) × (store₁ ≡ store₂) × (slots₁ ≡ slots₂) × (place₁ ≡ place₂) × (number₁ ≡ number₂) × (class₁ ≡ class₂) × (r₁ ≡ r₂)
   xm-enqueue-packet-one p q =
       let z = kept-left p q (λ a b x y. one-outcome _ _ _ _ _ a b _ _ x y) in
-      (z .2, ap (λ (k : Rooms). k .store) (z .3), ap (λ (k : Rooms). k .slots) (z .3), shown-at 0 (z .1), shown-at 1 (z .1), z .0)
+      (z .2, ap (λ (k : Rooms). k .store) (z .3), ap (λ (k : Rooms). k .slots) (z .3), shown-at 0 (z .1), shown-at 1 (z .1), shown-at 2 (z .1), z .0)
 
 -- `xm_poll_for_reply_or_error`
-module _ (state requests store slots : List ℕ) (number : ℕ) (out fds : List ℕ) (found size count : ℕ) where
-  abbrev pub XmPollForReplyOrError : (state' store' slots' out' fds' : List ℕ) (found' size' count' r : ℕ) → Type 0
-  XmPollForReplyOrError state' store' slots' out' fds' found' size' count' r =
+module _ (state requests store slots : List ℕ) (number : ℕ) (out fds : List ℕ) (found size count class : ℕ) where
+  abbrev pub XmPollForReplyOrError : (state' store' slots' out' fds' : List ℕ) (found' size' count' class' r : ℕ) → Type 0
+  XmPollForReplyOrError state' store' slots' out' fds' found' size' count' class' r =
       Kept (λ a. Polls (connectionOf state) (rooms requests store slots) number out fds a (rooms requests store' slots') out' fds')
-      polled (stateRow state) (found ∷ size ∷ count ∷ []) (found' ∷ size' ∷ count' ∷ []) state state' r
+      polled (stateRow state) (found ∷ size ∷ count ∷ class ∷ []) (found' ∷ size' ∷ count' ∷ class' ∷ []) state state' r
 
-  pub xm-poll-for-reply-or-error-one : {state₁ store₁ slots₁ out₁ fds₁ : List ℕ} {found₁ size₁ count₁ r₁ : ℕ} {state₂ store₂ slots₂ out₂ fds₂ : List ℕ} {found₂ size₂ count₂ r₂ : ℕ} → XmPollForReplyOrError state₁ store₁ slots₁ out₁ fds₁ found₁ size₁ count₁ r₁ → XmPollForReplyOrError state₂ store₂ slots₂ out₂ fds₂ found₂ size₂ count₂ r₂
-      → (state₁ ≡ state₂) × (store₁ ≡ store₂) × (slots₁ ≡ slots₂) × (out₁ ≡ out₂) × (fds₁ ≡ fds₂) × (found₁ ≡ found₂) × (size₁ ≡ size₂) × (count₁ ≡ count₂) × (r₁ ≡ r₂)
+  pub xm-poll-for-reply-or-error-one : {state₁ store₁ slots₁ out₁ fds₁ : List ℕ} {found₁ size₁ count₁ class₁ r₁ : ℕ} {state₂ store₂ slots₂ out₂ fds₂ : List ℕ} {found₂ size₂ count₂ class₂ r₂ : ℕ} → XmPollForReplyOrError state₁ store₁ slots₁ out₁ fds₁ found₁ size₁ count₁ class₁ r₁ → XmPollForReplyOrError state₂ store₂ slots₂ out₂ fds₂ found₂ size₂ count₂ class₂ r₂
+      → (state₁ ≡ state₂) × (store₁ ≡ store₂) × (slots₁ ≡ slots₂) × (out₁ ≡ out₂) × (fds₁ ≡ fds₂) × (found₁ ≡ found₂) × (size₁ ≡ size₂) × (count₁ ≡ count₂) × (class₁ ≡ class₂) × (r₁ ≡ r₂)
   xm-poll-for-reply-or-error-one p q =
       let z = kept-left p q polls-left in
-      (z .2, ap (λ (k : Rooms). k .store) (z .3 .0), ap (λ (k : Rooms). k .slots) (z .3 .0), z .3 .1, z .3 .2, shown-at 0 (z .1), shown-at 1 (z .1), shown-at 2 (z .1), z .0)
+      (z .2, ap (λ (k : Rooms). k .store) (z .3 .0), ap (λ (k : Rooms). k .slots) (z .3 .0), z .3 .1, z .3 .2, shown-at 0 (z .1), shown-at 1 (z .1), shown-at 2 (z .1), shown-at 3 (z .1), z .0)
 
 -- `xm_poll_check_for_reply_or_error`
-module _ (state requests store slots : List ℕ) (number : ℕ) (out : List ℕ) (result size : ℕ) where
-  abbrev pub XmPollCheckForReplyOrError : (state' store' slots' out' : List ℕ) (result' size' r : ℕ) → Type 0
-  XmPollCheckForReplyOrError state' store' slots' out' result' size' r =
+module _ (state requests store slots : List ℕ) (number : ℕ) (out : List ℕ) (result size class : ℕ) where
+  abbrev pub XmPollCheckForReplyOrError : (state' store' slots' out' : List ℕ) (result' size' class' r : ℕ) → Type 0
+  XmPollCheckForReplyOrError state' store' slots' out' result' size' class' r =
       Kept (λ a. Checks (connectionOf state) (rooms requests store slots) number out a (rooms requests store' slots') out')
-      poll (stateRow state) (result ∷ size ∷ []) (result' ∷ size' ∷ []) state state' r
+      poll (stateRow state) (result ∷ size ∷ class ∷ []) (result' ∷ size' ∷ class' ∷ []) state state' r
 
-  pub xm-poll-check-for-reply-or-error-one : {state₁ store₁ slots₁ out₁ : List ℕ} {result₁ size₁ r₁ : ℕ} {state₂ store₂ slots₂ out₂ : List ℕ} {result₂ size₂ r₂ : ℕ} → XmPollCheckForReplyOrError state₁ store₁ slots₁ out₁ result₁ size₁ r₁ → XmPollCheckForReplyOrError state₂ store₂ slots₂ out₂ result₂ size₂ r₂
-      → (state₁ ≡ state₂) × (store₁ ≡ store₂) × (slots₁ ≡ slots₂) × (out₁ ≡ out₂) × (result₁ ≡ result₂) × (size₁ ≡ size₂) × (r₁ ≡ r₂)
+  pub xm-poll-check-for-reply-or-error-one : {state₁ store₁ slots₁ out₁ : List ℕ} {result₁ size₁ class₁ r₁ : ℕ} {state₂ store₂ slots₂ out₂ : List ℕ} {result₂ size₂ class₂ r₂ : ℕ} → XmPollCheckForReplyOrError state₁ store₁ slots₁ out₁ result₁ size₁ class₁ r₁ → XmPollCheckForReplyOrError state₂ store₂ slots₂ out₂ result₂ size₂ class₂ r₂
+      → (state₁ ≡ state₂) × (store₁ ≡ store₂) × (slots₁ ≡ slots₂) × (out₁ ≡ out₂) × (result₁ ≡ result₂) × (size₁ ≡ size₂) × (class₁ ≡ class₂) × (r₁ ≡ r₂)
   xm-poll-check-for-reply-or-error-one p q =
       let z = kept-left p q hands-left in
-      (z .2, ap (λ (k : Rooms). k .store) (z .3 .0), ap (λ (k : Rooms). k .slots) (z .3 .0), z .3 .1, shown-at 0 (z .1), shown-at 1 (z .1), z .0)
+      (z .2, ap (λ (k : Rooms). k .store) (z .3 .0), ap (λ (k : Rooms). k .slots) (z .3 .0), z .3 .1, shown-at 0 (z .1), shown-at 1 (z .1), shown-at 2 (z .1), z .0)
 
 -- `xm_poll_for_reply`
-module _ (state requests store slots : List ℕ) (number : ℕ) (out : List ℕ) (result size : ℕ) where
-  abbrev pub XmPollForReply : (state' store' slots' out' : List ℕ) (result' size' r : ℕ) → Type 0
-  XmPollForReply state' store' slots' out' result' size' r =
+module _ (state requests store slots : List ℕ) (number : ℕ) (out : List ℕ) (result size class : ℕ) where
+  abbrev pub XmPollForReply : (state' store' slots' out' : List ℕ) (result' size' class' r : ℕ) → Type 0
+  XmPollForReply state' store' slots' out' result' size' class' r =
       Kept (λ a. PollsReply (connectionOf state) (rooms requests store slots) number out a (rooms requests store' slots') out')
-      poll (stateRow state) (result ∷ size ∷ []) (result' ∷ size' ∷ []) state state' r
+      poll (stateRow state) (result ∷ size ∷ class ∷ []) (result' ∷ size' ∷ class' ∷ []) state state' r
 
-  pub xm-poll-for-reply-one : {state₁ store₁ slots₁ out₁ : List ℕ} {result₁ size₁ r₁ : ℕ} {state₂ store₂ slots₂ out₂ : List ℕ} {result₂ size₂ r₂ : ℕ} → XmPollForReply state₁ store₁ slots₁ out₁ result₁ size₁ r₁ → XmPollForReply state₂ store₂ slots₂ out₂ result₂ size₂ r₂
-      → (state₁ ≡ state₂) × (store₁ ≡ store₂) × (slots₁ ≡ slots₂) × (out₁ ≡ out₂) × (result₁ ≡ result₂) × (size₁ ≡ size₂) × (r₁ ≡ r₂)
+  pub xm-poll-for-reply-one : {state₁ store₁ slots₁ out₁ : List ℕ} {result₁ size₁ class₁ r₁ : ℕ} {state₂ store₂ slots₂ out₂ : List ℕ} {result₂ size₂ class₂ r₂ : ℕ} → XmPollForReply state₁ store₁ slots₁ out₁ result₁ size₁ class₁ r₁ → XmPollForReply state₂ store₂ slots₂ out₂ result₂ size₂ class₂ r₂
+      → (state₁ ≡ state₂) × (store₁ ≡ store₂) × (slots₁ ≡ slots₂) × (out₁ ≡ out₂) × (result₁ ≡ result₂) × (size₁ ≡ size₂) × (class₁ ≡ class₂) × (r₁ ≡ r₂)
   xm-poll-for-reply-one p q =
       let z = kept-left p q hands-left in
-      (z .2, ap (λ (k : Rooms). k .store) (z .3 .0), ap (λ (k : Rooms). k .slots) (z .3 .0), z .3 .1, shown-at 0 (z .1), shown-at 1 (z .1), z .0)
+      (z .2, ap (λ (k : Rooms). k .store) (z .3 .0), ap (λ (k : Rooms). k .slots) (z .3 .0), z .3 .1, shown-at 0 (z .1), shown-at 1 (z .1), shown-at 2 (z .1), z .0)
 
 -- `xm_poll_for_event_with_sequence`
-module _ (state requests store slots out : List ℕ) (found number size : ℕ) where
-  abbrev pub XmPollForEventWithSequence : (state' store' out' : List ℕ) (found' number' size' r : ℕ) → Type 0
-  XmPollForEventWithSequence state' store' out' found' number' size' r =
+module _ (state requests store slots out : List ℕ) (found number size class : ℕ) where
+  abbrev pub XmPollForEventWithSequence : (state' store' out' : List ℕ) (found' number' size' class' r : ℕ) → Type 0
+  XmPollForEventWithSequence state' store' out' found' number' size' class' r =
       Kept (λ a. PollsEvent (connectionOf state) (rooms requests store slots) out a (rooms requests store' slots) out')
-      event (stateRow state) (found ∷ number ∷ size ∷ []) (found' ∷ number' ∷ size' ∷ []) state state' r
+      event (stateRow state) (found ∷ number ∷ size ∷ class ∷ []) (found' ∷ number' ∷ size' ∷ class' ∷ []) state state' r
 
-  pub xm-poll-for-event-with-sequence-one : {state₁ store₁ out₁ : List ℕ} {found₁ number₁ size₁ r₁ : ℕ} {state₂ store₂ out₂ : List ℕ} {found₂ number₂ size₂ r₂ : ℕ} → XmPollForEventWithSequence state₁ store₁ out₁ found₁ number₁ size₁ r₁ → XmPollForEventWithSequence state₂ store₂ out₂ found₂ number₂ size₂ r₂
-      → (state₁ ≡ state₂) × (store₁ ≡ store₂) × (out₁ ≡ out₂) × (found₁ ≡ found₂) × (number₁ ≡ number₂) × (size₁ ≡ size₂) × (r₁ ≡ r₂)
+  pub xm-poll-for-event-with-sequence-one : {state₁ store₁ out₁ : List ℕ} {found₁ number₁ size₁ class₁ r₁ : ℕ} {state₂ store₂ out₂ : List ℕ} {found₂ number₂ size₂ class₂ r₂ : ℕ} → XmPollForEventWithSequence state₁ store₁ out₁ found₁ number₁ size₁ class₁ r₁ → XmPollForEventWithSequence state₂ store₂ out₂ found₂ number₂ size₂ class₂ r₂
+      → (state₁ ≡ state₂) × (store₁ ≡ store₂) × (out₁ ≡ out₂) × (found₁ ≡ found₂) × (number₁ ≡ number₂) × (size₁ ≡ size₂) × (class₁ ≡ class₂) × (r₁ ≡ r₂)
   xm-poll-for-event-with-sequence-one p q =
       let z = kept-left p q hands-left in
-      (z .2, ap (λ (k : Rooms). k .store) (z .3 .0), z .3 .1, shown-at 0 (z .1), shown-at 1 (z .1), shown-at 2 (z .1), z .0)
+      (z .2, ap (λ (k : Rooms). k .store) (z .3 .0), z .3 .1, shown-at 0 (z .1), shown-at 1 (z .1), shown-at 2 (z .1), shown-at 3 (z .1), z .0)
 
 -- `xm_take_closed_fds`
 module _ (state requests store slots out : List ℕ) (count : ℕ) where

@@ -193,7 +193,7 @@ versionOf major minor patch = 65536 * major + (256 * minor + patch)
 
 -- `xm_version`: this is 0.1.0
 abbrev pub XmVersion : (r : ℕ) → Type 0
-XmVersion r = r ≡ versionOf 0 1 0
+XmVersion r = r ≡ versionOf 0 2 0
 
 pub xm-version-one : {r₁ r₂ : ℕ} → XmVersion r₁ → XmVersion r₂ → r₁ ≡ r₂
 xm-version-one p q = p ∙ sym q

@@ -1,4 +1,5 @@
 pub mod Looking
+pub mod Keeping
 pub mod Sending
 pub mod Exports
 pub mod ExportsLeaves

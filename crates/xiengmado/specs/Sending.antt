@@ -1,36 +1,24 @@
 -- What a send writes into its row is the state that it leaves. Assumes nothing.
 use mathlib.Core.Path.{_≡_, refl, sym, ap, subst, _∙_}
-use mathlib.Core.Bool.{Bool, true, false}
 use mathlib.Core.List.{List}
 use Prim.Native.Nat.{ℕ}
 use native.Mathlib.Omega.{arith}
-use Rattle.octets.specs.Logic.{apart}
 use Rattle.refusal.specs.Answer.{Answer, gives, refuses, pass}
 use Rattle.sequence.specs.Sending as Rule
 use Rattle.model.specs.Reading.{Rooms}
-use Rattle.model.specs.Promise.{Done, answerOf, guarded, guarded-on, guarded-off, same}
-use Rattle.model.specs.Sound.{soundb}
+use Rattle.model.specs.Promise.{answerOf, same}
 use Rattle.model.specs.declared.Connection.{Connection}
 use Rattle.model.specs.declared.ReplyFdKind.{ReplyFdKind}
 use Rattle.model.specs.Moved.{sentState}
 use Rattle.sending.specs.Send.{sendable, sentDone, sendExact}
 use Rattle.connection.specs.Calls.{Sends}
-use Rattle.rows.specs.State.{fits, connectionOf, connectionRow, sentRow}
-use Rattle.rows.specs.Theorems.{connection-unfit, sent-row}
+use Rattle.rows.specs.State.{connectionOf, connectionRow, sentRow}
+use Rattle.rows.specs.Theorems.{sent-row}
 use Rattle.answers.specs.Exported.{Kept, shownOf}
+use Rattle.xiengmado.specs.Keeping.{gave, sound-fits}
 use Rattle.answers.specs.Shown.{stateRow, sentIn, first}
 
--- where something was given, the state was sound
-gave : (c : Connection) (r : Rooms) (e : Answer (Done ℕ)) (x : ℕ × Connection) → gives x ≡ answerOf same (guarded c r e) → (soundb c r ≡ true) × (gives x ≡ answerOf same e)
-unfolding answerOf
-gave c r e x q = go (soundb c r) refl
-  where
-    go : (b : Bool) → soundb c r ≡ b → (soundb c r ≡ true) × (gives x ≡ answerOf same e)
-    go true h = (h, q ∙ ap (answerOf same) (guarded-on c r e h))
-    go false h =
-        let z : gives x ≡ refuses 9 = q ∙ ap (answerOf same) (guarded-off c r e h) in absurd (let y : _≡_ {A = ℕ} 0 1 = cc in omega arith)
-
--- and the state handed back differs from it in two numbers
+-- the state handed back differs from the one before in two numbers
 record Changed (c d : Connection) : Type 0 where
   n : ℕ
   e : ℕ
@@ -42,20 +30,13 @@ changed c (gives n) r kind x q =
     let z : x ≡ (n .number, sentState c (n .number) (n .expected)) = cc in record { n = n .number; e = n .expected; so = ap (λ (y : ℕ × Connection). y .1) z }
 changed c (refuses k) r kind x q = absurd (let y : _≡_ {A = ℕ} 0 1 = cc in omega arith)
 
-sent-fits : (s : List ℕ) (r : Rooms) → soundb (connectionOf s) r ≡ true → fits s ≡ true
-sent-fits s r h = go (fits s) refl
-  where
-    go : (b : Bool) → fits s ≡ b → fits s ≡ true
-    go true e = e
-    go false e = apart h (connection-unfit s r e)
-
 agree : (s : List ℕ) (r : Rooms) (kind : ReplyFdKind) (k : Answer (ℕ × Connection)) (r' : Rooms) → Sends (connectionOf s) r kind k r' → shownOf (sentIn s) k s ≡ shownOf (stateRow s) k s
 unfolding sendExact
 agree s r kind (refuses n) r' p = refl
 agree s r kind (gives x) r' p =
-    let g = gave (connectionOf s) r (sendExact (connectionOf s) r kind) x (p .exact .answers) in
+    let g = gave same (connectionOf s) r (sendExact (connectionOf s) r kind) x (p .exact .answers) in
     let d = changed (connectionOf s) (sendable (connectionOf s) kind) r kind x (g .1) in
-    let h = sent-row s (d .n) (d .e) (sent-fits s r (g .0)) in
+    let h = sent-row s (d .n) (d .e) (sound-fits s r (g .0)) in
     ap (sentRow s) (d .so) ∙ h ∙ sym (ap (connectionRow s) (d .so))
 
 -- An export that sends keeps the state that it is handed.

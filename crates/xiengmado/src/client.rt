@@ -108,12 +108,13 @@ pub extern "C" fn xm_enqueue_packet(
     packet: &[u8],
     place: &mut u8,
     number: &mut u64,
+    class: &mut u8,
 ) -> u32
-    ensures { λ r. ⌜ XmEnqueuePacket (now (state .entry)) (now (requests .entry)) (now (store .entry)) (now (slots .entry)) (now (packet .entry)) (now (place .entry)) (now (number .entry)) (now (state .exit)) (now (store .exit)) (now (slots .exit)) (now (place .exit)) (now (number .exit)) r ⌝ }
+    ensures { λ r. ⌜ XmEnqueuePacket (now (state .entry)) (now (requests .entry)) (now (store .entry)) (now (slots .entry)) (now (packet .entry)) (now (place .entry)) (now (number .entry)) (now (class .entry)) (now (state .exit)) (now (store .exit)) (now (slots .exit)) (now (place .exit)) (now (number .exit)) (now (class .exit)) r ⌝ }
 {
     let now = rows::connection(state);
     let answer = connection::enqueue_packet(now, requests, store, slots, packet);
-    give_enqueued(answer, state, place, number)
+    give_enqueued(answer, state, place, number, class)
 }
 
 // Where nothing is found, found is 0 and so are size and count.
@@ -129,8 +130,9 @@ pub extern "C" fn xm_poll_for_reply_or_error(
     found: &mut u8,
     size: &mut usize,
     count: &mut usize,
+    class: &mut u8,
 ) -> u32
-    ensures { λ r. ⌜ XmPollForReplyOrError (now (state .entry)) (now (requests .entry)) (now (store .entry)) (now (slots .entry)) number (now (out .entry)) (now (fds .entry)) (now (found .entry)) (now (size .entry)) (now (count .entry)) (now (state .exit)) (now (store .exit)) (now (slots .exit)) (now (out .exit)) (now (fds .exit)) (now (found .exit)) (now (size .exit)) (now (count .exit)) r ⌝ }
+    ensures { λ r. ⌜ XmPollForReplyOrError (now (state .entry)) (now (requests .entry)) (now (store .entry)) (now (slots .entry)) number (now (out .entry)) (now (fds .entry)) (now (found .entry)) (now (size .entry)) (now (count .entry)) (now (class .entry)) (now (state .exit)) (now (store .exit)) (now (slots .exit)) (now (out .exit)) (now (fds .exit)) (now (found .exit)) (now (size .exit)) (now (count .exit)) (now (class .exit)) r ⌝ }
 {
     let now = rows::connection(state);
     let answer = connection::poll_for_reply_or_error(
@@ -142,7 +144,7 @@ pub extern "C" fn xm_poll_for_reply_or_error(
         out,
         fds,
     );
-    give_polled(answer, state, found, size, count)
+    give_polled(answer, state, found, size, count, class)
 }
 
 // Results are 0 for TryAgain, 1 for NoReply and 2 for a reply; size is 0 but for a reply.
@@ -156,8 +158,9 @@ pub extern "C" fn xm_poll_check_for_reply_or_error(
     out: &mut [u8],
     result: &mut u8,
     size: &mut usize,
+    class: &mut u8,
 ) -> u32
-    ensures { λ r. ⌜ XmPollCheckForReplyOrError (now (state .entry)) (now (requests .entry)) (now (store .entry)) (now (slots .entry)) number (now (out .entry)) (now (result .entry)) (now (size .entry)) (now (state .exit)) (now (store .exit)) (now (slots .exit)) (now (out .exit)) (now (result .exit)) (now (size .exit)) r ⌝ }
+    ensures { λ r. ⌜ XmPollCheckForReplyOrError (now (state .entry)) (now (requests .entry)) (now (store .entry)) (now (slots .entry)) number (now (out .entry)) (now (result .entry)) (now (size .entry)) (now (class .entry)) (now (state .exit)) (now (store .exit)) (now (slots .exit)) (now (out .exit)) (now (result .exit)) (now (size .exit)) (now (class .exit)) r ⌝ }
 {
     let now = rows::connection(state);
     let answer = connection::poll_check_for_reply_or_error(
@@ -168,7 +171,7 @@ pub extern "C" fn xm_poll_check_for_reply_or_error(
         SequenceNumber(number),
         out,
     );
-    give_poll(answer, state, result, size)
+    give_poll(answer, state, result, size, class)
 }
 
 // Results as those of the call above.
@@ -182,8 +185,9 @@ pub extern "C" fn xm_poll_for_reply(
     out: &mut [u8],
     result: &mut u8,
     size: &mut usize,
+    class: &mut u8,
 ) -> u32
-    ensures { λ r. ⌜ XmPollForReply (now (state .entry)) (now (requests .entry)) (now (store .entry)) (now (slots .entry)) number (now (out .entry)) (now (result .entry)) (now (size .entry)) (now (state .exit)) (now (store .exit)) (now (slots .exit)) (now (out .exit)) (now (result .exit)) (now (size .exit)) r ⌝ }
+    ensures { λ r. ⌜ XmPollForReply (now (state .entry)) (now (requests .entry)) (now (store .entry)) (now (slots .entry)) number (now (out .entry)) (now (result .entry)) (now (size .entry)) (now (class .entry)) (now (state .exit)) (now (store .exit)) (now (slots .exit)) (now (out .exit)) (now (result .exit)) (now (size .exit)) (now (class .exit)) r ⌝ }
 {
     let now = rows::connection(state);
     let answer = connection::poll_for_reply(
@@ -194,7 +198,7 @@ pub extern "C" fn xm_poll_for_reply(
         SequenceNumber(number),
         out,
     );
-    give_poll(answer, state, result, size)
+    give_poll(answer, state, result, size, class)
 }
 
 // Where nothing is found, found is 0 and so are number and size.
@@ -208,12 +212,13 @@ pub extern "C" fn xm_poll_for_event_with_sequence(
     found: &mut u8,
     number: &mut u64,
     size: &mut usize,
+    class: &mut u8,
 ) -> u32
-    ensures { λ r. ⌜ XmPollForEventWithSequence (now (state .entry)) (now (requests .entry)) (now (store .entry)) (now (slots .entry)) (now (out .entry)) (now (found .entry)) (now (number .entry)) (now (size .entry)) (now (state .exit)) (now (store .exit)) (now (out .exit)) (now (found .exit)) (now (number .exit)) (now (size .exit)) r ⌝ }
+    ensures { λ r. ⌜ XmPollForEventWithSequence (now (state .entry)) (now (requests .entry)) (now (store .entry)) (now (slots .entry)) (now (out .entry)) (now (found .entry)) (now (number .entry)) (now (size .entry)) (now (class .entry)) (now (state .exit)) (now (store .exit)) (now (out .exit)) (now (found .exit)) (now (number .exit)) (now (size .exit)) (now (class .exit)) r ⌝ }
 {
     let now = rows::connection(state);
     let answer = connection::poll_for_event_with_sequence(now, requests, store, slots, out);
-    give_event(answer, state, found, number, size)
+    give_event(answer, state, found, number, size, class)
 }
 
 #[no_mangle]

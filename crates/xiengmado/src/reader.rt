@@ -1,4 +1,4 @@
-// `packet_reader`: the length of a packet, and a reader in three lent numbers beside its buffer.
+// `packet_reader`: the length and the class of a packet, and a reader in three lent numbers beside its buffer.
 ghost use Rattle.xiengmado.specs.ExportsReader.{XmPacketLength, XmReaderNew, XmReaderRemainingCapacity, XmReaderBuffer, XmReaderAdvance};
 use answers::BAD;
 use answers::DONE;
@@ -9,10 +9,13 @@ use packet_reader::Made;
 use packet_reader::PacketReader;
 
 #[no_mangle]
-pub extern "C" fn xm_packet_length(packet_code: u8, field: u32) -> usize
-    ensures { λ r. ⌜ XmPacketLength «packet_code» field r ⌝ }
+pub extern "C" fn xm_packet_length(packet_code: u8, field: u32, class: &mut u8) -> usize
+    ensures { λ r. ⌜ XmPacketLength «packet_code» field (now (class .exit)) r ⌝ }
 {
-    packet_reader::packet_length(packet_code, field)
+    let framed = packet_reader::frame(packet_code, field);
+    let of = framed.class;
+    *class = packet::class_number(of);
+    framed.length
 }
 
 #[no_mangle]
@@ -69,15 +72,16 @@ pub extern "C" fn xm_reader_buffer(
     }
 }
 
-// A packet that isn't whole yet has the length 0.
+// A packet that isn't whole yet has the length 0, and its class is shown as 0.
 #[no_mangle]
 pub extern "C" fn xm_reader_advance(
     reader: &mut [u64],
     buf: &[u8],
     amount: usize,
     size: &mut usize,
+    class: &mut u8,
 ) -> u32
-    ensures { λ r. ⌜ XmReaderAdvance (now (reader .entry)) (now (buf .entry)) amount (now (size .entry)) (now (reader .exit)) (now (size .exit)) r ⌝ }
+    ensures { λ r. ⌜ XmReaderAdvance (now (reader .entry)) (now (buf .entry)) amount (now (size .entry)) (now (class .entry)) (now (reader .exit)) (now (size .exit)) (now (class .exit)) r ⌝ }
 {
     let at = rows::reader(reader);
     let answer = at.advance(buf, amount);
@@ -85,11 +89,13 @@ pub extern "C" fn xm_reader_advance(
         Advanced::NotYet(next) => {
             rows::put_reader(reader, next);
             *size = 0;
+            *class = 0;
             DONE
         }
-        Advanced::Packet(n, next) => {
+        Advanced::Packet(n, of, next) => {
             rows::put_reader(reader, next);
             *size = n;
+            *class = packet::class_number(of);
             DONE
         }
         Advanced::Refused(refusal) => code(refusal),

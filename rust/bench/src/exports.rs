@@ -1,6 +1,7 @@
 //! The exports of the static library as a C program calls them: nothing is allocated, and a packet is
 //! looked at where it was handed out.
 
+use xiengmado::engine::MARKS;
 use xiengmado::exports::*;
 
 use crate::batch::Many;
@@ -31,7 +32,7 @@ impl Frames for Reader {
     }
 
     fn feed(&mut self, bytes: &[u8], see: &mut impl See) -> usize {
-        let (mut start, mut size, mut packet) = (0, 0, 0);
+        let (mut start, mut size, mut packet, mut class) = (0, 0, 0, 0);
         let (state, buffer) = (self.state.as_mut_ptr(), &mut self.buffer);
         // SAFETY: whole slices.
         done(unsafe {
@@ -47,7 +48,17 @@ impl Frames for Reader {
         let n = size.min(bytes.len());
         buffer[start..start + n].copy_from_slice(&bytes[..n]);
         // SAFETY: whole slices.
-        done(unsafe { xm_reader_advance(state, 3, buffer.as_ptr(), buffer.len(), n, &mut packet) });
+        done(unsafe {
+            xm_reader_advance(
+                state,
+                3,
+                buffer.as_ptr(),
+                buffer.len(),
+                n,
+                &mut packet,
+                &mut class,
+            )
+        });
         if packet != 0 {
             see.bytes(&buffer[..packet]);
         }
@@ -207,23 +218,25 @@ impl Client for Connection {
     }
 
     fn packet(&mut self, packet: &[u8]) {
-        let (mut place, mut number) = (0, 0);
+        let (mut place, mut number, mut class) = (0, 0, 0);
         done(call!(self.xm_enqueue_packet(
             packet.as_ptr(),
             packet.len(),
             &mut place,
-            &mut number
+            &mut number,
+            &mut class
         )));
     }
 
     fn event(&mut self, see: &mut impl See) -> bool {
-        let (mut found, mut number, mut size) = (0, 0, 0);
+        let (mut found, mut number, mut size, mut class) = (0, 0, 0, 0);
         done(call!(self.xm_poll_for_event_with_sequence(
             self.out.as_mut_ptr(),
             self.out.len(),
             &mut found,
             &mut number,
-            &mut size
+            &mut size,
+            &mut class
         )));
         if found != 0 {
             see.number(number);
@@ -233,19 +246,20 @@ impl Client for Connection {
     }
 
     fn reply(&mut self, number: u64, see: &mut impl See) {
-        let (mut result, mut size) = (0, 0);
+        let (mut result, mut size, mut class) = (0, 0, 0);
         done(call!(self.xm_poll_for_reply(
             number,
             self.out.as_mut_ptr(),
             self.out.len(),
             &mut result,
-            &mut size
+            &mut size,
+            &mut class
         )));
         self.polled(result, size, see);
     }
 
     fn check(&mut self, number: u64, see: &mut impl See) {
-        let (mut sync, mut result, mut size) = (0, 0, 0);
+        let (mut sync, mut result, mut size, mut class) = (0, 0, 0, 0);
         done(call!(
             self.xm_prepare_check_for_reply_or_error(number, &mut sync)
         ));
@@ -255,13 +269,14 @@ impl Client for Connection {
             self.out.as_mut_ptr(),
             self.out.len(),
             &mut result,
-            &mut size
+            &mut size,
+            &mut class
         )));
         self.polled(result, size, see);
     }
 
     fn reply_or_error(&mut self, number: u64, see: &mut impl See) {
-        let (mut found, mut size, mut count) = (0, 0, 0);
+        let (mut found, mut size, mut count, mut class) = (0, 0, 0, 0);
         done(call!(self.xm_poll_for_reply_or_error(
             number,
             self.out.as_mut_ptr(),
@@ -270,7 +285,8 @@ impl Client for Connection {
             self.fds.len(),
             &mut found,
             &mut size,
-            &mut count
+            &mut count,
+            &mut class
         )));
         see.number(found.into());
         if found != 0 {
@@ -279,7 +295,7 @@ impl Client for Connection {
     }
 }
 
-/// A connection with the output of `poll_for_events`: packets, and two marks for each. It takes
+/// A connection with the output of `poll_for_events`: packets, and the marks of each. It takes
 /// all that can be held, so that one call hands all events out.
 pub struct Batched {
     connection: Connection,
@@ -337,7 +353,7 @@ impl Many for Batched {
                 &mut stop
             )));
             let mut at = 0;
-            for mark in self.marks[..2 * events].chunks(2) {
+            for mark in self.marks[..MARKS * events].chunks(MARKS) {
                 let end = at + mark[1] as usize;
                 see.number(mark[0]);
                 see.bytes(&self.out[at..end]);

@@ -3,11 +3,12 @@
 use std::cell::RefCell;
 use std::panic::{catch_unwind, AssertUnwindSafe};
 
-use xiengmado::engine::{Engine, Fed, Halt, Place, Stop, RECORD_HEADER};
-use xiengmado::{ByteOrder, Refusal};
+use xiengmado::connection::PollReplyWithClass;
+use xiengmado::engine::{Engine, Fed, FiledWithClass, Halt, Place, Stop, MARKS, RECORD_HEADER};
+use xiengmado::{ByteOrder, PacketClass, Refusal};
 
 use crate::connection::{self, Connection, PollReply, ReplyFdKind};
-use crate::protocol::xproto::KEYMAP_NOTIFY_EVENT;
+use crate::protocol::xproto::{GE_GENERIC_EVENT, KEYMAP_NOTIFY_EVENT};
 use crate::utils::{number, take_closed, RawFdContainer};
 use crate::DiscardMode;
 
@@ -26,6 +27,8 @@ pub struct Met {
     pub long: Long,
     pub keymaps: Keymaps,
     pub ahead: Ahead,
+    /// Packets whose class was told, by its number.
+    pub classes: [u64; PacketClass::ALL.len()],
 }
 
 /// KeymapNotify events that SendEvent made: compared like any packet, left out of a run, and at the end of
@@ -135,6 +138,36 @@ pub fn report_ahead() -> String {
     })
 }
 
+/// The same of classes: how many packets of each were told of as the second reading has it.
+pub fn report_classes() -> String {
+    MET.with(|met| {
+        let counts = PacketClass::ALL.iter().zip(met.borrow().classes);
+        let words: Vec<String> = counts
+            .map(|(class, count)| format!("{class} {count}"))
+            .collect();
+        format!("classes that were told: {}", words.join(", "))
+    })
+}
+
+/// The class of a packet by its first byte: a second reading, which the Rust has no name for.
+fn class_of(packet: &[u8]) -> PacketClass {
+    let (code, sent) = (packet[0] & 0x7f, packet[0] & 0x80 != 0);
+    match (packet[0], code == GE_GENERIC_EVENT) {
+        (0, _) => PacketClass::Error,
+        (1, _) => PacketClass::Reply,
+        (_, true) if sent => PacketClass::SentGeneric,
+        (_, true) => PacketClass::Generic,
+        (_, false) if sent => PacketClass::SentEvent,
+        (_, false) => PacketClass::Event,
+    }
+}
+
+/// A call told the class of a packet.
+pub fn told(call: &str, packet: &[u8], class: PacketClass) {
+    same(call, "class", class, class_of(packet));
+    met(|met| met.classes[class.number() as usize] += 1);
+}
+
 /// The code of a KeymapNotify that SendEvent made.
 pub const SENT_KEYMAP: u8 = 139;
 
@@ -214,7 +247,7 @@ fn poll_of(poll: PollReply) -> xiengmado::connection::PollReply {
 }
 
 /// A packet was filed.
-fn filed(place: Place, packet: &[u8]) {
+fn filed(place: Place, packet: &[u8], class: PacketClass) {
     met(|met| match place {
         Place::Replies => met.replies += 1,
         Place::Events => met.events += 1,
@@ -222,24 +255,27 @@ fn filed(place: Place, packet: &[u8]) {
     });
     met(|met| met.keymaps.compared += u64::from(packet[0] == SENT_KEYMAP));
     if is_long(packet) {
-        met(|met| match (place, packet[0]) {
+        met(|met| match (place, class) {
             (Place::Dropped, _) => met.long.dropped += 1,
-            (_, 0) => met.long.errors += 1,
-            (_, 1) => met.long.replies += 1,
+            (_, PacketClass::Error) => met.long.errors += 1,
+            (_, PacketClass::Reply) => met.long.replies += 1,
             _ => met.long.events += 1,
         });
     }
 }
 
-/// A packet was handed out.
-fn handed(packet: &[u8]) {
+/// A call handed a packet out, and told its class.
+fn handed(call: &str, packet: &[u8], class: PacketClass) {
+    told(call, packet, class);
     met(|met| met.long.handed_out += u64::from(is_long(packet)));
 }
 
-fn polled(poll: &xiengmado::connection::PollReply) {
-    if let xiengmado::connection::PollReply::Reply(packet) = poll {
-        handed(packet);
+/// The answer of a poll, and nothing of its class.
+fn polled(call: &str, poll: PollReplyWithClass) -> xiengmado::connection::PollReply {
+    if let PollReplyWithClass::Reply(packet, class) = &poll {
+        handed(call, packet, *class);
     }
+    poll.into()
 }
 
 impl Both {
@@ -390,8 +426,8 @@ impl Both {
             return true;
         }
         match self.enqueue(packet) {
-            Ok(place) => {
-                filed(place, packet);
+            Ok((place, class)) => {
+                filed(place, packet, class);
                 if is_long(packet) && place == Place::Replies {
                     let fds = self.engine.records().last().map_or(0, |r| r.fds.len());
                     met(|met| met.long.with_fds += u64::from(fds > 0));
@@ -416,25 +452,30 @@ impl Both {
         true
     }
 
-    /// A packet of any length to the engine: where it was filed.
-    fn enqueue(&mut self, packet: &[u8]) -> Result<Place, Refusal> {
-        let answer = self.engine.enqueue_packet(packet);
-        if !is_long(packet) {
-            return Ok(answer?.0);
-        }
-        same(
-            "enqueue_packet",
-            "refusal",
-            answer,
-            Err(Refusal::LongPacket),
-        );
-        match self.engine.enqueue_long_packet(packet.to_vec()) {
-            Ok((place, _)) => Ok(place),
-            Err((refusal, back)) => {
-                assert!(back == packet, "enqueue_long_packet: other bytes come back");
-                Err(refusal)
-            }
-        }
+    /// A packet of any length to the engine: where it was filed, and its class.
+    fn enqueue(&mut self, packet: &[u8]) -> Result<(Place, PacketClass), Refusal> {
+        let answer = self.engine.enqueue_packet_with_class(packet);
+        let (place, _, class) = match is_long(packet) {
+            true => self.enqueue_long(packet, answer.err())?,
+            false => answer?,
+        };
+        told("enqueue_packet", packet, class);
+        Ok((place, class))
+    }
+
+    /// The same for a long one, which was refused.
+    fn enqueue_long(
+        &mut self,
+        packet: &[u8],
+        refused: Option<Refusal>,
+    ) -> Result<FiledWithClass, Refusal> {
+        let due = Some(Refusal::LongPacket);
+        same("enqueue_packet", "refusal", refused, due);
+        let filed = self.engine.enqueue_long_packet_with_class(packet.to_vec());
+        filed.map_err(|(refusal, back)| {
+            assert!(back == packet, "enqueue_long_packet: other bytes come back");
+            refusal
+        })
     }
 
     fn parts(&self, packet: &[u8]) -> bool {
@@ -447,12 +488,13 @@ impl Both {
     pub fn end_with_keymap(mut self, packet: &[u8]) -> u64 {
         let what = "KeymapNotify by SendEvent";
         let (parts, numbers) = (self.parts(packet), self.numbers());
-        let filed = self.engine.enqueue_packet(packet);
+        let filed = self.engine.enqueue_packet_with_class(packet);
         if filed == Err(Refusal::NoRoom) {
             return self.finish();
         }
         self.rust.enqueue_packet(packet.to_vec());
-        same(what, "filed", filed, Ok((Place::Events, numbers.2)));
+        let due = (Place::Events, numbers.2, PacketClass::SentEvent);
+        same(what, "filed", filed, Ok(due));
         same(what, "numbers", self.numbers(), numbers);
         let theirs = connection::numbers(&self.rust);
         same(what, "whether the sides part", numbers != theirs, parts);
@@ -547,41 +589,41 @@ impl Both {
 
     /// As many events as go into an output of so many bytes.
     pub fn poll_events(&mut self, room: usize) {
-        let (mut out, mut marks) = (vec![0; room], [0; 16]);
+        let (mut out, mut marks) = (vec![0; room], [0; 8 * MARKS]);
         let Ok(found) = self.engine.poll_for_events(&mut out, &mut marks) else {
             let oldest = connection::held(&self.rust, Place::Events)[0].1.len();
             assert!(oldest > room, "poll_for_events: an event fits");
             return;
         };
+        let what = "poll_for_events";
         let mut rest = &out[..found.bytes];
-        for mark in marks[..2 * found.count].chunks(2) {
+        for mark in marks[..MARKS * found.count].chunks(MARKS) {
             let (packet, behind) = rest.split_at(mark[1] as usize);
-            handed(packet);
+            let class = PacketClass::from_number(mark[2]).expect("a class");
+            handed(what, packet, class);
             let theirs = self.rust.poll_for_event_with_sequence();
-            same(
-                "poll_for_events",
-                "event",
-                Some((packet.to_vec(), mark[0])),
-                theirs,
-            );
+            same(what, "event", Some((packet.to_vec(), mark[0])), theirs);
             rest = behind;
         }
         let left = connection::held(&self.rust, Place::Events).len();
-        same("poll_for_events", "end", found.stop == Stop::End, left == 0);
-        self.compare("poll_for_events");
+        same(what, "end", found.stop == Stop::End, left == 0);
+        self.compare(what);
     }
 
     pub fn poll_reply_or_error(&mut self, sequence: u64) {
-        let ours = self.engine.poll_for_reply_or_error(sequence).unwrap();
-        let handed_out = ours.as_ref().map_or(0, |(_, fds)| fds.len());
-        met(|met| met.handed_out += handed_out as u64);
-        ours.iter().for_each(|(packet, _)| handed(packet));
+        let what = "poll_for_reply_or_error";
+        let ours = self.engine.poll_for_reply_or_error_with_class(sequence);
+        let ours = ours.unwrap().map(|(packet, fds, class)| {
+            handed(what, &packet, class);
+            met(|met| met.handed_out += fds.len() as u64);
+            (packet, fds)
+        });
         let theirs = self
             .rust
             .poll_for_reply_or_error(sequence)
             .map(|(packet, fds)| (packet, fds.into_iter().map(number).collect()));
-        same("poll_for_reply_or_error", "answer", ours, theirs);
-        self.compare("poll_for_reply_or_error");
+        same(what, "answer", ours, theirs);
+        self.compare(what);
     }
 
     pub fn poll_check(&mut self, sequence: u64) {
@@ -593,38 +635,36 @@ impl Both {
             self.rust.prepare_check_for_reply_or_error(sequence),
         );
         self.compare("prepare_check_for_reply_or_error");
-        let ours = self.engine.poll_check_for_reply_or_error(sequence).unwrap();
+        let what = "poll_check_for_reply_or_error";
+        let ours = self
+            .engine
+            .poll_check_for_reply_or_error_with_class(sequence);
+        let ours = polled(what, ours.unwrap());
         let theirs = self.rust.poll_check_for_reply_or_error(sequence);
-        polled(&ours);
-        same(
-            "poll_check_for_reply_or_error",
-            "answer",
-            ours,
-            poll_of(theirs),
-        );
-        self.compare("poll_check_for_reply_or_error");
+        same(what, "answer", ours, poll_of(theirs));
+        self.compare(what);
     }
 
     pub fn poll_reply(&mut self, sequence: u64) {
-        let before = self.long().1;
-        let ours = self.engine.poll_for_reply(sequence).unwrap();
-        polled(&ours);
+        let (what, before) = ("poll_for_reply", self.long().1);
+        let ours = self.engine.poll_for_reply_with_class(sequence);
+        let ours = polled(what, ours.unwrap());
         met(|met| met.long.became_events += self.long().1 - before);
-        same(
-            "poll_for_reply",
-            "answer",
-            ours,
-            poll_of(self.rust.poll_for_reply(sequence)),
-        );
-        self.compare("poll_for_reply");
+        let theirs = self.rust.poll_for_reply(sequence);
+        same(what, "answer", ours, poll_of(theirs));
+        self.compare(what);
     }
 
     pub fn poll_event(&mut self) {
-        let ours = self.engine.poll_for_event_with_sequence().unwrap();
-        ours.iter().for_each(|(packet, _)| handed(packet));
+        let what = "poll_for_event_with_sequence";
+        let ours = self.engine.poll_for_event_with_class().unwrap();
+        let ours = ours.map(|(packet, number, class)| {
+            handed(what, &packet, class);
+            (packet, number)
+        });
         let theirs = self.rust.poll_for_event_with_sequence();
-        same("poll_for_event_with_sequence", "answer", ours, theirs);
-        self.compare("poll_for_event_with_sequence");
+        same(what, "answer", ours, theirs);
+        self.compare(what);
     }
 
     /// The end of a run: what is inside is closed in the same order.

@@ -5,7 +5,7 @@ use std::panic::{catch_unwind, AssertUnwindSafe};
 use xiengmado::{ByteOrder, Refusal};
 
 use crate::chance::Chance;
-use crate::client::{met, Both};
+use crate::client::{met, told, Both};
 use crate::connection::ReplyFdKind;
 use crate::sessions::{long_size, sent_number, set_number};
 
@@ -59,13 +59,17 @@ impl Reader {
     /// One piece; `Err` where the packet is longer than any that is compared: there the run ends.
     fn feed(&mut self, piece: &[u8]) -> Result<Option<Vec<u8>>, Refusal> {
         self.ours.buffer()[..piece.len()].copy_from_slice(piece);
-        let ours = match self.ours.try_advance(piece.len()) {
+        let ours = match self.ours.try_advance_with_class(piece.len()) {
             Err(Refusal::LongPacket) if self.wanted(piece) <= MOST => {
                 self.compare();
-                self.ours.advance(piece.len())
+                self.ours.advance_with_class(piece.len())
             }
             answer => answer?,
         };
+        let ours = ours.map(|(packet, class)| {
+            told("advance", &packet, class);
+            packet
+        });
         self.theirs.buffer()[..piece.len()].copy_from_slice(piece);
         let theirs = self.theirs.advance(piece.len());
         assert!(ours == theirs, "advance");

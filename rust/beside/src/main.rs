@@ -68,6 +68,7 @@ fn main() {
     println!("{}", client::report_long());
     println!("{}", client::report_keymaps());
     println!("{}", client::report_ahead());
+    println!("{}", client::report_classes());
     println!("beside: {calls} calls compared, no difference");
 }
 

@@ -9,7 +9,7 @@ use crate::connection::{self, Connection, PollReply, ReplyFdKind};
 use crate::id_allocator::IdAllocator;
 use crate::packet_reader::PacketReader;
 use crate::protocol::xc_misc::GetXIDRangeReply;
-use crate::replay::{Answer, Kind, Outstanding, Poll, Rooms, Side, State};
+use crate::replay::{Answer, Class, Kind, Outstanding, Poll, Rooms, Side, State};
 use crate::utils::{number, take_closed, RawFdContainer};
 use crate::DiscardMode;
 
@@ -75,11 +75,12 @@ impl Side for Oracle {
         Ok(())
     }
 
-    fn intake(&mut self, packet: &[u8]) -> Answer<()> {
+    fn intake(&mut self, packet: &[u8]) -> Answer<Class> {
         let connection = &mut self.connection;
         catch_unwind(AssertUnwindSafe(|| {
             connection.enqueue_packet(packet.to_vec())
         }))
+        .map(|()| None)
         .map_err(|_| "panic".into())
     }
 
@@ -111,9 +112,9 @@ impl Side for Oracle {
         Ok(self.connection.prepare_check_for_reply_or_error(sequence))
     }
 
-    fn poll_event(&mut self) -> Answer<Option<(u64, Vec<u8>)>> {
+    fn poll_event(&mut self) -> Answer<Option<(u64, Vec<u8>, Class)>> {
         let event = self.connection.poll_for_event_with_sequence();
-        Ok(event.map(|(packet, number)| (number, packet)))
+        Ok(event.map(|(packet, number)| (number, packet, None)))
     }
 
     fn state(&self) -> State {
@@ -158,8 +159,8 @@ impl Side for Oracle {
         self.reader.buffer()
     }
 
-    fn advance(&mut self, amount: usize) -> Answer<Option<Vec<u8>>> {
-        Ok(self.reader.advance(amount))
+    fn advance(&mut self, amount: usize) -> Answer<Option<(Vec<u8>, Class)>> {
+        Ok(self.reader.advance(amount).map(|packet| (packet, None)))
     }
 
     fn new_handshake(&mut self) {

@@ -21,7 +21,7 @@ use std::process::{exit, ExitCode};
 use display::{display_name, ended, socket_path, Display};
 use wire::{get32, named_order};
 use xiengmado::id_allocator::IdAllocator;
-use xiengmado::{ByteOrder, SequenceNumber};
+use xiengmado::{ByteOrder, PacketClass, SequenceNumber};
 
 const MAP_WINDOW: u8 = 8;
 const NO_OPERATION: u8 = 127;
@@ -49,8 +49,8 @@ fn send(
 /// Each error came, in order, names its id, and has the number of the request that gave that id.
 fn compare(display: &mut Display, failing: &[(u32, SequenceNumber)]) -> io::Result<()> {
     for &(id, number) in failing {
-        let (packet, found) = display.event()?;
-        assert_eq!(packet[0], 0, "an error");
+        let (packet, found, class) = display.event()?;
+        assert_eq!(class, PacketClass::Error, "an error");
         assert_eq!(get32(display.order, &packet, 4), id, "the errors' order");
         assert_eq!(found, number, "the number of the error that names {id:#x}");
     }

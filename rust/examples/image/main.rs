@@ -86,10 +86,9 @@ fn run() -> io::Result<()> {
     let picture = display.ask(&request.card32(u32::MAX).done())?;
     let focus = display.request(GET_INPUT_FOCUS, 0).done();
     let focus = display.ask(&focus)?;
-    let reply = display.answer(focus)?;
-    assert_eq!((reply[0], reply.len()), (1, 32), "a short reply behind it");
-    let reply = display.answer(picture)?;
-    assert_eq!(reply[0], 1, "GetImage makes no error");
+    let reply = display.reply(focus)?;
+    assert_eq!(reply.len(), 32, "a short reply behind it");
+    let reply = display.reply(picture)?;
     let pixels = usize::from(width) * usize::from(height);
     assert_eq!(reply.len(), 32 + 4 * pixels, "32 bits a pixel");
     let order = match setup.image_byte_order {

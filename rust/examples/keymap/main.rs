@@ -21,6 +21,7 @@ use std::process::{exit, ExitCode};
 
 use display::{display_name, ended, socket_path, Display};
 use wire::{first_screen, get16, get32, named_order, put16};
+use xiengmado::PacketClass::{self, Event, SentEvent};
 use xiengmado::{ByteOrder, SequenceNumber};
 
 const CREATE_WINDOW: u8 = 1;
@@ -32,8 +33,6 @@ const NO_OPERATION: u8 = 127;
 const FOCUS_IN: u8 = 9;
 const KEYMAP_NOTIFY: u8 = 11;
 const CLIENT_MESSAGE: u8 = 33;
-/// The bit of an event that SendEvent made.
-const SENT: u8 = 128;
 
 /// A window's value list: the mask of its events, which are KeymapState and FocusChange.
 const EVENT_MASK: u32 = 0x800;
@@ -60,10 +59,16 @@ fn send(display: &mut Display, window: u32, event: [u8; 32]) -> io::Result<Seque
     display.tell(&request.padded(&event).done())
 }
 
-/// The next event must be of this code and have this number.
-fn comes(display: &mut Display, code: u8, number: SequenceNumber) -> io::Result<Vec<u8>> {
-    let (packet, found) = display.event()?;
-    assert_eq!((packet[0], found), (code, number), "the code and number");
+/// The next event must be of this class and code, and have this number.
+fn comes(
+    display: &mut Display,
+    class: PacketClass,
+    code: u8,
+    number: SequenceNumber,
+) -> io::Result<Vec<u8>> {
+    let (packet, found, told) = display.event()?;
+    assert_eq!((told, found), (class, number), "the class and number");
+    assert_eq!(told.event_code(&packet), Some(code), "the code");
     Ok(packet)
 }
 
@@ -77,9 +82,9 @@ fn keymap(display: &mut Display, window: u32, bits: u16) -> io::Result<()> {
     let mut message = [0; 32];
     (message[0], message[1]) = (CLIENT_MESSAGE, 8);
     let number = send(display, window, message)?;
-    let packet = comes(display, SENT + KEYMAP_NOTIFY, last)?;
+    let packet = comes(display, SentEvent, KEYMAP_NOTIFY, last)?;
     assert_eq!(packet[1..], keys[1..], "the key bits are as they were sent");
-    let packet = comes(display, SENT + CLIENT_MESSAGE, number)?;
+    let packet = comes(display, SentEvent, CLIENT_MESSAGE, number)?;
     let wire = get16(display.order, &packet, 2);
     assert_eq!(wire, number as u16, "the server's own number");
     display.sync()
@@ -97,8 +102,8 @@ fn run(order: ByteOrder) -> io::Result<()> {
         display.tell_unchecked(&nothing)?;
     }
     let number = focus(&mut display, window, root)?;
-    comes(&mut display, FOCUS_IN, number)?;
-    comes(&mut display, KEYMAP_NOTIFY, number)?;
+    comes(&mut display, Event, FOCUS_IN, number)?;
+    comes(&mut display, Event, KEYMAP_NOTIFY, number)?;
     display.sync()?;
     let steps = [0, 1, 2, 3, 0x100, 0x8000, 0xff00, 0xffff];
     for step in steps {

@@ -1,5 +1,5 @@
-//! The handshake of a script. It is in no savepoint, so a fresh program is given its commands before it
-//! restores: then its `state` can be that of the first run.
+//! The handshake of a script, and whether it shows classes. Neither is in a savepoint, so a fresh program is given
+//! these commands before it restores: then its `state` and its answers can be those of the first run.
 
 #[derive(Default)]
 pub struct Opening {
@@ -17,7 +17,7 @@ impl Opening {
                 self.lines = self.new.iter().cloned().collect();
                 self.lines.push(line.into());
             }
-            Some("hfill" | "hadvance") => self.lines.push(line.into()),
+            Some("hfill" | "hadvance" | "classes") => self.lines.push(line.into()),
             _ => {}
         }
     }

@@ -5,10 +5,10 @@ use std::os::unix::net::UnixStream;
 use std::process::ExitCode;
 
 use xiengmado::connect::Connect;
-use xiengmado::connection::{Connection, PollReply, ReplyFdKind};
-use xiengmado::packet_reader::PacketReader;
+use xiengmado::connection::{Connection, EventWithClass, PollReply, ReplyFdKind};
+use xiengmado::packet_reader::{PacketReader, PacketWithClass};
 use xiengmado::protocol::xproto::Setup;
-use xiengmado::{ByteOrder, DiscardMode, SequenceNumber};
+use xiengmado::{ByteOrder, DiscardMode, PacketClass, SequenceNumber};
 
 use crate::wire::{get16, Request};
 
@@ -182,26 +182,33 @@ impl Display {
             return Err(closed());
         }
         if let Some(packet) = self.reader.advance(count) {
-            match packet[0] {
-                0 => self.counts.errors += 1,
-                1 => self.counts.replies += 1,
+            match self.connection.enqueue_packet_with_class(packet) {
+                PacketClass::Error => self.counts.errors += 1,
+                PacketClass::Reply => self.counts.replies += 1,
                 _ => self.counts.events += 1,
             }
-            self.connection.enqueue_packet(packet);
         }
         Ok(())
     }
 
     /// Waits for the reply or the error of a request that has a reply.
-    pub fn answer(&mut self, number: SequenceNumber) -> io::Result<Vec<u8>> {
+    pub fn answer(&mut self, number: SequenceNumber) -> io::Result<PacketWithClass> {
         loop {
-            if let Some((packet, _)) = self.connection.poll_for_reply_or_error(number) {
+            let answer = self.connection.poll_for_reply_or_error_with_class(number);
+            if let Some((packet, _, class)) = answer {
                 let wire = get16(self.order, &packet, 2);
                 assert_eq!(wire, number as u16, "the answer is that of its request");
-                return Ok(packet);
+                return Ok((packet, class));
             }
             self.read()?;
         }
+    }
+
+    /// Waits for the reply of a request that makes no error.
+    pub fn reply(&mut self, number: SequenceNumber) -> io::Result<Vec<u8>> {
+        let (packet, class) = self.answer(number)?;
+        assert_eq!(class, PacketClass::Reply, "a reply, not an error");
+        Ok(packet)
     }
 
     /// Waits until the server has handled a request without a reply; its error, if it made one.
@@ -222,15 +229,14 @@ impl Display {
     pub fn sync(&mut self) -> io::Result<()> {
         let request = self.request(GET_INPUT_FOCUS, 0).done();
         let number = self.ask(&request)?;
-        let reply = self.answer(number)?;
-        assert_eq!(reply[0], 1, "GetInputFocus makes no error");
+        self.reply(number)?;
         Ok(())
     }
 
-    /// Waits for the next event (or an error that nobody checks), with its number.
-    pub fn event(&mut self) -> io::Result<(Vec<u8>, SequenceNumber)> {
+    /// Waits for the next event (or an error that nobody checks), with its number and its class.
+    pub fn event(&mut self) -> io::Result<EventWithClass> {
         loop {
-            if let Some(event) = self.connection.poll_for_event_with_sequence() {
+            if let Some(event) = self.connection.poll_for_event_with_class() {
                 return Ok(event);
             }
             self.read()?;

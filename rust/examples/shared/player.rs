@@ -8,10 +8,10 @@ use xiengmado::engine::Engine;
 use xiengmado::id_allocator::IdAllocator;
 use xiengmado::packet_reader::PacketReader;
 use xiengmado::savepoint::SaveError;
-use xiengmado::{ByteOrder, DiscardMode, Refusal, SequenceNumber};
+use xiengmado::{ByteOrder, DiscardMode, PacketClass, Refusal, SequenceNumber};
 
-/// Codes of the event that carries no number, as the server and as SendEvent makes it.
-const UNNUMBERED: [u8; 2] = [11, 139];
+/// The event that carries no number.
+const KEYMAP_NOTIFY: u8 = 11;
 
 /// A connection, its reader and its ids.
 pub struct Player {
@@ -72,14 +72,14 @@ impl Player {
             .len()
             .min(end.min(stream.len()).saturating_sub(at.bytes));
         part[..n].copy_from_slice(&stream[at.bytes..at.bytes + n]);
-        let answer = self.reader.try_advance(n);
+        let answer = self.reader.try_advance_with_class(n);
         at.bytes += n;
         match &answer {
             Ok(None) => {}
-            Ok(Some(packet)) => {
+            Ok(Some((packet, class))) => {
                 at.packets += 1;
-                say(log, "whole", packet);
-                self.came(packet, at.packets, log);
+                say(log, "whole", (packet, class));
+                self.came(packet, *class, at.packets, log);
             }
             Err(refusal) => {
                 at.bytes = stream.len();
@@ -95,19 +95,23 @@ impl Player {
     }
 
     /// A packet is whole: the requests that it answers were sent before it, and some calls follow.
-    fn came(&mut self, packet: &[u8], turn: u64, log: &mut Log) {
-        let number = self.number(packet);
+    fn came(&mut self, packet: &[u8], class: PacketClass, turn: u64, log: &mut Log) {
+        let number = self.number(packet, class);
         self.send(number, log);
-        say(log, "packet", self.engine.enqueue_packet(packet));
         let e = &mut self.engine;
+        say(log, "packet", e.enqueue_packet_with_class(packet));
         match turn % 4 {
-            0 => say(log, "event", e.poll_for_event_with_sequence()),
-            1 => say(log, "reply", e.poll_for_reply(number)),
-            2 => say(log, "check", e.poll_check_for_reply_or_error(number)),
+            0 => say(log, "event", e.poll_for_event_with_class()),
+            1 => say(log, "reply", e.poll_for_reply_with_class(number)),
+            2 => say(
+                log,
+                "check",
+                e.poll_check_for_reply_or_error_with_class(number),
+            ),
             _ => say(
                 log,
                 "reply or error",
-                e.poll_for_reply_or_error(number - number.min(1)),
+                e.poll_for_reply_or_error_with_class(number - number.min(1)),
             ),
         }
         say(
@@ -126,12 +130,12 @@ impl Player {
     }
 
     /// The number of a packet: the least from the last read on that has its 16 bits.
-    fn number(&self, packet: &[u8]) -> SequenceNumber {
+    fn number(&self, packet: &[u8], class: PacketClass) -> SequenceNumber {
         let read = self.engine.last_sequence_read();
         let wire = u16::from_le_bytes([packet[2], packet[3]]);
-        match UNNUMBERED.contains(&packet[0]) {
-            true => read,
-            false => read + u64::from(wire.wrapping_sub(read as u16)),
+        match class.event_code(packet) {
+            Some(KEYMAP_NOTIFY) => read,
+            _ => read + u64::from(wire.wrapping_sub(read as u16)),
         }
     }
 

@@ -9,7 +9,8 @@
 //! with; the real ones are only passed on. The few requests whose reply has some are known (`extensions.rs`).
 //!
 //! Each packet is taken back at once, as a client would: an event as the oldest, a reply or an error by its
-//! true number. So the engine's store never fills.
+//! true number. So the engine's store never fills. Its class, which the reader tells, must be told again when it
+//! is taken in and when it comes back.
 
 use std::fmt;
 use std::ops::Range;
@@ -17,8 +18,8 @@ use std::ops::Range;
 use xiengmado::connect::Connect;
 use xiengmado::connection::ReplyFdKind;
 use xiengmado::engine::{Engine, Place};
-use xiengmado::packet_reader::{packet_length, PacketReader};
-use xiengmado::{ByteOrder, Refusal};
+use xiengmado::packet_reader::{packet_length_with_class, PacketReader, PacketWithClass};
+use xiengmado::{ByteOrder, PacketClass, Refusal};
 
 use crate::extensions::Extensions;
 use crate::reckoning::{Reckoning, Truth};
@@ -127,20 +128,21 @@ impl Server {
             return Ok((count, Part::Setup));
         }
         let count = fill(self.reader.buffer(), bytes);
-        let part = match self.reader.try_advance(count) {
+        let part = match self.reader.try_advance_with_class(count) {
             Err(Refusal::LongPacket) => Part::Long(self.long_packet(count)?, self.skip),
             packet => packet?.map_or(Part::Open, Part::Packet),
         };
         Ok((count, part))
     }
 
-    /// The first 32 bytes of a packet that the reader refused, which left it as it was.
-    fn long_packet(&mut self, count: usize) -> Result<Vec<u8>, Refusal> {
+    /// The first 32 bytes of a packet that the reader refused, which left it as it was, and its class.
+    fn long_packet(&mut self, count: usize) -> Result<PacketWithClass, Refusal> {
         let mut packet = self.reader.filled().to_vec();
         packet.extend_from_slice(&self.reader.buffer()[..count]);
-        self.skip = packet_length(packet[0], get32(self.order, &packet, 4)) - packet.len();
+        let (length, class) = packet_length_with_class(packet[0], get32(self.order, &packet, 4));
+        self.skip = length - packet.len();
         self.reader = PacketReader::with_buffer(self.order, PACKET)?;
-        Ok(packet)
+        Ok((packet, class))
     }
 
     /// How many bytes of a setup or a packet that is not whole are there.
@@ -152,31 +154,32 @@ impl Server {
         }
     }
 
-    /// Files a packet and takes it back: the engine's number, and whether what came back is that packet, with
-    /// the next descriptors, so many.
+    /// Files a packet and takes it back: the engine's number, and whether what came back is that packet, of its
+    /// class, with the next descriptors, so many.
     fn file(
         &mut self,
-        packet: &[u8],
+        (packet, class): &PacketWithClass,
         truth: Option<u64>,
         count: usize,
     ) -> Result<(u64, bool), Refusal> {
         let engine = &mut self.engine;
-        let (place, number) = engine.enqueue_packet(packet)?;
+        let (place, number, filed) = engine.enqueue_packet_with_class(packet)?;
         let back = match place {
             Place::Dropped => return Ok((number, false)),
             Place::Events => {
-                let event = engine.poll_for_event_with_sequence()?;
-                event.map(|(packet, number)| (packet, number, Vec::new()))
+                let event = engine.poll_for_event_with_class()?;
+                event.map(|(packet, number, class)| (packet, number, class, Vec::new()))
             }
             Place::Replies => {
                 let asked = truth.unwrap_or(number);
-                let back = engine.poll_for_reply_or_error(asked)?;
-                back.map(|(packet, fds)| (packet, asked, fds))
+                let back = engine.poll_for_reply_or_error_with_class(asked)?;
+                back.map(|(packet, fds, class)| (packet, asked, class, fds))
             }
         };
-        let due = numbers(self.handed, count).collect();
-        self.handed += back.as_ref().map_or(0, |back| back.2.len() as u32);
-        Ok((number, back == Some((packet.to_vec(), number, due))))
+        let fds = numbers(self.handed, count).collect();
+        self.handed += back.as_ref().map_or(0, |back| back.3.len() as u32);
+        let due = (packet.clone(), number, *class, fds);
+        Ok((number, filed == *class && back == Some(due)))
     }
 }
 
@@ -295,10 +298,10 @@ impl Check {
             self.record(|script| script.server(&rest[..count], &part));
             rest = &rest[count..];
             match part {
-                Part::Packet(packet) => self.packet(&packet)?,
+                Part::Packet(packet) => self.packet(packet)?,
                 Part::Long(head, _) => {
                     self.counts.long += 1;
-                    self.packet(&head)?;
+                    self.packet(head)?;
                 }
                 _ => {}
             }
@@ -307,27 +310,27 @@ impl Check {
         Ok(())
     }
 
-    fn packet(&mut self, packet: &[u8]) -> Result<(), Refusal> {
-        match packet[0] {
-            0 => self.counts.errors += 1,
-            1 => self.counts.replies += 1,
+    fn packet(&mut self, read: PacketWithClass) -> Result<(), Refusal> {
+        let (packet, class) = &read;
+        match class {
+            PacketClass::Error => self.counts.errors += 1,
+            PacketClass::Reply => self.counts.replies += 1,
             _ => self.counts.events += 1,
         }
         let server = self.server.as_mut().expect("a packet was read");
-        let truth = self
-            .reckoning
-            .packet(packet, get16(server.order, packet, 2));
+        let wire = get16(server.order, packet, 2);
+        let truth = self.reckoning.packet(packet, *class, wire);
         let known = match truth {
             Truth::Number(number) => Some(number),
             _ => None,
         };
-        let fds = known.map_or(0, |number| self.extensions.packet(number, packet));
-        let (number, whole) = server.file(packet, known, fds)?;
+        let fds = known.map_or(0, |number| self.extensions.packet(number, packet, *class));
+        let (number, whole) = server.file(&read, known, fds)?;
         self.counts.last = self.counts.last.max(number);
         match truth {
             Truth::Number(truth) if number == truth && whole => {}
             Truth::Number(truth) => self.differs(&format!(
-                "packet of code {}: number {truth}, {number} to the engine; came back whole: {whole}",
+                "packet of code {}, {class}: number {truth}, {number} to the engine; came back whole: {whole}",
                 packet[0]
             )),
             Truth::Unclear => self.counts.unclear += 1,
@@ -491,7 +494,10 @@ mod test {
         check.client(&requests(order, 9, FOCUS)).unwrap();
         let (stray, event) = (packet(order, EVENT, 5, 0), packet(order, EVENT, 1, 0));
         let server = check.server.as_mut().unwrap();
-        server.file(&stray, None, 0).unwrap();
+        let filed = server.file(&(stray, PacketClass::Event), None, 0);
+        assert_eq!(filed, Ok((5, true)));
+        let other = (packet(order, EVENT, 5, 0), PacketClass::SentEvent);
+        assert_eq!(server.file(&other, None, 0), Ok((5, false)));
         assert_eq!(check.server(&event), Err(Refusal::Ahead));
         check.client(&requests(order, 65_528, NOTHING)).unwrap();
         check.server(&event).unwrap();

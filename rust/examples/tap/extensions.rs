@@ -4,8 +4,7 @@
 
 use std::collections::VecDeque;
 
-const ERROR: u8 = 0;
-const REPLY: u8 = 1;
+use xiengmado::PacketClass;
 
 /// Extensions, and the minor opcodes of such requests: CreateSegment; Open, BufferFromPixmap, FDFromFence and
 /// BuffersFromPixmap.
@@ -43,17 +42,16 @@ impl Extensions {
     }
 
     /// The server sends a packet with this number: how many descriptors it has.
-    pub fn packet(&mut self, number: u64, packet: &[u8]) -> usize {
-        let answers = matches!(packet[0], ERROR | REPLY);
+    pub fn packet(&mut self, number: u64, packet: &[u8], class: PacketClass) -> usize {
         let mut found = None;
         while let Some(&(awaited, _)) = self.awaited.front() {
-            if awaited > number || (awaited == number && !answers) {
+            if awaited > number || (awaited == number && class.is_event()) {
                 break;
             }
             found = self.awaited.pop_front().filter(|_| awaited == number);
         }
         match found {
-            Some((_, what)) if packet[0] == REPLY => self.reply(what, packet),
+            Some((_, what)) if class == PacketClass::Reply => self.reply(what, packet),
             _ => 0,
         }
     }
@@ -72,10 +70,11 @@ impl Extensions {
 #[cfg(test)]
 mod test {
     use super::*;
+    use PacketClass::{Error, Event, Reply};
 
-    fn packet(code: u8, detail: u8, present: u8, opcode: u8) -> [u8; 32] {
+    fn packet(detail: u8, present: u8, opcode: u8) -> [u8; 32] {
         let mut bytes = [0; 32];
-        (bytes[0], bytes[1], bytes[8], bytes[9]) = (code, detail, present, opcode);
+        (bytes[1], bytes[8], bytes[9]) = (detail, present, opcode);
         bytes
     }
 
@@ -86,13 +85,13 @@ mod test {
             e.query(number, name.as_bytes());
         }
         assert!(!e.request(5, 130, 7));
-        assert_eq!(e.packet(1, &packet(REPLY, 0, 1, 130)), 0);
-        assert_eq!(e.packet(2, &packet(REPLY, 0, 1, 139)), 0);
+        assert_eq!(e.packet(1, &packet(0, 1, 130), Reply), 0);
+        assert_eq!(e.packet(2, &packet(0, 1, 139), Reply), 0);
         assert!(e.request(6, 130, 7));
         assert!(!e.request(7, 130, 1) && !e.request(7, 139, 7));
-        assert_eq!(e.packet(3, &packet(REPLY, 0, 0, 149)), 0);
+        assert_eq!(e.packet(3, &packet(0, 0, 149), Reply), 0);
         assert!(!e.request(8, 149, 1));
-        assert_eq!(e.packet(4, &packet(REPLY, 0, 1, 149)), 0);
+        assert_eq!(e.packet(4, &packet(0, 1, 149), Reply), 0);
         let minors: Vec<u8> = (0..12).filter(|&m| e.request(9, 149, m)).collect();
         assert_eq!(minors, [1, 3, 5, 8]);
     }
@@ -101,14 +100,14 @@ mod test {
     fn replies_have_descriptors() {
         let mut e = Extensions::default();
         e.query(1, b"MIT-SHM");
-        e.packet(1, &packet(REPLY, 0, 1, 130));
+        e.packet(1, &packet(0, 1, 130), Reply);
         assert!([2, 4, 6, 8].iter().all(|&n| e.request(n, 130, 7)));
-        assert_eq!(e.packet(2, &packet(28, 9, 0, 0)), 0);
-        assert_eq!(e.packet(2, &packet(REPLY, 1, 0, 0)), 1);
-        assert_eq!(e.packet(3, &packet(REPLY, 5, 0, 0)), 0);
-        assert_eq!(e.packet(4, &packet(ERROR, 9, 0, 0)), 0);
-        assert_eq!(e.packet(7, &packet(REPLY, 5, 0, 0)), 0);
-        assert_eq!(e.packet(8, &packet(REPLY, 3, 0, 0)), 3);
+        assert_eq!(e.packet(2, &packet(9, 0, 0), Event), 0);
+        assert_eq!(e.packet(2, &packet(1, 0, 0), Reply), 1);
+        assert_eq!(e.packet(3, &packet(5, 0, 0), Reply), 0);
+        assert_eq!(e.packet(4, &packet(9, 0, 0), Error), 0);
+        assert_eq!(e.packet(7, &packet(5, 0, 0), Reply), 0);
+        assert_eq!(e.packet(8, &packet(3, 0, 0), Reply), 3);
         assert!(e.awaited.is_empty());
     }
 }

@@ -1,4 +1,4 @@
-//! Which number a packet truly has, reckoned without the engine.
+//! Which number a packet truly has, reckoned without the engine. What kind of packet it is the reader has told.
 //!
 //! A packet has 16 bits of the number. The engine reckons from below: the least number at or above the
 //! last read. Here it is reckoned from above, by what was asked: every request is counted before the server
@@ -14,13 +14,14 @@
 
 use std::collections::VecDeque;
 
+use xiengmado::PacketClass::{self, Error, Reply};
+
 use crate::requests::{answer, Answer};
 
 /// How many numbers 16 bits can tell apart.
 const WIRE: u64 = 65_536;
 
-const ERROR: u8 = 0;
-const REPLY: u8 = 1;
+/// The event that carries no number.
 const KEYMAP_NOTIFY: u8 = 11;
 
 /// The core request that has many replies; in the last one byte 1 is 0.
@@ -56,9 +57,9 @@ impl Reckoning {
     }
 
     /// The server sends a packet with this wire number.
-    pub fn packet(&mut self, packet: &[u8], wire: u16) -> Truth {
-        if packet[0] & 0x7f == KEYMAP_NOTIFY {
-            // It has no number; it stands behind the packet before.
+    pub fn packet(&mut self, packet: &[u8], class: PacketClass, wire: u16) -> Truth {
+        if class.event_code(packet) == Some(KEYMAP_NOTIFY) {
+            // It stands behind the packet before.
             return Truth::Number(self.last);
         }
         let ceiling = *self.awaited.front().unwrap_or(&self.sent);
@@ -69,10 +70,10 @@ impl Reckoning {
         if number >= self.last + WIRE {
             return Truth::Unclear;
         }
-        if let Some(wrong) = self.unfit(packet, number) {
+        if let Some(wrong) = self.unfit(packet, class, number) {
             return Truth::Wrong(wrong);
         }
-        self.move_to(packet, number);
+        self.move_to(packet, class, number);
         Truth::Number(number)
     }
 
@@ -84,14 +85,14 @@ impl Reckoning {
     }
 
     /// Why a reply or an error can't be that of the request with this number.
-    fn unfit(&self, packet: &[u8], number: u64) -> Option<&'static str> {
+    fn unfit(&self, packet: &[u8], class: PacketClass, number: u64) -> Option<&'static str> {
         let opcode = self.opcode(number);
-        match packet[0] {
-            ERROR if opcode != Some(packet[10]) => Some("an error names another opcode"),
-            REPLY if opcode.is_none_or(|opcode| answer(opcode) == Answer::None) => {
+        match class {
+            Error if opcode != Some(packet[10]) => Some("an error names another opcode"),
+            Reply if opcode.is_none_or(|opcode| answer(opcode) == Answer::None) => {
                 Some("a reply to a request that has none")
             }
-            REPLY if opcode.is_some_and(|opcode| answer(opcode) == Answer::Reply) => {
+            Reply if opcode.is_some_and(|opcode| answer(opcode) == Answer::Reply) => {
                 let awaited = self.awaited.front() == Some(&number);
                 (!awaited).then_some("a second reply")
             }
@@ -100,11 +101,10 @@ impl Reckoning {
     }
 
     /// The server stands at this number; an awaited reply may have come, or an error in its place.
-    fn move_to(&mut self, packet: &[u8], number: u64) {
-        let more = packet[0] == REPLY
-            && packet[1] != 0
-            && self.opcode(number) == Some(LIST_FONTS_WITH_INFO);
-        if packet[0] <= REPLY && !more && self.awaited.front() == Some(&number) {
+    fn move_to(&mut self, packet: &[u8], class: PacketClass, number: u64) {
+        let more =
+            class == Reply && packet[1] != 0 && self.opcode(number) == Some(LIST_FONTS_WITH_INFO);
+        if !class.is_event() && !more && self.awaited.front() == Some(&number) {
             self.awaited.pop_front();
         }
         self.last = number;
@@ -117,15 +117,25 @@ impl Reckoning {
 #[cfg(test)]
 mod test {
     use super::*;
+    use xiengmado::packet_reader::packet_length_with_class;
 
     const FOCUS: u8 = 43;
     const NOTHING: u8 = 127;
+    const ERROR: u8 = 0;
+    const REPLY: u8 = 1;
     const EVENT: u8 = 28;
 
     fn packet(code: u8, detail: u8, opcode: u8) -> [u8; 32] {
         let mut bytes = [0; 32];
         (bytes[0], bytes[1], bytes[10]) = (code, detail, opcode);
         bytes
+    }
+
+    impl Reckoning {
+        fn came(&mut self, packet: &[u8], wire: u16) -> Truth {
+            let (_, class) = packet_length_with_class(packet[0], 0);
+            self.packet(packet, class, wire)
+        }
     }
 
     fn after(opcodes: &[(usize, u8)]) -> Reckoning {
@@ -140,47 +150,35 @@ mod test {
     fn an_awaited_reply_is_the_ceiling() {
         // A sync at 65,000 is not answered yet while 70,000 more are on their way.
         let mut r = after(&[(64_999, NOTHING), (1, FOCUS), (70_000, NOTHING)]);
-        assert_eq!(r.packet(&packet(EVENT, 0, 0), 5), Truth::Number(5));
-        assert_eq!(
-            r.packet(&packet(REPLY, 0, 0), 65_000),
-            Truth::Number(65_000)
-        );
-        assert_eq!(r.packet(&packet(EVENT, 0, 0), 4_464), Truth::Number(70_000));
+        assert_eq!(r.came(&packet(EVENT, 0, 0), 5), Truth::Number(5));
+        assert_eq!(r.came(&packet(REPLY, 0, 0), 65_000), Truth::Number(65_000));
+        assert_eq!(r.came(&packet(EVENT, 0, 0), 4_464), Truth::Number(70_000));
         r = after(&[(140_000, NOTHING)]);
-        assert_eq!(r.packet(&packet(EVENT, 0, 0), 4_464), Truth::Unclear);
+        assert_eq!(r.came(&packet(EVENT, 0, 0), 4_464), Truth::Unclear);
     }
 
     #[test]
     fn what_does_not_fit() {
         let mut r = after(&[(10, NOTHING)]);
-        assert_eq!(r.packet(&packet(EVENT, 0, 0), 9), Truth::Number(9));
-        assert!(matches!(r.packet(&packet(EVENT, 0, 0), 8), Truth::Wrong(_)));
-        assert!(matches!(
-            r.packet(&packet(EVENT, 0, 0), 11),
-            Truth::Wrong(_)
-        ));
-        assert!(matches!(
-            r.packet(&packet(REPLY, 0, 0), 10),
-            Truth::Wrong(_)
-        ));
-        assert!(matches!(
-            r.packet(&packet(ERROR, 3, 8), 10),
-            Truth::Wrong(_)
-        ));
-        assert_eq!(r.packet(&packet(ERROR, 3, NOTHING), 10), Truth::Number(10));
+        assert_eq!(r.came(&packet(EVENT, 0, 0), 9), Truth::Number(9));
+        assert!(matches!(r.came(&packet(EVENT, 0, 0), 8), Truth::Wrong(_)));
+        assert!(matches!(r.came(&packet(EVENT, 0, 0), 11), Truth::Wrong(_)));
+        assert!(matches!(r.came(&packet(REPLY, 0, 0), 10), Truth::Wrong(_)));
+        assert!(matches!(r.came(&packet(ERROR, 3, 8), 10), Truth::Wrong(_)));
+        assert_eq!(r.came(&packet(ERROR, 3, NOTHING), 10), Truth::Number(10));
     }
 
     #[test]
     fn one_reply_unless_it_is_of_many() {
         let mut r = after(&[(1, FOCUS), (1, LIST_FONTS_WITH_INFO), (1, NOTHING)]);
-        assert_eq!(r.packet(&packet(REPLY, 0, 0), 1), Truth::Number(1));
-        assert!(matches!(r.packet(&packet(REPLY, 0, 0), 1), Truth::Wrong(_)));
-        assert_eq!(r.packet(&packet(REPLY, 7, 0), 2), Truth::Number(2));
-        assert!(matches!(r.packet(&packet(EVENT, 0, 0), 3), Truth::Wrong(_)));
-        assert_eq!(r.packet(&packet(REPLY, 0, 0), 2), Truth::Number(2));
-        assert_eq!(r.packet(&packet(EVENT, 0, 0), 3), Truth::Number(3));
+        assert_eq!(r.came(&packet(REPLY, 0, 0), 1), Truth::Number(1));
+        assert!(matches!(r.came(&packet(REPLY, 0, 0), 1), Truth::Wrong(_)));
+        assert_eq!(r.came(&packet(REPLY, 7, 0), 2), Truth::Number(2));
+        assert!(matches!(r.came(&packet(EVENT, 0, 0), 3), Truth::Wrong(_)));
+        assert_eq!(r.came(&packet(REPLY, 0, 0), 2), Truth::Number(2));
+        assert_eq!(r.came(&packet(EVENT, 0, 0), 3), Truth::Number(3));
         for code in [KEYMAP_NOTIFY, KEYMAP_NOTIFY | 0x80] {
-            assert_eq!(r.packet(&packet(code, 9, 9), 77), Truth::Number(3));
+            assert_eq!(r.came(&packet(code, 9, 9), 77), Truth::Number(3));
         }
     }
 }

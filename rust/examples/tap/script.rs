@@ -1,8 +1,9 @@
 //! The session as a script of `replay` (`docs/REPLAY.md`).
 //!
 //! What the tap tells its engine and takes from it becomes commands, in the same order. An engine of the
-//! script's own answers each through the crate, and the answer stands behind it as an `expect` line. So
-//! whatever was taken in is polled at once, and neither this engine's store fills nor that of `replay`.
+//! script's own answers each through the crate, and the answer stands behind it as an `expect` line, with the
+//! class of each packet. So whatever was taken in is polled at once, and neither this engine's store fills nor
+//! that of `replay`.
 //!
 //! Of `state` the crate says less than `replay`: that command stands alone.
 
@@ -11,6 +12,7 @@ use std::io::{self, BufWriter, Write};
 use std::path::{Path, PathBuf};
 
 use xiengmado::engine::Place;
+use xiengmado::packet_reader::PacketWithClass;
 use xiengmado::ByteOrder;
 
 use crate::ours::Ours;
@@ -35,9 +37,9 @@ pub enum Part {
     Setup,
     /// No packet became whole with them.
     Open,
-    Packet(Vec<u8>),
-    /// The first 32 bytes of a packet that is too long, and how many are still to come.
-    Long(Vec<u8>, usize),
+    Packet(PacketWithClass),
+    /// The first 32 bytes of a packet that is too long, with its class, and how many are still to come.
+    Long(PacketWithClass, usize),
     /// Later bytes of such a one.
     Rest,
 }
@@ -112,6 +114,7 @@ impl Script {
         self.command(&format!("new {REQUESTS} {STORE} {order}"));
         self.command("reader");
         self.command("hello");
+        self.command("classes on");
     }
 
     /// The client sends a request.
@@ -137,8 +140,8 @@ impl Script {
         match part {
             Part::Setup => self.setup(bytes),
             Part::Open => self.bytes(bytes, 0),
-            Part::Packet(packet) => self.bytes(bytes, packet.len()),
-            Part::Long(head, left) => {
+            Part::Packet((packet, _)) => self.bytes(bytes, packet.len()),
+            Part::Long((head, _), left) => {
                 self.bytes(bytes, 0);
                 self.long(head, *left);
             }
@@ -329,15 +332,17 @@ mod test {
         });
         let lines = commands(&script);
         assert_eq!(lines[0], "new 65536 262144 l");
-        assert_eq!(lines[7], "ids 0x400000 0x1fffff");
+        assert_eq!(lines[8], "ids 0x400000 0x1fffff");
         assert_eq!(
-            [lines[8], lines[11]],
+            [lines[9], lines[12]],
             ["send none 3", "sendall reply none none"]
         );
-        let due = "new reader hello hfill hadvance hfill hadvance ids send feedin poll_event \
+        let due =
+            "new reader hello classes hfill hadvance hfill hadvance ids send feedin poll_event \
                    sendall feedin poll_event feedin poll_event poll_reply_or_error send state";
         assert_eq!(names(&lines).join(" "), due);
         assert!(lines.contains(&"poll_reply_or_error 4"));
+        assert!(script.contains("a5 reply ") && script.contains("a5 event\n"));
     }
 
     #[test]
@@ -361,9 +366,9 @@ mod test {
         let lines = commands(&script);
         let due =
             "sendall feedin poll_reply_or_error send fds feedin fds feedin poll_reply_or_error";
-        assert_eq!(names(&lines[8..lines.len() - 1]).join(" "), due);
+        assert_eq!(names(&lines[9..lines.len() - 1]).join(" "), due);
         assert_eq!(
-            [lines[11], lines[12], lines[14]],
+            [lines[12], lines[13], lines[15]],
             ["send fds", "fds 1 2", "fds 3"]
         );
         assert!(script.contains("a5 fds 1 2\n"));
@@ -378,7 +383,7 @@ mod test {
         });
         let lines = commands(&script);
         assert_eq!(
-            lines[8..],
+            lines[9..],
             ["send none 65534", "send none", "send reply", "state"]
         );
         assert!(script.contains("\nexpect send refused 6\n"));

@@ -33,7 +33,7 @@ use xiengmado::protocol::xc_misc::{
     GetXIDRangeRequest, X11_EXTENSION_NAME,
 };
 use xiengmado::x11_utils::{TryParse, X11Error};
-use xiengmado::{ByteOrder, DiscardMode, SequenceNumber};
+use xiengmado::{ByteOrder, DiscardMode, PacketClass, SequenceNumber};
 
 const ORDER: ByteOrder = ByteOrder::NATIVE;
 
@@ -56,7 +56,6 @@ const QUERY_EXTENSION: u8 = 98;
 const NO_OPERATION: u8 = 127;
 
 /// Codes of events and errors.
-const ERROR: u8 = 0;
 const EXPOSE: u8 = 12;
 const NO_EXPOSURE: u8 = 14;
 const DESTROY_NOTIFY: u8 = 17;
@@ -143,19 +142,27 @@ impl Client {
     /// Sends a request and waits for its reply.
     fn reply(&mut self, bytes: &[u8]) -> io::Result<(Vec<u8>, SequenceNumber)> {
         let number = self.display.ask(bytes)?;
-        let reply = self.display.answer(number)?;
-        assert_eq!(reply[0], 1, "a reply, not an error");
-        Ok((reply, number))
+        Ok((self.display.reply(number)?, number))
     }
 
-    /// Waits for an event of this code, or an error of code 0; other events are passed over.
+    /// Waits for an event of this code; other events are passed over.
     fn event(&mut self, code: u8) -> io::Result<(Vec<u8>, SequenceNumber)> {
         loop {
-            let (event, number) = self.display.event()?;
-            if event[0] & 0x7f == code {
+            let (event, number, class) = self.display.event()?;
+            if class.event_code(&event) == Some(code) {
                 return Ok((event, number));
             }
-            assert_ne!(event[0], ERROR, "no other error is on the way");
+            assert_ne!(class, PacketClass::Error, "no error is on the way");
+        }
+    }
+
+    /// Waits for an error that nobody checks; events are passed over.
+    fn error(&mut self) -> io::Result<(Vec<u8>, SequenceNumber)> {
+        loop {
+            let (packet, number, class) = self.display.event()?;
+            if class == PacketClass::Error {
+                return Ok((packet, number));
+            }
         }
     }
 
@@ -309,14 +316,14 @@ impl Client {
         let geometry = self.display.ask(&geometry)?;
         let tree = self.display.ask(&tree)?;
         let atom = self.display.ask(&atom)?;
-        let answer = self.display.answer(atom)?;
+        let answer = self.display.reply(atom)?;
         let name = get32(ORDER, &answer, 8);
         println!("{atom}: InternAtom, taken first: {name}");
-        let answer = self.display.answer(tree)?;
+        let answer = self.display.reply(tree)?;
         let (root, parent) = (get32(ORDER, &answer, 8), get32(ORDER, &answer, 12));
         assert_eq!(root, self.screen.root);
         println!("{tree}: QueryTree, taken second: the parent is {parent:#x}");
-        let answer = self.display.answer(geometry)?;
+        let answer = self.display.reply(geometry)?;
         let size = (get16(ORDER, &answer, 16), get16(ORDER, &answer, 18));
         assert_eq!(size, (WIDTH, HEIGHT), "the size is what was asked for");
         println!("{geometry}: GetGeometry, taken last: {size:?}");
@@ -329,7 +336,8 @@ impl Client {
         let ask = self.display.request(GET_GEOMETRY, 0).card32(nothing).done();
         let tell = self.display.request(MAP_WINDOW, 0).card32(nothing).done();
         let asked = self.display.ask(&ask)?;
-        let error = self.display.answer(asked)?;
+        let (error, class) = self.display.answer(asked)?;
+        assert_eq!(class, PacketClass::Error);
         is_error(&error, BAD_DRAWABLE, GET_GEOMETRY, nothing);
         println!("{asked}: GetGeometry of no window: the answer is a Drawable error");
         let told = self.display.tell(&tell)?;
@@ -337,7 +345,7 @@ impl Client {
         is_error(&error, BAD_WINDOW, MAP_WINDOW, nothing);
         println!("{told}: MapWindow of no window, checked: a Window error");
         let told = self.display.tell_unchecked(&tell)?;
-        let (error, number) = self.event(ERROR)?;
+        let (error, number) = self.error()?;
         is_error(&error, BAD_WINDOW, MAP_WINDOW, nothing);
         assert_eq!(number, told);
         println!("{told}: MapWindow of no window, unchecked: the error came with the events");
@@ -354,8 +362,8 @@ impl Client {
         connection.discard_reply(failed, DiscardMode::DiscardReplyAndError);
         self.display.sync()?;
         let connection = &mut self.display.connection;
-        while let Some((event, _)) = connection.poll_for_event_with_sequence() {
-            assert_ne!(event[0], ERROR, "the error was dropped");
+        while let Some((.., class)) = connection.poll_for_event_with_class() {
+            assert_ne!(class, PacketClass::Error, "the error was dropped");
         }
         for number in [replied, failed] {
             let answer = connection.poll_for_reply_or_error(number);

@@ -28,11 +28,13 @@ impl Client {
         self.display.tell_unchecked(&request.done())?;
         println!("        window {window:#x} stays until it is closed");
         loop {
-            let (event, _) = self.display.event()?;
-            match event[0] & 0x7f {
-                EXPOSE if get16(ORDER, &event, 16) == 0 => self.petals(window, gc)?,
-                CLIENT_MESSAGE if get32(ORDER, &event, 12) == delete => self.destroy(window)?,
-                DESTROY_NOTIFY => break,
+            let (event, _, class) = self.display.event()?;
+            match class.event_code(&event) {
+                Some(EXPOSE) if get16(ORDER, &event, 16) == 0 => self.petals(window, gc)?,
+                Some(CLIENT_MESSAGE) if get32(ORDER, &event, 12) == delete => {
+                    self.destroy(window)?
+                }
+                Some(DESTROY_NOTIFY) => break,
                 _ => {}
             }
         }

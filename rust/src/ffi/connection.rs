@@ -1,8 +1,9 @@
 //! The connection.
 
-use super::{answer, Rooms};
+use super::{answer, class, Rooms};
 use crate::errors::Refusal;
 use crate::exports::*;
+use crate::packet_class::PacketClass;
 
 /// An export with the state, the three rooms, and whatever else it takes.
 macro_rules! call {
@@ -91,17 +92,18 @@ pub(crate) fn enqueue_packet(
     state: &mut [u64],
     rooms: &mut Rooms,
     packet: &[u8],
-) -> Result<(u8, u64), Refusal> {
-    let (mut place, mut number) = (0, 0);
+) -> Result<(u8, u64, PacketClass), Refusal> {
+    let (mut place, mut number, mut packet_class) = (0, 0, 0);
     call!(xm_enqueue_packet(
         state,
         rooms,
         packet.as_ptr(),
         packet.len(),
         &mut place,
-        &mut number
+        &mut number,
+        &mut packet_class
     ))?;
-    Ok((place, number))
+    Ok((place, number, class(packet_class)))
 }
 
 pub(crate) fn enqueue_packets(
@@ -128,8 +130,8 @@ pub(crate) fn poll_for_reply_or_error(
     number: u64,
     out: &mut [u8],
     fds: &mut [u32],
-) -> Result<(u8, usize, usize), Refusal> {
-    let (mut found, mut size, mut count) = (0, 0, 0);
+) -> Result<(u8, usize, usize, PacketClass), Refusal> {
+    let (mut found, mut size, mut count, mut packet_class) = (0, 0, 0, 0);
     call!(xm_poll_for_reply_or_error(
         state,
         rooms,
@@ -140,9 +142,10 @@ pub(crate) fn poll_for_reply_or_error(
         fds.len(),
         &mut found,
         &mut size,
-        &mut count
+        &mut count,
+        &mut packet_class
     ))?;
-    Ok((found, size, count))
+    Ok((found, size, count, class(packet_class)))
 }
 
 #[inline]
@@ -170,7 +173,7 @@ pub(crate) fn prepare_check_for_reply_or_error(
     Ok(sync)
 }
 
-/// A poll that says TryAgain, NoReply, or how many bytes of a reply are in the output.
+/// A poll that says TryAgain, NoReply, or how many bytes of a reply are in the output, and its class.
 macro_rules! poll {
     ($name:ident, $export:ident) => {
         #[inline]
@@ -179,8 +182,8 @@ macro_rules! poll {
             rooms: &mut Rooms,
             number: u64,
             out: &mut [u8],
-        ) -> Result<(u8, usize), Refusal> {
-            let (mut result, mut size) = (0, 0);
+        ) -> Result<(u8, usize, PacketClass), Refusal> {
+            let (mut result, mut size, mut packet_class) = (0, 0, 0);
             call!($export(
                 state,
                 rooms,
@@ -188,9 +191,10 @@ macro_rules! poll {
                 out.as_mut_ptr(),
                 out.len(),
                 &mut result,
-                &mut size
+                &mut size,
+                &mut packet_class
             ))?;
-            Ok((result, size))
+            Ok((result, size, class(packet_class)))
         }
     };
 }
@@ -206,8 +210,8 @@ pub(crate) fn poll_for_event_with_sequence(
     state: &mut [u64],
     rooms: &mut Rooms,
     out: &mut [u8],
-) -> Result<(u8, u64, usize), Refusal> {
-    let (mut found, mut number, mut size) = (0, 0, 0);
+) -> Result<(u8, u64, usize, PacketClass), Refusal> {
+    let (mut found, mut number, mut size, mut packet_class) = (0, 0, 0, 0);
     call!(xm_poll_for_event_with_sequence(
         state,
         rooms,
@@ -215,9 +219,10 @@ pub(crate) fn poll_for_event_with_sequence(
         out.len(),
         &mut found,
         &mut number,
-        &mut size
+        &mut size,
+        &mut packet_class
     ))?;
-    Ok((found, number, size))
+    Ok((found, number, size, class(packet_class)))
 }
 
 pub(crate) fn poll_for_events(

@@ -15,6 +15,7 @@ mod xc_misc;
 use std::os::fd::{AsRawFd, FromRawFd, OwnedFd, RawFd};
 
 use crate::errors::Refusal;
+use crate::packet_class::PacketClass;
 
 pub(crate) use connection::*;
 pub(crate) use handshake::*;
@@ -52,6 +53,11 @@ fn answer(code: u32) -> Result<(), Refusal> {
 #[cold]
 fn refusal(code: u32) -> Refusal {
     Refusal::from_number(code).expect("the number of a refusal")
+}
+
+#[inline(always)]
+fn class(number: u8) -> PacketClass {
+    PacketClass::from_number(number.into()).expect("the number of a class")
 }
 
 /// An export that says where a part of a buffer stands.

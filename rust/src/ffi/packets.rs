@@ -1,13 +1,16 @@
 //! Packets.
 
-use super::answer;
+use super::{answer, class};
 use crate::errors::Refusal;
 use crate::exports::*;
+use crate::packet_class::PacketClass;
 
 #[inline]
-pub(crate) fn packet_length(code: u8, field: u32) -> usize {
-    // SAFETY: numbers alone.
-    unsafe { xm_packet_length(code, field) }
+pub(crate) fn packet_length(code: u8, field: u32) -> (usize, PacketClass) {
+    let mut packet_class = 0;
+    // SAFETY: a number of its own.
+    let length = unsafe { xm_packet_length(code, field, &mut packet_class) };
+    (length, class(packet_class))
 }
 
 #[inline]

@@ -1,8 +1,9 @@
 //! The packet reader.
 
-use super::{answer, part};
+use super::{answer, class, part};
 use crate::errors::Refusal;
 use crate::exports::*;
+use crate::packet_class::PacketClass;
 
 #[inline]
 pub(crate) fn reader_new(reader: &mut [u64], order: u8, buf: &[u8]) -> Result<(), Refusal> {
@@ -44,8 +45,8 @@ pub(crate) fn reader_advance(
     reader: &mut [u64],
     buf: &[u8],
     amount: usize,
-) -> Result<usize, Refusal> {
-    let mut size = 0;
+) -> Result<(usize, PacketClass), Refusal> {
+    let (mut size, mut packet_class) = (0, 0);
     // SAFETY: whole slices and numbers of their own.
     answer(unsafe {
         xm_reader_advance(
@@ -55,7 +56,8 @@ pub(crate) fn reader_advance(
             buf.len(),
             amount,
             &mut size,
+            &mut packet_class,
         )
     })?;
-    Ok(size)
+    Ok((size, class(packet_class)))
 }

@@ -23,7 +23,7 @@
 use std::borrow::Cow;
 
 use crate::errors::{ParseError, Refusal};
-use crate::x11_utils::{ReplyRequest, Request, Serialize, TryParse};
+use crate::x11_utils::{check_packet, ReplyRequest, Request, Serialize, TryParse};
 use crate::{ffi, BufWithFds, ByteOrder};
 
 /// The name of the extension.
@@ -38,6 +38,9 @@ pub const GET_VERSION_REQUEST: u8 = 0;
 pub const GET_XID_RANGE_REQUEST: u8 = 1;
 /// GetXIDList.
 pub const GET_XID_LIST_REQUEST: u8 = 2;
+
+/// What a reply begins with.
+const REPLY: u8 = 1;
 
 /// The bytes of a request in this machine's order.
 fn request(
@@ -55,8 +58,8 @@ fn parsed<T>(
     bytes: &[u8],
     length: impl Fn(&T) -> u32,
 ) -> Result<(T, &[u8]), ParseError> {
-    let begins_right = bytes.first() == Some(&1);
-    let reply = reply.map_err(|refusal| ParseError::new(refusal, begins_right))?;
+    let begins_right = || check_packet(bytes, REPLY).is_ok();
+    let reply = reply.map_err(|refusal| ParseError::new(refusal, begins_right()))?;
     let end = 32 + 4 * length(&reply) as usize;
     Ok((reply, &bytes[end..]))
 }
@@ -86,7 +89,7 @@ has_reply! {
 
 /// The first eight bytes of a reply.
 fn put_head(bytes: &mut Vec<u8>, sequence: u16, length: u32) {
-    bytes.extend_from_slice(&[1, 0]);
+    bytes.extend_from_slice(&[REPLY, 0]);
     sequence.serialize_into(bytes);
     length.serialize_into(bytes);
 }

@@ -3,7 +3,7 @@
 use std::fs;
 use std::path::PathBuf;
 
-use crate::replay::{Answer, Kind, Outstanding, Poll, Rooms, Side, State};
+use crate::replay::{Answer, Class, Kind, Outstanding, Poll, Rooms, Side, State};
 use xiengmado::connect::Connect;
 use xiengmado::connection::{PollReply, ReplyFdKind};
 use xiengmado::engine::{Engine, Place};
@@ -23,6 +23,8 @@ pub struct Ours {
     pub ids: IdAllocator,
     /// The connection's, which a new reader or handshake takes.
     order: ByteOrder,
+    /// Whether packets are shown with their classes.
+    classes: bool,
 }
 
 fn refused(refusal: Refusal) -> String {
@@ -54,6 +56,7 @@ impl Ours {
             reader: reader(order),
             handshake: handshake(order),
             order,
+            classes: false,
             ids: IdAllocator::new(0, 1).expect("a mask"),
         }
     }
@@ -85,9 +88,10 @@ impl Side for Ours {
         self.engine.enqueue_fds(list).map_err(refused)
     }
 
-    fn intake(&mut self, packet: &[u8]) -> Answer<()> {
-        self.engine.enqueue_packet(packet).map_err(refused)?;
-        Ok(())
+    fn intake(&mut self, packet: &[u8]) -> Answer<Class> {
+        let filed = self.engine.enqueue_packet_with_class(packet);
+        let (.., class) = filed.map_err(refused)?;
+        Ok(self.classes.then_some(class))
     }
 
     fn discard(&mut self, number: u64, both: bool) -> Answer<()> {
@@ -119,12 +123,9 @@ impl Side for Ours {
         answer.map_err(refused)
     }
 
-    fn poll_event(&mut self) -> Answer<Option<(u64, Vec<u8>)>> {
-        let event = self
-            .engine
-            .poll_for_event_with_sequence()
-            .map_err(refused)?;
-        Ok(event.map(|(packet, number)| (number, packet)))
+    fn poll_event(&mut self) -> Answer<Option<(u64, Vec<u8>, Class)>> {
+        let event = self.engine.poll_for_event_with_class().map_err(refused)?;
+        Ok(event.map(|(packet, number, class)| (number, packet, self.classes.then_some(class))))
     }
 
     fn state(&self) -> State {
@@ -169,6 +170,11 @@ impl Side for Ours {
         self.engine.take_closed_fds().expect("the engine is whole")
     }
 
+    fn show_classes(&mut self) -> bool {
+        self.classes = true;
+        true
+    }
+
     fn new_reader(&mut self) {
         self.reader = reader(self.order);
     }
@@ -177,8 +183,10 @@ impl Side for Ours {
         self.reader.buffer()
     }
 
-    fn advance(&mut self, amount: usize) -> Answer<Option<Vec<u8>>> {
-        self.reader.try_advance(amount).map_err(refused)
+    fn advance(&mut self, amount: usize) -> Answer<Option<(Vec<u8>, Class)>> {
+        let whole = self.reader.try_advance_with_class(amount);
+        let whole = whole.map_err(refused)?;
+        Ok(whole.map(|(packet, class)| (packet, self.classes.then_some(class))))
     }
 
     fn new_handshake(&mut self) {

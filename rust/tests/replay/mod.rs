@@ -1,16 +1,20 @@
 //! The language of the recorded runs: a script has one op a line, and each is answered by a line that
-//! begins with the op's name. `tests/README.md` has the ops; `sendall` and `drain`, which no recorded run
-//! has, are those of `docs/REPLAY.md`.
+//! begins with the op's name. `tests/README.md` has the ops; `sendall`, `drain` and `classes`, which no
+//! recorded run has, are those of `docs/REPLAY.md`.
 
 use std::fmt::Write;
 
 use xiengmado::engine::RECORD_HEADER;
+use xiengmado::PacketClass;
 
 /// How many bytes of packets a `drain` hands out at most.
 const OUTPUT: usize = 65_536;
 
 /// Why a side did not do what an op asks: `refused N`, or what the published Rust says.
 pub type Answer<T> = Result<T, String>;
+
+/// The class of a packet, where it is shown.
+pub type Class = Option<PacketClass>;
 
 #[derive(Clone, Copy, PartialEq)]
 pub enum Kind {
@@ -59,22 +63,27 @@ pub trait Side {
     fn new_connection(&mut self, rooms: Rooms) -> Answer<()>;
     fn send(&mut self, kind: Kind) -> Answer<u64>;
     fn fds(&mut self, list: &[u32]) -> Answer<()>;
-    fn intake(&mut self, packet: &[u8]) -> Answer<()>;
+    fn intake(&mut self, packet: &[u8]) -> Answer<Class>;
     fn discard(&mut self, number: u64, both: bool) -> Answer<()>;
     fn poll_reply_or_error(&mut self, number: u64) -> Answer<Option<(Vec<u8>, Vec<u32>)>>;
     fn poll_check(&mut self, number: u64) -> Answer<Poll>;
     fn poll_reply(&mut self, number: u64) -> Answer<Poll>;
     fn prepare(&mut self, number: u64) -> Answer<bool>;
-    fn poll_event(&mut self) -> Answer<Option<(u64, Vec<u8>)>>;
+    fn poll_event(&mut self) -> Answer<Option<(u64, Vec<u8>, Class)>>;
     fn state(&self) -> State;
     fn written(&self) -> u64 {
         self.state().written
     }
     fn closed(&mut self) -> Vec<u32>;
 
+    /// From now on packets are shown with their classes; whether the side knows any.
+    fn show_classes(&mut self) -> bool {
+        false
+    }
+
     fn new_reader(&mut self);
     fn room(&mut self) -> &mut [u8];
-    fn advance(&mut self, amount: usize) -> Answer<Option<Vec<u8>>>;
+    fn advance(&mut self, amount: usize) -> Answer<Option<(Vec<u8>, Class)>>;
 
     fn new_handshake(&mut self);
     fn handshake_room(&mut self) -> &mut [u8];
@@ -153,11 +162,18 @@ fn change(words: &[&str], side: &mut dyn Side) -> Option<Answer<String>> {
             let list: Option<Vec<u32>> = list.iter().map(|word| word32(word)).collect();
             ok(side.fds(&list?))
         }
-        ["intake", hex] => ok(side.intake(&bytes(hex)?)),
+        ["intake", hex] => side
+            .intake(&bytes(hex)?)
+            .map(|class| format!("ok{}", word(class))),
         ["discard", n, "reply"] => ok(side.discard(number(n)?, false)),
         ["discard", n, "both"] => ok(side.discard(number(n)?, true)),
         _ => return None,
     })
+}
+
+/// A class as a word behind a packet.
+fn word(class: Class) -> String {
+    class.map_or(String::new(), |class| format!(" {class}"))
 }
 
 fn kind_of(word: &str) -> Option<Kind> {
@@ -205,10 +221,13 @@ fn look(words: &[&str], side: &mut dyn Side) -> Option<Answer<String>> {
         ["poll_reply", n] => side.poll_reply(number(n)?).map(poll),
         ["prepare", n] => side.prepare(number(n)?).map(|yes| yes.to_string()),
         ["poll_event"] => side.poll_event().map(|event| match event {
-            Some((number, packet)) => format!("event {number} {}", hex(&packet)),
+            Some((number, packet, class)) => {
+                format!("event {number} {}{}", hex(&packet), word(class))
+            }
             None => "none".into(),
         }),
         ["drain"] => drain(side),
+        ["classes", "on"] if side.show_classes() => Ok("ok".into()),
         ["state"] => Ok(state(&side.state())),
         _ => return None,
     })
@@ -226,8 +245,8 @@ fn drain(side: &mut dyn Side) -> Answer<String> {
     let count = count.max(held.len().min(1));
     let mut text = format!("events {count}");
     for _ in 0..count {
-        if let Some((number, packet)) = side.poll_event()? {
-            write!(text, " {number} {}", hex(&packet)).unwrap();
+        if let Some((number, packet, class)) = side.poll_event()? {
+            write!(text, " {number} {}{}", hex(&packet), word(class)).unwrap();
         }
     }
     Ok(text)
@@ -281,7 +300,7 @@ fn reader(words: &[&str], side: &mut dyn Side) -> Option<Answer<String>> {
         ["room"] => Ok(side.room().len().to_string()),
         ["fill", hex] => fill(side.room(), &bytes(hex)?),
         ["advance", n] => match side.advance(number(n)? as usize) {
-            Ok(Some(packet)) => Ok(format!("packet {}", hex(&packet))),
+            Ok(Some((packet, _))) => Ok(format!("packet {}", hex(&packet))),
             Ok(None) => Ok(format!("none room {}", side.room().len())),
             Err(text) => Err(text),
         },
@@ -307,12 +326,11 @@ fn feed(side: &mut dyn Side, mut rest: &[u8], take_in: bool) -> String {
         room[..n].copy_from_slice(&rest[..n]);
         rest = &rest[n..];
         let taken = side.advance(n).and_then(|packet| match packet {
-            Some(packet) => {
-                packets.push(hex(&packet));
-                if take_in {
-                    side.intake(&packet)
-                } else {
-                    Ok(())
+            Some((packet, class)) => {
+                packets.push(hex(&packet) + &word(class));
+                match take_in {
+                    true => side.intake(&packet).map(drop),
+                    false => Ok(()),
                 }
             }
             None => Ok(()),

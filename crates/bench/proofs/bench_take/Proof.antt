@@ -1,7 +1,7 @@
 -- `bench::bench_take` meets its contract. Assumes nothing.
 use mathlib.Core.Path.{sym, _∙_}
 use native.Mathlib.Omega.{arith}
-use Rattle.bench.specs.Answers.{seen, within, whole}
+use Rattle.bench.specs.Answers.{seen, within, byte, whole}
 use borrow.Author.Needs.{needs}
 use Rattle.bench.proofs.bench_take.Statement.{statement}
 use Rattle.bench.proofs.bench_take.Tie as tie
@@ -40,7 +40,7 @@ returns-2 : tie.Need-returns-2
 returns-2 c = search needs
 
 take-requires : tie.Need-take-requires
-take-requires c κs = (within _ _ _ _ (seen _ _ _ _ (sym (c .before .before .before .before .before .before .before .before .enum-told .given .1) ∙ c .before .before .before .before .before .before .before .before .before .before .walk .ensures)) (sym (c .before .before .before .before .place .given .1) ∙ c .before .before .before .before .before .before .find-event .ensures), search needs)
+take-requires c κs = ((within _ _ _ _ (seen _ _ _ _ (sym (c .before .before .before .before .before .before .before .before .enum-told .given .1) ∙ c .before .before .before .before .before .before .before .before .before .before .walk .ensures)) (sym (c .before .before .before .before .place .given .1) ∙ c .before .before .before .before .before .before .find-event .ensures), byte _ _ _ _ (seen _ _ _ _ (sym (c .before .before .before .before .before .before .before .before .enum-told .given .1) ∙ c .before .before .before .before .before .before .before .before .before .before .walk .ensures)) (sym (c .before .before .before .before .place .given .1) ∙ c .before .before .before .before .before .before .find-event .ensures)), search needs)
 
 element-write-window : tie.Need-element-write-window
 element-write-window c = search needs
@@ -58,7 +58,7 @@ same-length-4 : tie.Need-same-length-4
 same-length-4 c = search needs
 
 returns-3 : tie.Need-returns-3
-returns-3 c = λ e. let l = whole _ _ _ _ (seen _ _ _ _ (sym (c .before .before .before .before .before .before .before .before .before .before .before .before .before .enum-told .given .1) ∙ c .before .before .before .before .before .before .before .before .before .before .before .before .before .before .before .walk .ensures)) (sym (c .before .before .before .before .before .before .before .before .before .place .given .1) ∙ c .before .before .before .before .before .before .before .before .before .before .before .find-event .ensures) in absurd (omega arith)
+returns-3 c = λ e. let l = whole _ _ _ _ (seen _ _ _ _ (sym (c .before .before .before .before .before .before .before .before .before .before .before .before .before .before .enum-told .given .1) ∙ c .before .before .before .before .before .before .before .before .before .before .before .before .before .before .before .before .walk .ensures)) (sym (c .before .before .before .before .before .before .before .before .before .before .place .given .1) ∙ c .before .before .before .before .before .before .before .before .before .before .before .before .find-event .ensures) in absurd (omega arith)
 
 same-length-5 : tie.Need-same-length-5
 same-length-5 c = search needs

@@ -1,4 +1,5 @@
 -- `discarding::clear` meets its contract. Assumes nothing.
+use mathlib.Core.Path.{sym, _∙_}
 use Rattle.discarding.specs.Steps.{clear-error, clear-reply, clear-any}
 use borrow.Author.Needs.{needs}
 use Rattle.discarding.proofs.clear.Statement.{statement}
@@ -7,8 +8,11 @@ use Rattle.discarding.proofs.clear.Tie as tie
 enum-told : tie.Need-enum-told
 enum-told c = search needs
 
-first-byte-requires : tie.Need-first-byte-requires
-first-byte-requires c κs = search needs
+class-at-requires : tie.Need-class-at-requires
+class-at-requires c κs = search needs
+
+is-error-requires : tie.Need-is-error-requires
+is-error-requires c κs = search needs
 
 demote-requires : tie.Need-demote-requires
 demote-requires c κs = search needs
@@ -17,7 +21,7 @@ same-length : tie.Need-same-length
 same-length c = search needs
 
 returns : tie.Need-returns
-returns c = clear-error _ _ _ _ (c .before .before .before .before .before .before .before .enum-told .given .1) _ _ (c .before .before .before .before .before .first-byte .ensures) (c .before .before .before .before .if1 .taken) (c .before .before .demote .ensures)
+returns c = clear-error _ _ _ _ (c .before .before .before .before .before .before .before .before .enum-told .given .1) _ _ (c .before .before .before .before .before .before .class-at .ensures) (sym (c .before .before .before .before .before .is-error .ensures) ∙ c .before .before .before .before .if1 .taken) (c .before .before .demote .ensures)
 
 remove-requires : tie.Need-remove-requires
 remove-requires c κs = search needs
@@ -32,7 +36,7 @@ same-length-2 : tie.Need-same-length-2
 same-length-2 c = search needs
 
 returns-2 : tie.Need-returns-2
-returns-2 c = clear-reply _ _ _ _ (c .before .before .before .before .before .before .before .enum-told .given .1) _ _ _ (c .before .before .before .before .before .first-byte .ensures) (c .before .before .before .before .if1 .left) (c .before .before .remove .ensures)
+returns-2 c = clear-reply _ _ _ _ (c .before .before .before .before .before .before .before .before .enum-told .given .1) _ _ _ (c .before .before .before .before .before .before .class-at .ensures) (sym (c .before .before .before .before .before .is-error .ensures) ∙ c .before .before .before .before .if1 .left) (c .before .before .remove .ensures)
 
 same-length-3 : tie.Need-same-length-3
 same-length-3 c = search needs
@@ -45,7 +49,8 @@ clear-spec =
     tie.close
     (tie.spec
     enum-told
-    first-byte-requires
+    class-at-requires
+    is-error-requires
     demote-requires
     same-length
     returns

@@ -12,13 +12,13 @@ enum-known-place : tie.Need-enum-known-place
 enum-known-place c = search needs
 
 shared-slice-read-numbered : tie.Need-shared-slice-read-numbered
-shared-slice-read-numbered c = omega (arith, step-some _ _ (c .before .before .before .before .before .before .before .before .before .args .store .now) (c .before .before .before .before .before .before .before .before .before .args .slots .now) _ _ (c .before .before .before .before .plan-of .ensures) _ _ _ (c .before .before .place .given .1))
+shared-slice-read-numbered c = omega (arith, step-some _ _ (c .before .before .before .before .before .before .before .before .before .args .store .now) (c .before .before .before .before .before .before .before .before .before .args .slots .now) _ _ (c .before .before .before .before .plan-of .ensures) _ _ _ _ (c .before .before .place .given .1))
 
 numbered-requires : tie.Need-numbered-requires
 numbered-requires c κs = search needs
 
 file-requires : tie.Need-file-requires
-file-requires c κs = step-may _ _ _ _ _ _ (c .before .before .before .before .before .before .before .plan-of .ensures) _ _ _ (c .before .before .before .before .before .place .given .1) _ (c .before .before .numbered .ensures) (c .before .before .before .before .before .before .before .before .before .before .before .before .pre)
+file-requires c κs = step-may _ _ _ _ _ _ (c .before .before .before .before .before .before .before .plan-of .ensures) _ _ _ _ (c .before .before .before .before .before .place .given .1) _ (c .before .before .numbered .ensures) (c .before .before .before .before .before .before .before .before .before .before .before .before .pre)
 
 enum-known-refusal : tie.Need-enum-known-refusal
 enum-known-refusal c = search needs
@@ -30,7 +30,7 @@ same-length-2 : tie.Need-same-length-2
 same-length-2 c = search needs
 
 returns : tie.Need-returns
-returns c = step-file _ _ _ _ _ _ (c .before .before .before .before .before .before .before .before .before .before .before .before .plan-of .ensures) _ _ _ (c .before .before .before .before .before .before .before .before .before .before .place .given .1) _ (c .before .before .before .before .before .before .before .numbered .ensures) _ _ _ (c .before .before .before .before .file .ensures)
+returns c = step-file _ _ _ _ _ _ (c .before .before .before .before .before .before .before .before .before .before .before .before .plan-of .ensures) _ _ _ _ (c .before .before .before .before .before .before .before .before .before .before .place .given .1) _ (c .before .before .before .before .before .before .before .numbered .ensures) _ _ _ (c .before .before .before .before .file .ensures)
 
 returns-2 : tie.Need-returns-2
 returns-2 c = step-stop _ _ _ _ _ _ (c .before .before .before .plan-of .ensures) _ (c .before .refusal .given .1)

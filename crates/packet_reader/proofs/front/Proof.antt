@@ -19,8 +19,14 @@ returns-3 c = front-long _ _ _ (c .before .aim-of .ensures) (c .before .before .
 returns-4 : tie.Need-returns-4
 returns-4 c = front-part _ _ _ (c .before .before .aim-of .ensures) (c .before .before .before .before .if1 .left) (c .before .if3 .left) (c .if4 .taken)
 
+shared-slice-read-class-of : tie.Need-shared-slice-read-class-of
+shared-slice-read-class-of c = search needs
+
+class-of-requires : tie.Need-class-of-requires
+class-of-requires c κs = search needs
+
 returns-5 : tie.Need-returns-5
-returns-5 c = front-whole _ _ _ (c .before .before .aim-of .ensures) (c .before .before .before .before .if1 .left) (c .before .if3 .left) (c .if4 .left)
+returns-5 c = front-whole _ _ _ (c .before .before .before .before .aim-of .ensures) (c .before .before .before .before .before .before .if1 .left) (c .before .before .before .if3 .left) (c .before .before .if4 .left) _ (c .class-of .ensures)
 
 pub front-spec : {M : Type 1} → statement M
-front-spec = tie.close (tie.spec returns returns-2 aim-of-requires returns-3 returns-4 returns-5)
+front-spec = tie.close (tie.spec returns returns-2 aim-of-requires returns-3 returns-4 shared-slice-read-class-of class-of-requires returns-5)

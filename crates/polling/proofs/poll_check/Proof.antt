@@ -1,6 +1,6 @@
 -- `polling::poll_check` meets its contract. Assumes nothing.
 use mathlib.Core.Path.{_∙_, sym}
-use Rattle.polling.specs.Steps.{MetReply, reply-within, reply-slots, checked-short, checked-given, checked-past, checked-again}
+use Rattle.polling.specs.Steps.{MetReply, reply-within, reply-slots, checked-short, checked-given, checked-past, checked-again, reply-byte}
 use borrow.Author.Needs.{needs}
 use Rattle.polling.proofs.poll_check.Statement.{statement}
 use Rattle.polling.proofs.poll_check.Tie as tie
@@ -28,7 +28,7 @@ close-held-requires : tie.Need-close-held-requires
 close-held-requires c κs = reply-slots (met (c .before .before .before .before))
 
 take-requires : tie.Need-take-requires
-take-requires c κs = (reply-within (met (c .before .before .before .before .before .before .before .before .before)), search needs)
+take-requires c κs = ((reply-within (met (c .before .before .before .before .before .before .before .before .before)), reply-byte (met (c .before .before .before .before .before .before .before .before .before))), search needs)
 
 handed-out-requires : tie.Need-handed-out-requires
 handed-out-requires c κs = search needs
@@ -55,7 +55,7 @@ same-length-5 : tie.Need-same-length-5
 same-length-5 c = search needs
 
 returns-3 : tie.Need-returns-3
-returns-3 c = checked-given (met (c .before .before .before .before .before .before .before .before .before .before .before .before .before .before .before .before)) _ (c .before .before .before .before .before .before .before .before .before .before .before .before .before .before .if1 .left) _ _ _ _ _ _ (c .before .before .before .before .before .before .take .ensures) (c .before .before .before .before .before .before .before .before .before .before .before .close-held .ensures) _ (c .before .handed-out .ensures) (c .moved .ensures)
+returns-3 c = checked-given (met (c .before .before .before .before .before .before .before .before .before .before .before .before .before .before .before .before)) _ (c .before .before .before .before .before .before .before .before .before .before .before .before .before .before .if1 .left) _ _ _ _ _ _ (c .before .before .before .before .before .before .take .ensures .0) (c .before .before .before .before .before .before .before .before .before .before .before .close-held .ensures) (c .before .before .before .before .before .before .take .result .class) (c .before .before .before .before .before .before .take .ensures .1) _ (c .before .handed-out .ensures) (c .moved .ensures)
 
 same-length-6 : tie.Need-same-length-6
 same-length-6 c = search needs

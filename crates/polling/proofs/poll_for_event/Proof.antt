@@ -1,6 +1,6 @@
 -- `polling::poll_for_event` meets its contract. Assumes nothing.
 use mathlib.Core.Path.{_∙_, sym}
-use Rattle.polling.specs.Steps.{MetEvent, event-short, event-taken, event-none, event-within}
+use Rattle.polling.specs.Steps.{MetEvent, event-short, event-taken, event-none, event-within, event-byte}
 use borrow.Author.Needs.{needs}
 use Rattle.polling.proofs.poll_for_event.Statement.{statement}
 use Rattle.polling.proofs.poll_for_event.Tie as tie
@@ -22,7 +22,7 @@ returns : tie.Need-returns
 returns c = event-short (met (c .before .before)) _ (c .if1 .taken)
 
 take-requires : tie.Need-take-requires
-take-requires c κs = (event-within (met (c .before .before .before .before)), search needs)
+take-requires c κs = ((event-within (met (c .before .before .before .before)), event-byte (met (c .before .before .before .before))), search needs)
 
 handed-out-requires : tie.Need-handed-out-requires
 handed-out-requires c κs = search needs
@@ -40,7 +40,7 @@ same-length-3 : tie.Need-same-length-3
 same-length-3 c = search needs
 
 returns-2 : tie.Need-returns-2
-returns-2 c = event-taken (met (c .before .before .before .before .before .before .before .before .before .before .before)) _ (c .before .before .before .before .before .before .before .before .before .if1 .left) _ _ _ _ _ (c .before .before .before .before .before .before .take .ensures) (c .before .handed-out .ensures) (c .moved .ensures)
+returns-2 c = event-taken (met (c .before .before .before .before .before .before .before .before .before .before .before)) _ (c .before .before .before .before .before .before .before .before .before .if1 .left) _ _ _ (c .before .before .before .before .before .before .take .result .class) _ _ (c .before .before .before .before .before .before .take .ensures .1) (c .before .before .before .before .before .before .take .ensures .0) (c .before .handed-out .ensures) (c .moved .ensures)
 
 same-length-4 : tie.Need-same-length-4
 same-length-4 c = search needs

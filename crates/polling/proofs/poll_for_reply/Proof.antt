@@ -18,14 +18,17 @@ enum-known-place c = search needs
 cast-n : tie.Need-cast-n
 cast-n c = search needs
 
-first-byte-requires : tie.Need-first-byte-requires
-first-byte-requires c κs = reply-byte (met (c .before .before .before))
+class-at-requires : tie.Need-class-at-requires
+class-at-requires c κs = reply-byte (met (c .before .before .before))
+
+is-error-requires : tie.Need-is-error-requires
+is-error-requires c κs = search needs
 
 close-held-requires : tie.Need-close-held-requires
-close-held-requires c κs = reply-slots (met (c .before .before .before .before .before .before))
+close-held-requires c κs = reply-slots (met (c .before .before .before .before .before .before .before))
 
 demote-requires : tie.Need-demote-requires
-demote-requires c κs = reply-within (met (c .before .before .before .before .before .before .before .before .before .before))
+demote-requires c κs = reply-within (met (c .before .before .before .before .before .before .before .before .before .before .before))
 
 moved-requires : tie.Need-moved-requires
 moved-requires c κs = search needs
@@ -37,19 +40,19 @@ same-length-2 : tie.Need-same-length-2
 same-length-2 c = search needs
 
 returns : tie.Need-returns
-returns c = replied-error (met (c .before .before .before .before .before .before .before .before .before .before .before .before .before .before)) _ _ (c .before .before .before .before .before .before .before .before .before .before .first-byte .ensures) (c .before .before .before .before .before .before .before .before .before .if1 .taken) _ _ _ _ (c .before .before .before .demote .ensures) (c .before .before .before .before .before .before .before .close-held .ensures) (c .moved .ensures)
+returns c = replied-error (met (c .before .before .before .before .before .before .before .before .before .before .before .before .before .before .before)) _ (c .before .before .before .before .before .before .before .before .before .before .before .class-at .result) (c .before .before .before .before .before .before .before .before .before .before .before .class-at .ensures) (sym (c .before .before .before .before .before .before .before .before .before .before .is-error .ensures) ∙ c .before .before .before .before .before .before .before .before .before .if1 .taken) _ _ _ _ (c .before .before .before .demote .ensures) (c .before .before .before .before .before .before .before .close-held .ensures) (c .moved .ensures)
 
 same-length-3 : tie.Need-same-length-3
 same-length-3 c = search needs
 
 returns-2 : tie.Need-returns-2
-returns-2 c = replied-short (met (c .before .before .before .before .before .before)) _ _ (c .before .before .first-byte .ensures) (c .before .if1 .left) (c .if2 .taken)
+returns-2 c = replied-short (met (c .before .before .before .before .before .before .before)) _ (c .before .before .before .class-at .result) (c .before .before .before .class-at .ensures) (sym (c .before .before .is-error .ensures) ∙ c .before .if1 .left) (c .if2 .taken)
 
 close-held-requires-2 : tie.Need-close-held-requires-2
-close-held-requires-2 c κs = reply-slots (met (c .before .before .before .before .before .before .before))
+close-held-requires-2 c κs = reply-slots (met (c .before .before .before .before .before .before .before .before))
 
 take-requires : tie.Need-take-requires
-take-requires c κs = (reply-within (met (c .before .before .before .before .before .before .before .before .before .before .before .before)), search needs)
+take-requires c κs = ((reply-within (met (c .before .before .before .before .before .before .before .before .before .before .before .before .before)), reply-byte (met (c .before .before .before .before .before .before .before .before .before .before .before .before .before))), search needs)
 
 handed-out-requires : tie.Need-handed-out-requires
 handed-out-requires c κs = search needs
@@ -70,7 +73,7 @@ same-length-6 : tie.Need-same-length-6
 same-length-6 c = search needs
 
 returns-3 : tie.Need-returns-3
-returns-3 c = replied-given (met (c .before .before .before .before .before .before .before .before .before .before .before .before .before .before .before .before .before .before .before)) _ _ (c .before .before .before .before .before .before .before .before .before .before .before .before .before .before .before .first-byte .ensures) (c .before .before .before .before .before .before .before .before .before .before .before .before .before .before .if1 .left) (c .before .before .before .before .before .before .before .before .before .before .before .before .before .if2 .left) _ _ _ _ _ _ (c .before .before .before .before .before .before .take .ensures) (c .before .before .before .before .before .before .before .before .before .before .before .close-held2 .ensures) _ (c .before .handed-out .ensures) (c .moved2 .ensures)
+returns-3 c = replied-given (met (c .before .before .before .before .before .before .before .before .before .before .before .before .before .before .before .before .before .before .before .before)) _ (c .before .before .before .before .before .before .before .before .before .before .before .before .before .before .before .before .class-at .result) (c .before .before .before .before .before .before .before .before .before .before .before .before .before .before .before .before .class-at .ensures) (sym (c .before .before .before .before .before .before .before .before .before .before .before .before .before .before .before .is-error .ensures) ∙ c .before .before .before .before .before .before .before .before .before .before .before .before .before .before .if1 .left) (c .before .before .before .before .before .before .before .before .before .before .before .before .before .if2 .left) _ _ _ _ _ _ (c .before .before .before .before .before .before .take .ensures .0) (c .before .before .before .before .before .before .before .before .before .before .before .close-held2 .ensures) (c .before .before .before .before .before .before .take .result .class) (c .before .before .before .before .before .before .take .ensures .1) _ (c .before .handed-out .ensures) (c .moved2 .ensures)
 
 same-length-7 : tie.Need-same-length-7
 same-length-7 c = search needs
@@ -85,7 +88,8 @@ poll-for-reply-spec =
     find-reply-requires
     enum-known-place
     cast-n
-    first-byte-requires
+    class-at-requires
+    is-error-requires
     close-held-requires
     demote-requires
     moved-requires

@@ -1,6 +1,6 @@
 -- `polling::poll_for_reply_or_error` meets its contract. Assumes nothing.
 use mathlib.Core.Path.{_∙_, sym}
-use Rattle.polling.specs.Steps.{MetReply, reply-within, reply-slots, taken-short, taken-narrow, taken-given, taken-none}
+use Rattle.polling.specs.Steps.{MetReply, reply-within, reply-slots, taken-short, taken-narrow, taken-given, taken-none, reply-byte}
 use borrow.Author.Needs.{needs}
 use Rattle.polling.proofs.poll_for_reply_or_error.Statement.{statement}
 use Rattle.polling.proofs.poll_for_reply_or_error.Tie as tie
@@ -34,7 +34,7 @@ hand-out-requires : tie.Need-hand-out-requires
 hand-out-requires c κs = let h = reply-slots (met (c .before .before .before .before .before .before)) in (h .0, h .1, search needs)
 
 take-requires : tie.Need-take-requires
-take-requires c κs = (reply-within (met (c .before .before .before .before .before .before .before .before .before .before .before .before .before)), search needs)
+take-requires c κs = ((reply-within (met (c .before .before .before .before .before .before .before .before .before .before .before .before .before)), reply-byte (met (c .before .before .before .before .before .before .before .before .before .before .before .before .before))), search needs)
 
 handed-out-requires : tie.Need-handed-out-requires
 handed-out-requires c κs = search needs
@@ -58,7 +58,7 @@ same-length-6 : tie.Need-same-length-6
 same-length-6 c = search needs
 
 returns-3 : tie.Need-returns-3
-returns-3 c = taken-given (met (c .before .before .before .before .before .before .before .before .before .before .before .before .before .before .before .before .before .before .before .before)) _ _ (c .before .before .before .before .before .before .before .before .before .before .before .before .before .before .before .before .before .if1 .left) (c .before .before .before .before .before .before .before .before .before .before .before .before .before .before .before .before .if2 .left) _ _ _ _ _ _ _ (c .before .before .before .before .before .before .take .ensures) (c .before .before .before .before .before .before .before .before .before .before .before .before .before .hand-out .ensures) _ (c .before .handed-out .ensures) (c .moved .ensures)
+returns-3 c = taken-given (met (c .before .before .before .before .before .before .before .before .before .before .before .before .before .before .before .before .before .before .before .before)) _ _ (c .before .before .before .before .before .before .before .before .before .before .before .before .before .before .before .before .before .if1 .left) (c .before .before .before .before .before .before .before .before .before .before .before .before .before .before .before .before .if2 .left) _ _ _ _ _ _ _ (c .before .before .before .before .before .before .take .ensures .0) (c .before .before .before .before .before .before .before .before .before .before .before .before .before .hand-out .ensures) (c .before .before .before .before .before .before .take .result .class) (c .before .before .before .before .before .before .take .ensures .1) _ (c .before .handed-out .ensures) (c .moved .ensures)
 
 same-length-7 : tie.Need-same-length-7
 same-length-7 c = search needs

@@ -1,7 +1,8 @@
 -- `batch::events::mark` meets its contract. Assumes nothing.
 use Rattle.batch.specs.EventsLaws.{markable-packet, marked-packet}
 use native.Mathlib.Omega.{arith}
-use lib.ListN.{length-set}
+use Prim.Native.Nat.{_+_}
+use lib.ListN.{set, length-set}
 use borrow.Author.Needs.{needs}
 use Rattle.batch.proofs.events.mark.Statement.{statement}
 use Rattle.batch.proofs.events.mark.Tie as tie
@@ -10,19 +11,37 @@ enum-known-a : tie.Need-enum-known-a
 enum-known-a c = search needs
 
 mul-marks : tie.Need-mul-marks
-mul-marks c = omega (arith, markable-packet _ _ _ _ _ (c .before .before .a .given .1) (c .before .before .before .before .pre))
+mul-marks c = omega (arith, markable-packet _ _ _ _ _ (c .before .before .a .given .1) (c .before .before .before .before .before .pre))
 
 slice-write-marks : tie.Need-slice-write-marks
-slice-write-marks c = omega (arith, markable-packet _ _ _ _ _ (c .before .before .a .given .1) (c .before .before .before .before .pre))
+slice-write-marks c = omega (arith, markable-packet _ _ _ _ _ (c .before .before .a .given .1) (c .before .before .before .before .before .pre))
 
 add-marks : tie.Need-add-marks
-add-marks c = omega (arith, markable-packet _ _ _ _ _ (c .before .before .a .given .1) (c .before .before .before .before .pre))
+add-marks c = omega (arith, markable-packet _ _ _ _ _ (c .before .before .a .given .1) (c .before .before .before .before .before .pre))
 
 mul-marks-2 : tie.Need-mul-marks-2
-mul-marks-2 c = omega (arith, markable-packet _ _ _ _ _ (c .before .before .a .given .1) (c .before .before .before .before .pre))
+mul-marks-2 c = omega (arith, markable-packet _ _ _ _ _ (c .before .before .a .given .1) (c .before .before .before .before .before .pre))
 
 slice-write-marks-2 : tie.Need-slice-write-marks-2
-slice-write-marks-2 c = let h = markable-packet _ _ _ _ _ (c .before .before .a .given .1) (c .before .before .before .before .pre) in omega (arith, length-set (c .before .before .before .before .args .marks .now) (c .before .before .before .before .args .at) (c .before .before .a .given .0 .0 .number .0))
+slice-write-marks-2 c = let h = markable-packet _ _ _ _ _ (c .before .before .a .given .1) (c .before .before .before .before .before .pre) in omega (arith, length-set (c .before .before .before .before .before .args .marks .now) (c .before .before .before .before .before .args .at) (c .before .before .a .given .0 .0 .number .0))
+
+class-number-requires : tie.Need-class-number-requires
+class-number-requires c κs = search needs
+
+cast-marks : tie.Need-cast-marks
+cast-marks c = search needs
+
+add-marks-2 : tie.Need-add-marks-2
+add-marks-2 c = omega (arith, markable-packet _ _ _ _ _ (c .before .before .before .a .given .1) (c .before .before .before .before .before .before .pre))
+
+mul-marks-3 : tie.Need-mul-marks-3
+mul-marks-3 c = omega (arith, markable-packet _ _ _ _ _ (c .before .before .before .a .given .1) (c .before .before .before .before .before .before .pre))
+
+slice-write-marks-3 : tie.Need-slice-write-marks-3
+slice-write-marks-3 c =
+    let h = markable-packet _ _ _ _ _ (c .before .before .before .a .given .1) (c .before .before .before .before .before .before .pre) in
+    let m = set (c .before .before .before .before .before .before .args .marks .now) (c .before .before .before .before .before .before .args .at) (c .before .before .before .a .given .0 .0 .number .0) in
+    omega (arith, length-set (c .before .before .before .before .before .before .args .marks .now) (c .before .before .before .before .before .before .args .at) (c .before .before .before .a .given .0 .0 .number .0), length-set m (c .before .before .before .before .before .before .args .at + 1) (c .before .before .before .a .given .0 .0 .length))
 
 enum-told : tie.Need-enum-told
 enum-told c = search needs
@@ -34,7 +53,7 @@ same-length : tie.Need-same-length
 same-length c = search needs
 
 returns : tie.Need-returns
-returns c = marked-packet _ _ _ _ _ (c .before .before .a .given .1) (c .before .before .before .before .pre)
+returns c = marked-packet _ _ _ _ _ _ (c .before .before .before .a .given .1) (c .class-number .ensures) (c .before .before .before .before .before .before .pre)
 
 returns-2 : tie.Need-returns-2
 returns-2 c = search needs
@@ -52,6 +71,11 @@ mark-spec =
     add-marks
     mul-marks-2
     slice-write-marks-2
+    class-number-requires
+    cast-marks
+    add-marks-2
+    mul-marks-3
+    slice-write-marks-3
     enum-told
     enum-told-2
     same-length

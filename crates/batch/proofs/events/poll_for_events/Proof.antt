@@ -13,7 +13,7 @@ abbrev Inv-loop : tie.InvT-loop
 Inv-loop store₀ out₀ marks₀ state₀ used₀ count₀ store out marks state used count = Inv state₀ store₀ out₀ marks₀ state store out marks used count
 
 abbrev μ-loop : tie.MeasureT-loop
-μ-loop store₀ out₀ marks₀ state₀ used₀ count₀ store out marks state used count = length marks₀ - 2 * count
+μ-loop store₀ out₀ marks₀ state₀ used₀ count₀ store out marks state used count = length marks₀ - 3 * count
 
 loop-holds : tie.Need-loop-holds Inv-loop μ-loop
 loop-holds c = inv-start _ _ _ _ (c .before .before .before .pre)

@@ -22,7 +22,7 @@ enum-known-n : tie.Need-enum-known-n
 enum-known-n c = search needs
 
 slice-aggregate-packet-turn : tie.Need-slice-aggregate-packet-turn
-slice-aggregate-packet-turn c = sym (length-take-le _ _ (front-fits _ _ _ (c .before .before .before .before .before .before .front .ensures) _ (c .before .before .before .before .n .given .1)))
+slice-aggregate-packet-turn c = sym (length-take-le _ _ (front-fits _ _ _ (c .before .before .before .before .before .before .front .ensures) _ _ (c .before .before .before .before .n .given .1)))
 
 packet-turn-requires : tie.Need-packet-turn-requires
 packet-turn-requires c κs = search needs
@@ -43,7 +43,7 @@ same-length-2 : tie.Need-same-length-2
 same-length-2 c = search needs
 
 returns-4 : tie.Need-returns-4
-returns-4 c = front-packet _ _ _ _ _ _ _ (c .before .before .before .before .before .before .before .before .before .before .before .front .ensures) _ (c .before .before .before .before .before .before .before .before .before .n .given .1) _ _ _ (c .before .before .before .before .packet-turn .ensures)
+returns-4 c = front-packet _ _ _ _ _ _ _ (c .before .before .before .before .before .before .before .before .before .before .before .front .ensures) _ _ (c .before .before .before .before .before .before .before .before .before .n .given .1) _ _ _ (c .before .before .before .before .packet-turn .ensures)
 
 pub front-turn-spec : {M : Type 1} → statement M
 front-turn-spec =

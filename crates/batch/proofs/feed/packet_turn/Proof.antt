@@ -20,7 +20,7 @@ same-length-2 : tie.Need-same-length-2
 same-length-2 c = search needs
 
 returns : tie.Need-returns
-returns c = packet-on _ _ _ _ _ _ _ _ (c .before .before .before .before .before .before .before .enqueue-packet .ensures) _ _ _ (c .before .next .given .1)
+returns c = packet-on _ _ _ _ _ _ _ _ (c .before .before .before .before .before .before .before .enqueue-packet .ensures) _ _ _ _ (c .before .next .given .1)
 
 same-length-3 : tie.Need-same-length-3
 same-length-3 c = search needs

@@ -21,6 +21,9 @@ length-at-requires c κs = search needs
 number-at-requires : tie.Need-number-at-requires Inv-loop μ-loop
 number-at-requires c κs = search needs
 
+class-at-requires : tie.Need-class-at-requires Inv-loop μ-loop
+class-at-requires c κs = search needs
+
 event-requires : tie.Need-event-requires Inv-loop μ-loop
 event-requires c κs = search needs
 
@@ -51,6 +54,7 @@ events-spec =
     loop-holds
     length-at-requires
     number-at-requires
+    class-at-requires
     event-requires
     behind-requires
     add-i

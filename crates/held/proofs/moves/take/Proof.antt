@@ -1,8 +1,12 @@
 -- `held::moves::take` meets its contract. Assumes nothing.
 use Rattle.held.specs.Moves.{handed}
 use native.Mathlib.Omega.{arith}
+use borrow.Author.Needs.{needs}
 use Rattle.held.proofs.moves.take.Statement.{statement}
 use Rattle.held.proofs.moves.take.Tie as tie
+
+class-at-requires : tie.Need-class-at-requires
+class-at-requires c κs = search needs
 
 add-copy-out : tie.Need-add-copy-out
 add-copy-out c = omega arith
@@ -21,9 +25,9 @@ same-length-2 c = omega arith
 
 returns : tie.Need-returns
 unfolding handed
-returns c = record { left = c .before .before .remove .ensures; output = c .before .before .before .before .before .before .copy-out .ensures }
+returns c = (record { left = c .before .before .remove .ensures; output = c .before .before .before .before .before .before .copy-out .ensures }, c .before .before .before .before .before .before .before .before .before .class-at .ensures)
 
 pub take-spec : {M : Type 1} → statement M
 take-spec =
     tie.close
-    (tie.spec add-copy-out copy-out-requires remove-requires same-length same-length-2 returns)
+    (tie.spec class-at-requires add-copy-out copy-out-requires remove-requires same-length same-length-2 returns)

@@ -23,10 +23,10 @@ enum-known-n : tie.Need-enum-known-n
 enum-known-n c = search needs
 
 slice-aggregate-numbered : tie.Need-slice-aggregate-numbered
-slice-aggregate-numbered c = sym (length-take-le _ _ (whole-fits 0 _ _ (c .before .before .before .before .front .ensures) _ (c .before .before .n .given .1) .1))
+slice-aggregate-numbered c = sym (length-take-le _ _ (whole-fits 0 _ _ (c .before .before .before .before .front .ensures) _ _ (c .before .before .n .given .1) .1))
 
 numbered-requires : tie.Need-numbered-requires
-numbered-requires c κs = let w = whole-fits 0 _ _ (c .before .before .before .before .front .ensures) _ (c .before .before .n .given .1) in let l = length-take-le _ (c .before .before .before .before .before .before .args .bytes .now) (w .1) in omega (arith, w .0)
+numbered-requires c κs = let w = whole-fits 0 _ _ (c .before .before .before .before .front .ensures) _ _ (c .before .before .n .given .1) in let l = length-take-le _ (c .before .before .before .before .before .before .args .bytes .now) (w .1) in omega (arith, w .0)
 
 returns : tie.Need-returns
 returns c = ahead-nothing _ _ _ (c .before .before .front .ensures) (c .enum-told .given .1)
@@ -38,7 +38,7 @@ returns-3 : tie.Need-returns-3
 returns-3 c = ahead-long _ _ _ (c .before .before .front .ensures) (c .enum-told3 .given .1)
 
 returns-4 : tie.Need-returns-4
-returns-4 c = ahead-whole _ _ _ (c .before .before .before .before .before .front .ensures) _ (c .before .before .before .n .given .1) (c .numbered .result) (c .numbered .ensures)
+returns-4 c = ahead-whole _ _ _ (c .before .before .before .before .before .front .ensures) _ _ (c .before .before .before .n .given .1) (c .numbered .result) (c .numbered .ensures)
 
 pub ahead-spec : {M : Type 1} → statement M
 ahead-spec =

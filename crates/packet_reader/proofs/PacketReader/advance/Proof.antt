@@ -5,6 +5,7 @@ use Rattle.refusal.specs.Answer.{refuse}
 use mathlib.Core.Path.{sym, _∙_}
 use borrow.Author.Tests.{lt-ltb, le-ltb, not-true, not-false}
 use Rattle.packet_reader.specs.Sound.{sound-seen}
+use Rattle.packet_reader.specs.CutLaws.{class-filled}
 use Rattle.packet_reader.specs.Reader.{advanced, reached}
 use borrow.Author.Needs.{needs}
 use Rattle.packet_reader.proofs.PacketReader.advance.Statement.{statement}
@@ -38,12 +39,18 @@ returns-4 : tie.Need-returns-4
 unfolding advanced reached refuse choose
 returns-4 c = simp (sym (c .before .before .before .before .before .before .before .is-sound .ensures) ∙ not-false _ (c .before .before .before .before .before .before .if1 .left), le-ltb _ _ (c .before .before .before .before .if2 .left), sym (c .before .before .aim-of .ensures), le-ltb _ _ (c .before .if3 .left), lt-ltb _ _ (c .if4 .taken))
 
+shared-slice-read-class-of : tie.Need-shared-slice-read-class-of
+shared-slice-read-class-of c = omega (arith, sound-seen _ _ _ (c .before .before .before .before .before .before .before .before .is-sound .ensures) (c .before .before .before .before .before .before .before .if1 .left))
+
+class-of-requires : tie.Need-class-of-requires
+class-of-requires c κs = search needs
+
 fresh-requires : tie.Need-fresh-requires
 fresh-requires c κs = search needs
 
 returns-5 : tie.Need-returns-5
 unfolding advanced reached refuse choose
-returns-5 c = simp (sym (c .before .before .before .before .before .before .before .before .is-sound .ensures) ∙ not-false _ (c .before .before .before .before .before .before .before .if1 .left), le-ltb _ _ (c .before .before .before .before .before .if2 .left), sym (c .before .before .before .aim-of .ensures), le-ltb _ _ (c .before .before .if3 .left), le-ltb _ _ (c .before .if4 .left), c .fresh .ensures)
+returns-5 c = simp (sym (c .before .before .before .before .before .before .before .before .before .before .is-sound .ensures) ∙ not-false _ (c .before .before .before .before .before .before .before .before .before .if1 .left), le-ltb _ _ (c .before .before .before .before .before .before .before .if2 .left), sym (c .before .before .before .before .before .aim-of .ensures), le-ltb _ _ (c .before .before .before .before .if3 .left), le-ltb _ _ (c .before .before .before .if4 .left), sym (class-filled _ _ _ _ _ (c .before .class-of .ensures) (c .before .before .before .before .before .aim-of .ensures) (c .before .before .before .if4 .left)), c .fresh .ensures)
 
 pub advance-spec : {M : Type 1} → statement M
 advance-spec =
@@ -57,5 +64,7 @@ advance-spec =
     aim-of-requires
     returns-3
     returns-4
+    shared-slice-read-class-of
+    class-of-requires
     fresh-requires
     returns-5)

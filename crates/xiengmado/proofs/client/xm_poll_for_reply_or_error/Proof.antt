@@ -1,5 +1,5 @@
 -- `xiengmado::client::xm_poll_for_reply_or_error` meets its contract. Assumes nothing.
-use Rattle.answers.specs.Exported.{kept-on}
+use Rattle.xiengmado.specs.Keeping.{kept-back}
 use borrow.Author.Needs.{needs}
 use Rattle.xiengmado.proofs.client.xm_poll_for_reply_or_error.Statement.{statement}
 use Rattle.xiengmado.proofs.client.xm_poll_for_reply_or_error.Tie as tie
@@ -29,7 +29,7 @@ same-length-5 : tie.Need-same-length-5
 same-length-5 c = search needs
 
 returns : tie.Need-returns
-returns c = kept-on (c .before .before .give-polled .ensures) (rw (c .before .before .before .before .before .before .before .before .before .before .before .before .before .before .before .before .before .before .before .before .connection .ensures) at (c .before .before .before .before .before .before .before .before .before .before .before .before .before .before .before .poll-for-reply-or-error .ensures))
+returns c = let p = rw (c .before .before .before .before .before .before .before .before .before .before .before .before .before .before .before .before .before .before .before .before .before .connection .ensures) at (c .before .before .before .before .before .before .before .before .before .before .before .before .before .before .before .before .poll-for-reply-or-error .ensures) in kept-back _ _ _ (c .before .before .give-polled .ensures) (p .packet .promise .exact .answers) p
 
 pub xm-poll-for-reply-or-error-spec : {M : Type 1} → statement M
 xm-poll-for-reply-or-error-spec =

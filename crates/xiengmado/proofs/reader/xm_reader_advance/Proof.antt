@@ -24,6 +24,9 @@ enum-known-answer-2 c = search needs
 put-reader-requires-2 : tie.Need-put-reader-requires-2
 put-reader-requires-2 c κs = search needs
 
+class-number-requires : tie.Need-class-number-requires
+class-number-requires c κs = search needs
+
 enum-known-answer-3 : tie.Need-enum-known-answer-3
 enum-known-answer-3 c = search needs
 
@@ -40,7 +43,7 @@ same-length-2 : tie.Need-same-length-2
 same-length-2 c = search needs
 
 returns-2 : tie.Need-returns-2
-returns-2 c = kept-at saysAdvanced (c .before .before .before .before .before .answer2 .given .1) (rw (c .before .before .before .before .before .before .before .before .reader .ensures) at (c .before .before .before .before .before .before .before .advance .ensures)) refl refl (c .before .before .put-reader2 .ensures)
+returns-2 c = kept-at saysAdvanced (c .before .before .before .before .before .before .answer2 .given .1) (rw (c .before .before .before .before .before .before .before .before .before .reader .ensures) at (c .before .before .before .before .before .before .before .before .advance .ensures)) refl (rw (c .class-number .ensures)) (c .before .before .before .put-reader2 .ensures)
 
 same-length-3 : tie.Need-same-length-3
 same-length-3 c = search needs
@@ -58,6 +61,7 @@ xm-reader-advance-spec =
     put-reader-requires
     enum-known-answer-2
     put-reader-requires-2
+    class-number-requires
     enum-known-answer-3
     code-requires
     same-length
