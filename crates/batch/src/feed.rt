@@ -16,7 +16,7 @@ use refusal::Refusal;
 use sequence::SequenceNumber;
 
 // What came of the bytes ahead: a packet of so many was taken, or the row stops here.
-#[derive(Drop)]
+#[derive(Clone, Copy)]
 pub(crate) enum Turned {
     On(usize, Connection),
     Halted(Halt),

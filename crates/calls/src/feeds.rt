@@ -17,7 +17,7 @@ const WORDS: usize = 128;
 
 // Connection and reader after some bytes; where the next byte is; how many packets came, where
 // their text ends, and the number of the refusal that stopped it, or 0.
-#[derive(Drop)]
+#[derive(Clone, Copy)]
 pub struct Shown {
     pub connection: Connection,
     pub reader: Buffered,

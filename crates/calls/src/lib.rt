@@ -3,6 +3,7 @@
 // A command is carried out and its answer written behind what waits (`text`); state and end of the
 // text come back side by side, and a refused call hands back the state that it was given. Packets go
 // in and out of one lent run of bytes, in which the text stands too. No call has a `requires`.
+#![tactic(auto)]
 mod feeds;
 mod many;
 mod polls;
@@ -18,14 +19,14 @@ pub use states::state;
 use text::Answer;
 
 // What a call answers: the connection to go on with, and what is written.
-#[derive(Drop)]
+#[derive(Clone, Copy)]
 pub struct Called {
     pub connection: Connection,
     pub answer: Answer,
 }
 
 // What a command leaves: connection, reader, and where the text ends.
-#[derive(Drop)]
+#[derive(Clone, Copy)]
 pub struct Done {
     pub connection: Connection,
     pub reader: Buffered,

@@ -9,7 +9,7 @@ use script::Op;
 use text::Answer;
 
 // A client, how long its reader's buffer is, and where the text ends.
-#[derive(Drop)]
+#[derive(Clone, Copy)]
 pub struct Point {
     pub client: Client,
     pub room: usize,
@@ -110,7 +110,7 @@ pub fn restore(
 }
 
 // How long the rooms are that a savepoint was made of.
-#[derive(Drop)]
+#[derive(Clone, Copy)]
 struct Lengths {
     requests: usize,
     store: usize,

@@ -14,7 +14,7 @@ pub const MOST_BUFFER: usize = 262148;
 const LENGTH_AT: usize = 6;
 
 // A handshake's state: byte order, bytes filled, and the bytes that the reply will have.
-#[derive(Drop)]
+#[derive(Clone, Copy)]
 pub struct Connect {
     pub order: u8,
     pub filled: usize,
@@ -22,26 +22,26 @@ pub struct Connect {
 }
 
 // A part of a buffer: where it starts, and where the bytes behind it start.
-#[derive(Drop)]
+#[derive(Clone, Copy)]
 pub struct Span {
     pub start: usize,
     pub end: usize,
 }
 
-#[derive(Drop)]
+#[derive(Clone, Copy)]
 pub enum Made {
     Handshake(Connect),
     Refused(Refusal),
 }
 
-#[derive(Drop)]
+#[derive(Clone, Copy)]
 pub enum Capacity {
     Bytes(usize),
     Refused(Refusal),
 }
 
 // What counting filled bytes comes to: the reply isn't complete yet, or it is.
-#[derive(Drop)]
+#[derive(Clone, Copy)]
 pub enum Advanced {
     NotYet(Connect),
     Complete(Connect),

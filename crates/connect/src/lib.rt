@@ -7,6 +7,7 @@
 // `buffer` lends and counts them by `advance`, which says when the reply is complete. Then `setup`
 // reads it; `vendor` and `reason` show its texts where they stand in the buffer. Bytes past the
 // filled ones mean nothing, and the buffer is never written here.
+#![tactic(auto)]
 mod handshake;
 mod reply;
 

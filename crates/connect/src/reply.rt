@@ -18,7 +18,7 @@ const SUCCESS: u8 = 1;
 const AUTHENTICATE: u8 = 2;
 
 // The fixed fields of a success; Core's names stand above them.
-#[derive(Drop)]
+#[derive(Clone, Copy)]
 pub struct Setup {
     // protocol-major-version and protocol-minor-version.
     pub major: u16,
@@ -52,7 +52,7 @@ pub struct Setup {
 
 // The connection is refused: the length of the reason, the server's version, and the length in
 // units of four bytes of what stands behind the eighth byte.
-#[derive(Drop)]
+#[derive(Clone, Copy)]
 pub struct SetupFailed {
     pub reason: u8,
     pub major: u16,
@@ -62,12 +62,12 @@ pub struct SetupFailed {
 
 // Further authentication is required: the length in units of four bytes of the reason, which is all
 // that stands behind the eighth byte.
-#[derive(Drop)]
+#[derive(Clone, Copy)]
 pub struct SetupAuthenticate {
     pub length: u16,
 }
 
-#[derive(Drop)]
+#[derive(Clone, Copy)]
 pub enum SetupAnswer {
     Success(Setup),
     Failed(SetupFailed),
@@ -76,7 +76,7 @@ pub enum SetupAnswer {
 }
 
 // Where a text stands in the buffer.
-#[derive(Drop)]
+#[derive(Clone, Copy)]
 struct TextAt {
     start: usize,
     size: usize,

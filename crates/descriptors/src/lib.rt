@@ -5,6 +5,8 @@
 // say where one part ends and the next begins. A reply that is held takes its descriptors by
 // moving a boundary. A descriptor is only ever moved, so each is in one place; what stands behind
 // the three parts is decided, and is no state. Which reply holds which is the caller's to know.
+#![tactic(auto)]
+
 mod moves;
 
 ghost use Rattle.std.specs.Prelude.{◌≡◌, ◌+◌, ◌≤◌, length};
@@ -14,7 +16,7 @@ ghost use Rattle.descriptors.specs.Room.{most_descriptors, total, room, Sound, s
 pub const MOST_DESCRIPTORS: usize = 256;
 
 // How many descriptors are to be closed, held and waiting.
-#[derive(Drop)]
+#[derive(Clone, Copy)]
 pub struct Counts {
     pub closed: usize,
     pub held: usize,

@@ -5,6 +5,7 @@
 // The step is never refused. It is exact: the state and the rooms at exit are one definition of
 // what it was given. Laws say what it is in the model's terms, and that the state it leaves is
 // sound.
+#![tactic(auto)]
 ghost use Rattle.std.specs.Prelude.{◌≡◌, ◌+◌, ◌<◌, ◌≤◌, length};
 ghost use Rattle.requests.specs.Room.{capacity};
 ghost use Rattle.held.specs.Head.{header_size};
@@ -84,7 +85,7 @@ fn turn(mode: DiscardMode, own: usize, above: usize) -> usize
 }
 
 // Where the packets lie once some are gone, and how many descriptors those had.
-#[derive(Drop)]
+#[derive(Clone, Copy)]
 pub struct Swept {
     pub window: Window,
     pub fds: usize,

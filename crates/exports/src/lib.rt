@@ -4,3 +4,4 @@
 // To believe: `specs/Run.antt`, what a run of the exports is, in rows, rooms and numbers that come
 // back, and `xiengmado/specs/Exports.antt`, the promise of each export. `specs/Theorems.antt` says
 // that such a run is a session, and what is then certain in the exports' own terms.
+#![tactic(auto)]

@@ -5,6 +5,7 @@
 // where it is filed and how many descriptors it claims; and the state's numbers once it has that
 // number. Only the request room is read, where older requests go without a write. Whoever takes the
 // packet in carries out what was decided here. Laws say that the plan and the numbers are the model's.
+#![tactic(auto)]
 ghost use Rattle.std.specs.Prelude.{◌≡◌, ◌≤◌, ◌<◌, length};
 ghost use Rattle.sequence.specs.Numbering.{last_number};
 ghost use Rattle.packet.specs.Packet.{least_packet, most_packet, packet_class};
@@ -20,7 +21,7 @@ use requests::{Mode, Request};
 use sequence::{Full, SequenceNumber};
 
 // The request that a packet belongs to, if it is still outstanding.
-#[derive(Drop)]
+#[derive(Clone, Copy)]
 pub enum Asked {
     Nobody,
     Somebody(Request),
@@ -28,7 +29,7 @@ pub enum Asked {
 
 // What is to be done with a packet: nothing, or to file it there, under that number, with so many
 // descriptors and as one of that class.
-#[derive(Drop)]
+#[derive(Clone, Copy)]
 pub enum Plan {
     Stop(Refusal),
     File(Place, SequenceNumber, u8, Class),

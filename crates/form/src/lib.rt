@@ -4,3 +4,4 @@
 // made of numbers, bytes, pairs and sections, a section being a count and so many items. To believe:
 // `specs/Form.antt`. One law, `Exact` in `specs/FormLaws.antt`, holds of whatever is made of them;
 // `specs/At.antt` is for code that tests a form where it stands.
+#![tactic(auto)]

@@ -6,6 +6,8 @@
 // given back counts at once, so a packet finds room exactly where used and its cost fit the store.
 // Nothing here knows a connection: the window goes in by value and comes back, and the last number
 // read is handed in where it matters. (01, Rooms, and Numbering and filing.)
+#![tactic(auto)]
+
 mod counting;
 mod find;
 mod head;
@@ -19,7 +21,7 @@ pub use moves::{Taken, append, behind, class_at, demote, remove, stays, take};
 pub use soundness::{MOST_STORE, walk};
 
 // Where the records are in the store; used is end - start.
-#[derive(Drop)]
+#[derive(Clone, Copy)]
 pub struct Window {
     pub start: usize,
     pub end: usize,
@@ -27,7 +29,7 @@ pub struct Window {
 
 // What a record says of its packet: the number of its request, its count of descriptors and its
 // kind.
-#[derive(Drop)]
+#[derive(Clone, Copy)]
 pub struct Label {
     pub number: u64,
     pub fds: u8,
@@ -36,7 +38,7 @@ pub struct Label {
 
 // What a walk over the whole window finds: the descriptors of the replies in all, or that the
 // state is unsound.
-#[derive(Drop)]
+#[derive(Clone, Copy)]
 pub enum Walked {
     Sound(usize),
     Unsound,
@@ -44,7 +46,7 @@ pub enum Walked {
 
 // A record that was found: where it starts, the length of its packet, its number and its count of
 // descriptors, and how many descriptors the replies before it have in all.
-#[derive(Drop)]
+#[derive(Clone, Copy)]
 pub struct Spot {
     pub at: usize,
     pub len: usize,
@@ -53,14 +55,14 @@ pub struct Spot {
     pub before: usize,
 }
 
-#[derive(Drop)]
+#[derive(Clone, Copy)]
 pub enum Found {
     At(Spot),
     Nothing,
 }
 
 // How many replies have a number, and how many a higher one.
-#[derive(Drop)]
+#[derive(Clone, Copy)]
 pub struct Tally {
     pub own: usize,
     pub above: usize,

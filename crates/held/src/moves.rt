@@ -84,7 +84,7 @@ pub fn remove(store: &mut [u8], window: Window, place: Spot) -> Window
 }
 
 // The window that is left, and the class of the packet that was taken.
-#[derive(Drop)]
+#[derive(Clone, Copy)]
 pub struct Taken {
     pub window: Window,
     pub class: Class,

@@ -11,3 +11,4 @@
 // The other side of the same number is `specs/Span.antt`: with a request more before a sync it
 // would not be so. To believe are its first part and, in `specs/Rules.antt`, what a run by the
 // rules of sending and numbering alone is (`RuledBy`); `specs/SpanWitness.antt` has the examples.
+#![tactic(auto)]

@@ -10,7 +10,7 @@ use crate::{Generated, IdAllocator, Ids};
 use refusal::Refusal;
 
 // The answer of `generate_id`.
-#[derive(Drop)]
+#[derive(Clone, Copy)]
 pub enum NextId {
     // The id.
     Id(u32),
@@ -19,7 +19,7 @@ pub enum NextId {
 }
 
 // The answer of `update_xid_range`.
-#[derive(Drop)]
+#[derive(Clone, Copy)]
 pub enum Updated {
     // The allocator is on the range.
     Done,
@@ -28,14 +28,14 @@ pub enum Updated {
 }
 
 // A turn for an id: the answer, and the allocator that is left.
-#[derive(Drop)]
+#[derive(Clone, Copy)]
 pub struct IdTurn {
     pub answer: NextId,
     pub left: IdAllocator,
 }
 
 // A turn for a range.
-#[derive(Drop)]
+#[derive(Clone, Copy)]
 pub struct RangeTurn {
     pub answer: Updated,
     pub left: IdAllocator,

@@ -16,6 +16,8 @@
 //
 // `specs/Ids` says what each method answers, `specs/Lent` what that is to who lends the allocator,
 // `specs/Runs` what calls in a row give, and `specs/Theorems` what follows.
+#![tactic(auto)]
+
 mod lent;
 
 ghost use Rattle.std.specs.Prelude.{◌≡◌, ◌≤◌};
@@ -29,7 +31,7 @@ use refusal::Refusal;
 const LIMIT: u64 = 4294967296;
 
 // An allocator for X11 ids: it generates them from the range that the server assigned the client.
-#[derive(Drop)]
+#[derive(Clone, Copy)]
 pub struct IdAllocator {
     // The id that comes next, unless it is past the last.
     pub next: u64,
@@ -40,7 +42,7 @@ pub struct IdAllocator {
 }
 
 // The answer of `new` and of `update_xid_range`.
-#[derive(Drop)]
+#[derive(Clone, Copy)]
 pub enum Ids {
     // The allocator to go on with.
     Ready(IdAllocator),
@@ -49,7 +51,7 @@ pub enum Ids {
 }
 
 // The answer of `generate_id`.
-#[derive(Drop)]
+#[derive(Clone, Copy)]
 pub enum Generated {
     // The id, and the allocator to go on with.
     Id(u32, IdAllocator),

@@ -11,7 +11,7 @@ use model::{Connection, moved};
 use sequence::{Full, SequenceNumber};
 
 // What an event is: one that goes the short way, with that number, or another.
-#[derive(Drop)]
+#[derive(Clone, Copy)]
 pub enum Plain {
     Event(SequenceNumber),
     Other,

@@ -5,6 +5,7 @@
 // packet is held behind the others, or dropped, with its descriptors. The step is exact: its answer
 // and every room at exit are one definition of what it was given. Laws say what it is in the model's
 // terms, and that the state it leaves is sound.
+#![tactic(auto)]
 mod event;
 
 ghost use Rattle.std.specs.Prelude.{length};

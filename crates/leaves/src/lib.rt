@@ -5,6 +5,7 @@
 // One lent run of bytes holds the buffers of reader and handshake, each at its own place, and the
 // bytes that a script puts into them somewhere behind. No call has a `requires`: where the run is
 // too short, the reader or the handshake is refused by 9.
+#![tactic(auto)]
 mod handshake;
 mod ids;
 mod moves;
@@ -26,14 +27,14 @@ pub const SETUP: usize = 131072;
 
 pub const END: usize = 393220;
 
-#[derive(Drop)]
+#[derive(Clone, Copy)]
 pub struct Leaves {
     pub reader: Buffered,
     pub handshake: Connect,
     pub ids: IdAllocator,
 }
 
-#[derive(Drop)]
+#[derive(Clone, Copy)]
 pub struct Turned {
     pub leaves: Leaves,
     pub answer: Answer,

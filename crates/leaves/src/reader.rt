@@ -6,7 +6,7 @@ use refusal::Refusal;
 use text::Answer;
 
 // A reader, and how long its buffer is.
-#[derive(Drop)]
+#[derive(Clone, Copy)]
 pub struct Buffered {
     pub reader: PacketReader,
     pub room: usize,
@@ -108,7 +108,7 @@ fn waiting(leaves: Leaves, next: Buffered, bytes: &[u8]) -> Turned {
 
 // What some bytes came to: how many were used, and the reader to go on with; and a packet of so
 // many bytes at the start of its buffer, with its class, where they made one whole.
-#[derive(Drop)]
+#[derive(Clone, Copy)]
 pub enum Fed {
     NotYet(usize, Buffered),
     Packet(usize, usize, Class, Buffered),

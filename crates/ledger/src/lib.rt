@@ -8,3 +8,4 @@
 // outcomes as they are read and rows of calls; `model/specs/Encoding.antt`, when state and rooms
 // encode a state and when two are alike. `specs/Theorems.antt` says what is then certain, statements
 // alone, of every public call in one sentence.
+#![tactic(auto)]

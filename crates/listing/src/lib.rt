@@ -5,6 +5,7 @@
 // and says what it wants then. Nothing is kept here, and nothing is read or written but what is
 // lent: the text of a stream is the same however the bytes come and however often the output is
 // handed on (`any_pieces`).
+#![tactic(auto)]
 mod lines;
 
 ghost use Rattle.std.specs.Prelude.{◌≤◌, length, take};
@@ -15,7 +16,7 @@ use sequence::SequenceNumber;
 
 // Where a listing is: nothing is written yet, all that is used is written and this is the last
 // number read, or the last line is written.
-#[derive(Drop)]
+#[derive(Clone, Copy)]
 pub enum Stage {
     Start,
     After(SequenceNumber),
@@ -24,7 +25,7 @@ pub enum Stage {
 
 // What a call wants before the next: more bytes, or to be told that there are none; room in the
 // output; or no next call.
-#[derive(Drop)]
+#[derive(Clone, Copy)]
 pub enum Wants {
     Bytes,
     Room,
@@ -33,7 +34,7 @@ pub enum Wants {
 
 // What a call came to: so many bytes are held at the start of the buffer, so many of text stand at
 // the start of the output.
-#[derive(Drop)]
+#[derive(Clone, Copy)]
 pub struct Turn {
     pub held: usize,
     pub written: usize,

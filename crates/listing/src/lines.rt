@@ -14,7 +14,7 @@ use sequence::{Full, SequenceNumber};
 pub const MOST_LINE: usize = 63;
 
 // What bytes come to: so many are used and so many of text written.
-#[derive(Drop)]
+#[derive(Clone, Copy)]
 pub struct Listed {
     pub used: usize,
     pub written: usize,
@@ -56,7 +56,7 @@ fn last(out: &mut [u8], at: usize, word: &[u8], n: u64) -> usize
 
 // What bytes begin with after a last read: no whole packet, one that is refused, or a packet of so
 // many bytes and its number.
-#[derive(Drop)]
+#[derive(Clone, Copy)]
 pub enum Next {
     Part,
     Refused(Refusal),

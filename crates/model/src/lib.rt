@@ -4,6 +4,7 @@
 // The pages to believe are `specs/Client.antt`, the state as the rules speak of it, and
 // `specs/Model.antt`, one executable function for each call. Nothing there knows a room. Beside them,
 // `specs/Encoding.antt` says when state and rooms encode such a state, and when two are alike.
+#![tactic(auto)]
 
 mod soundness;
 
@@ -19,7 +20,7 @@ use sequence::SequenceNumber;
 pub use soundness::{LEAST_STORE, is_sound};
 
 // Whether a request has a reply, and whether the reply has descriptors.
-#[derive(Drop)]
+#[derive(Clone, Copy)]
 pub enum ReplyFdKind {
     NoReply,
     ReplyWithoutFds,
@@ -40,7 +41,7 @@ pub fn kind_of(kind: u8) -> ReplyFdKind
 }
 
 // What is to happen to the answer of a request.
-#[derive(Drop)]
+#[derive(Clone, Copy)]
 pub enum DiscardMode {
     // The reply goes; an error becomes an event.
     DiscardReply,
@@ -49,7 +50,7 @@ pub enum DiscardMode {
 }
 
 // Where a packet was filed.
-#[derive(Drop)]
+#[derive(Clone, Copy)]
 pub enum Place {
     Replies,
     Events,
@@ -59,7 +60,7 @@ pub enum Place {
 // A connection's state, all but the rooms that are lent with it: byte order, how many requests the
 // request room takes, the length of the packet store, the three numbers, the first outstanding
 // number, where the held packets lie in the store, and how many descriptors are where.
-#[derive(Drop)]
+#[derive(Clone, Copy)]
 pub struct Connection {
     pub order: u8,
     pub capacity: usize,
@@ -92,21 +93,21 @@ pub fn moved(c: Connection, window: Window, counts: Counts) -> Connection
 // ---- what the calls answer: each hands back the state to go on with, and a refusal none
 
 // `new`, `enqueue_fds` and `discard_reply`.
-#[derive(Drop)]
+#[derive(Clone, Copy)]
 pub enum Next {
     State(Connection),
     Refused(Refusal),
 }
 
 // `send_request`: the number of the request.
-#[derive(Drop)]
+#[derive(Clone, Copy)]
 pub enum Sent {
     Number(SequenceNumber, Connection),
     Refused(Refusal),
 }
 
 // `enqueue_packet`: where the packet was filed, under which number, and its class.
-#[derive(Drop)]
+#[derive(Clone, Copy)]
 pub enum Enqueued {
     Filed(Place, SequenceNumber, Class, Connection),
     Refused(Refusal),
@@ -114,7 +115,7 @@ pub enum Enqueued {
 
 // What is handed out of a held packet: its number, how many bytes and descriptors of it are in the
 // outputs, and its class. An error may be among the events.
-#[derive(Drop)]
+#[derive(Clone, Copy)]
 pub struct Handed {
     pub number: SequenceNumber,
     pub length: usize,
@@ -123,7 +124,7 @@ pub struct Handed {
 }
 
 // `poll_for_reply_or_error`: a packet of the number is in the outputs, with its descriptors.
-#[derive(Drop)]
+#[derive(Clone, Copy)]
 pub enum Polled {
     Packet(Handed, Connection),
     Nothing(Connection),
@@ -132,7 +133,7 @@ pub enum Polled {
 
 // `poll_check_for_reply_or_error` and `poll_for_reply`: a packet of the number is in the output,
 // without its descriptors, which are closed.
-#[derive(Drop)]
+#[derive(Clone, Copy)]
 pub enum PollReply {
     TryAgain(Connection),
     NoReply(Connection),
@@ -141,7 +142,7 @@ pub enum PollReply {
 }
 
 // `poll_for_event_with_sequence`: an event is in the output; it has no descriptors.
-#[derive(Drop)]
+#[derive(Clone, Copy)]
 pub enum Event {
     Packet(Handed, Connection),
     Nothing(Connection),
@@ -149,14 +150,14 @@ pub enum Event {
 }
 
 // `take_closed_fds`: so many descriptors are in the output.
-#[derive(Drop)]
+#[derive(Clone, Copy)]
 pub enum Closed {
     Taken(usize, Connection),
     Refused(Refusal),
 }
 
 // `prepare_check_for_reply_or_error`.
-#[derive(Drop)]
+#[derive(Clone, Copy)]
 pub enum Prepared {
     Answer(bool),
     Refused(Refusal),
@@ -166,7 +167,7 @@ pub enum Prepared {
 
 // What stopped it: the end of what it was given, the refusal of the next step, or an input that is
 // the byte of no kind.
-#[derive(Drop)]
+#[derive(Clone, Copy)]
 pub enum Stop {
     End,
     Refused(Refusal),
@@ -174,14 +175,14 @@ pub enum Stop {
 }
 
 // `send_requests`: how many were sent, the last number written, and what stopped it.
-#[derive(Drop)]
+#[derive(Clone, Copy)]
 pub enum SentMany {
     Sent(usize, SequenceNumber, Stop, Connection),
     Refused(Refusal),
 }
 
 // `poll_for_events`: how many events are in the outputs, and how many bytes their packets are.
-#[derive(Drop)]
+#[derive(Clone, Copy)]
 pub enum Events {
     Handed(usize, usize, Stop, Connection),
     Refused(Refusal),
@@ -189,7 +190,7 @@ pub enum Events {
 
 // What stopped a row of packets: no byte is left, part of a packet is left, or the next packet is
 // refused.
-#[derive(Drop)]
+#[derive(Clone, Copy)]
 pub enum Halt {
     End,
     Part,
@@ -197,7 +198,7 @@ pub enum Halt {
 }
 
 // `enqueue_packets`: so many bytes were taken, so many packets, and what stopped it.
-#[derive(Drop)]
+#[derive(Clone, Copy)]
 pub enum Fed {
     Taken(usize, usize, Halt, Connection),
     Refused(Refusal),

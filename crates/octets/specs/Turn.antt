@@ -2,12 +2,18 @@
 use Rattle.std.specs.Prelude.{◌≡◌, ℕ, ◌+◌, ◌-◌, ◌≤◌, List, ◌++◌, reverse, length, take, drop}
 use Rattle.std.proofs.Common.{sym, ap, ◌∙◌, arith, length-append}
 use Rattle.std.proofs.lemmas.List.{reverse-append, reverse-reverse, length-reverse}
-use Rattle.bytes.specs.Bytes.{rev, slice}
 use Rattle.octets.specs.Put.{put, cut, put_put, put_over, length_put, length_cut, take_drop, cut_put, cut_put_after}
+
+-- a list backwards, and the part of it from a to e
+abbrev pub rev : List ℕ → List ℕ
+rev s = reverse s
+
+abbrev pub slice : ℕ → ℕ → List ℕ → List ℕ
+slice a e s = drop a (take e s)
 
 -- a reversal is a put
 reversed : (s : List ℕ) (a e : ℕ) → a ≤ e → e ≤ length s → take a s ++ (rev (slice a e s) ++ drop e s) ≡ put s a (reverse (cut a (e - a) s))
-unfolding put cut rev slice
+unfolding put cut
 reversed s a e h f =
     let q : a + (e - a) ≡ e = omega arith in
     let x : drop a (take e s) ≡ take (e - a) (drop a s) = sym (take_drop a (e - a) s ∙ ap (λ (n : ℕ). drop a (take n s)) q) in

@@ -10,7 +10,7 @@ use super::{LITTLE, get_u64, put_u64};
 // The bytes of a block.
 pub const SIZE: usize = 32;
 
-#[derive(Drop)]
+#[derive(Clone, Copy)]
 pub struct Block {
     pub a: u64,
     pub b: u64,

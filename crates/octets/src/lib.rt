@@ -3,6 +3,8 @@
 // Nothing here knows a packet or a room. A field is read and written through its two halves, so
 // that one law over order and width (`field_halves`, `put_halves`) serves each function. A move
 // within a slice is one `put` of what was cut out before: overlaps are no case of their own.
+#![tactic(auto)]
+
 mod blocks;
 mod moves;
 

@@ -167,7 +167,7 @@ pub fn rotate(s: &mut [u8], at: usize, mid: usize, end: usize)
     requires { (at ≤ mid) × (mid ≤ end) × (end ≤ length s.old) }
     ensures { s.new ≡ put s.old at (cut mid (end - mid) s.old ++ cut at (mid - at) s.old) }
 {
-    bytes::reverse(s, at, mid);
-    bytes::reverse(s, mid, end);
-    bytes::reverse(s, at, end);
+    s[at..mid].reverse();
+    s[mid..end].reverse();
+    s[at..end].reverse();
 }

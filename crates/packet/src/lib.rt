@@ -3,6 +3,8 @@
 // The bounds of its length, what its first byte means (its class), where it has its wire number, and
 // the number that it is filed under after a last read. Whoever frames, reads, holds, files or hands
 // out a packet asks here; nothing is kept, and nothing is written.
+#![tactic(auto)]
+
 ghost use Rattle.std.specs.Prelude.{◌≡◌, ◌≤◌, length};
 ghost use Rattle.sequence.specs.Numbering.{says_full};
 ghost use Rattle.packet.specs.Class.{says_class};
@@ -34,7 +36,7 @@ const WIRE: usize = 2;
 pub const LENGTH: usize = 4;
 
 // What kind of packet it is. Sent are the events, plain or generic, that SendEvent made.
-#[derive(Drop)]
+#[derive(Clone, Copy)]
 pub enum Class {
     Error,
     Reply,

@@ -7,6 +7,7 @@
 // whole, and of which class it is. Bytes past the filled ones mean nothing. The reader never writes
 // the buffer itself. Where whole packets already lie side by side, `front` says what stands first,
 // with no buffer.
+#![tactic(auto)]
 ghost use Rattle.std.specs.Prelude.{◌≡◌, ◌≤◌, length};
 ghost use Rattle.packet.specs.Class.{says_class};
 ghost use Rattle.packet_reader.specs.Frame.{length_as, aim};
@@ -20,7 +21,7 @@ use refusal::Refusal;
 pub const MOST_BUFFER: usize = packet::MOST_PACKET;
 
 // What the first bytes of a packet tell: how many bytes it has, and its class.
-#[derive(Drop)]
+#[derive(Clone, Copy)]
 pub struct Framed {
     pub length: usize,
     pub class: Class,
@@ -75,7 +76,7 @@ pub fn wanted(order: u8, bytes: &[u8]) -> usize
 
 // What a run of bytes begins with: it has none, or begins with a part of a packet, with a packet
 // that is longer than any may be, or with a whole one of so many bytes and that class.
-#[derive(Drop)]
+#[derive(Clone, Copy)]
 pub enum Begins {
     Nothing,
     Part,
@@ -105,7 +106,7 @@ pub fn front(order: u8, bytes: &[u8]) -> Begins
 }
 
 // A reader's state: byte order, bytes filled, and the bytes that the packet will have.
-#[derive(Drop)]
+#[derive(Clone, Copy)]
 pub struct PacketReader {
     pub order: u8,
     pub filled: usize,
@@ -113,19 +114,19 @@ pub struct PacketReader {
 }
 
 // A part of a buffer: where it starts, and where the bytes behind it start.
-#[derive(Drop)]
+#[derive(Clone, Copy)]
 pub struct Span {
     pub start: usize,
     pub end: usize,
 }
 
-#[derive(Drop)]
+#[derive(Clone, Copy)]
 pub enum Made {
     Reader(PacketReader),
     Refused(Refusal),
 }
 
-#[derive(Drop)]
+#[derive(Clone, Copy)]
 pub enum Capacity {
     Bytes(usize),
     Refused(Refusal),
@@ -133,7 +134,7 @@ pub enum Capacity {
 
 // What counting filled bytes comes to: the packet isn't whole yet, or it is, with so many bytes at
 // the start of the buffer and of that class, and the reader begins anew.
-#[derive(Drop)]
+#[derive(Clone, Copy)]
 pub enum Advanced {
     NotYet(PacketReader),
     Packet(usize, Class, PacketReader),

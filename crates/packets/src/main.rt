@@ -2,6 +2,7 @@
 //
 // The program reads, asks `listing` for text, and writes it. What the text is, and when bytes or
 // room are wanted, is decided there.
+#![tactic(auto)]
 ghost use Rattle.std.specs.Prelude.{◌≤◌, length};
 
 use libc::{STDIN_FILENO, STDOUT_FILENO};

@@ -5,10 +5,11 @@
 // whose last case is `Refused(Refusal)`; a call that hands back a part gives an empty one, and a
 // call beside it the number. In `specs/`, `Answer` is what every such enum says in the rules' own
 // terms, the values given or the number of the refusal, and `refuse` puts refusals in order.
+#![tactic(auto)]
 ghost use Rattle.std.specs.Prelude.{◌≡◌};
 ghost use Rattle.refusal.specs.Numbers.{number_of};
 
-#[derive(Drop)]
+#[derive(Clone, Copy)]
 pub enum Refusal {
     // 1: a packet under 32 bytes.
     ShortPacket,

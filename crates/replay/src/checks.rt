@@ -5,7 +5,7 @@ const LONGEST: usize = 262144;
 
 // How many answers were expected, and how many of those differ; whether the next that differs ends
 // the run, and whether one has.
-#[derive(Drop)]
+#[derive(Clone, Copy)]
 pub struct Checks {
     pub expected: u64,
     pub differ: u64,
@@ -22,7 +22,7 @@ pub(crate) fn fresh() -> Checks {
     }
 }
 
-#[derive(Drop)]
+#[derive(Clone, Copy)]
 pub enum Verdict {
     Same,
     Differs,

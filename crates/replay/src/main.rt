@@ -2,6 +2,7 @@
 // run, of the Rust, of a restored client, of last week's build.
 //
 // The language is in docs/REPLAY.md. Scripts may be of any length; memory stays as it is.
+#![tactic(auto)]
 mod checks;
 mod run;
 

@@ -10,7 +10,7 @@ use script::{Input, Op};
 
 // What a script works on; where the text ends that waits; how many commands there were; and what is
 // expected of them.
-#[derive(Drop)]
+#[derive(Clone, Copy)]
 pub struct State {
     pub connection: Connection,
     pub leaves: Leaves,

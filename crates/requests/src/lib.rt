@@ -4,12 +4,14 @@
 // What is kept of a request is one typed value, and the layout of its byte is known here alone:
 // callers see the request of a number. Which numbers are outstanding is the caller's to know; only
 // their bytes are read or must be legal (01, Rooms).
+#![tactic(auto)]
+
 ghost use Rattle.std.specs.Prelude.{◌≡◌, ◌-◌, ◌≤◌, ◌<◌, ◌%◌, length};
 ghost use Rattle.octets.specs.Put.{cut};
 ghost use Rattle.requests.specs.Room.{capacity, bytes_for, sized, mode_of, mode_number, byte_of, request_of, request_at, put_request, put_mode, legals, legal_run};
 
 // What happens to the answer of a request.
-#[derive(Drop)]
+#[derive(Clone, Copy)]
 pub enum Mode {
     // No discard mode: reply and error are kept.
     Keep,
@@ -18,7 +20,7 @@ pub enum Mode {
 }
 
 // What is kept of an outstanding request: whether its reply has descriptors, and its mode.
-#[derive(Drop)]
+#[derive(Clone, Copy)]
 pub struct Request {
     pub descriptors: bool,
     pub mode: Mode,

@@ -2,7 +2,7 @@
 use Rattle.std.specs.Prelude.{◌≡◌, refl, Bool, true, false, not, List, [], ◌∷◌, ◌++◌, map, ℕ, ◌+◌, ◌-◌, ◌≤◌, leb, length, drop}
 use Rattle.std.proofs.Common.{sym, ap, ◌∙◌, leb-true, le-leb}
 use Rattle.std.proofs.Math.Option.{some}
-use Rattle.std.proofs.lemmas.List.{length_map}
+use Rattle.std.proofs.lemmas.List.{length-map}
 use Rattle.std.proofs.lemmas.Bool.{not-true, not-false}
 use Rattle.octets.specs.Logic.{both_left, both_right, both_yes, apart}
 use Rattle.octets.specs.Bytes.{word, Octets}
@@ -43,7 +43,7 @@ module _ (s : List ℕ) (o : Octets s) (at : ℕ) where
   as_bytes : (l : List Request) (y : List ℕ) → some (l, y) ≡ (counted 4 request).read (drop at s) → some (map request_code l, y) ≡ (counted 4 byte).read (drop at s)
   as_bytes l y e =
       let m = (counted_exact request request_exact 4).only (drop at s) (octets_drop at s o) l y e in
-      let n : length (map request_code l) ≡ length l = length_map l request_code in
+      let n : length (map request_code l) ≡ length l = length-map l request_code in
       let w : (counted 4 byte).write (map request_code l) ++ y ≡ drop at s = (λ i. word 4 (n i) ++ sym (codes_written l) i ++ y) ∙ m.1 in
       (counted_exact byte byte_exact 4).back (map request_code l) y (both_yes _ _ (ap (number 4).fits n ∙ both_left _ _ m.0) (each_so byte.fits (λ b. refl) (map request_code l))) ∙ ap (counted 4 byte).read w
 
@@ -72,7 +72,7 @@ module _ (s : List ℕ) (o : Octets s) (at : ℕ) where
     requests_good b e t =
         let g : each is_code stands.items ≡ true = ap (each is_code) (sym are) ∙ sym e ∙ not-false b t in
         let q : List Request = map code_request stands.items in
-        let n : length q ≡ length stands.items = length_map stands.items code_request in
+        let n : length q ≡ length stands.items = length-map stands.items code_request in
         let m = (counted_exact byte byte_exact 4).only (drop at s) (octets_drop at s o) stands.items (drop r s) stands.reads in
         let v : writes request q ≡ writes byte stands.items = codes_written q ∙ ap (writes byte) (codes_back stands.items g) in
         let w : (counted 4 request).write q ++ drop r s ≡ drop at s = (λ i. word 4 (n i) ++ v i ++ drop r s) ∙ m.1 in

@@ -23,7 +23,7 @@ const NUMBER: usize = 8;
 const LAST_CODE: u8 = 5;
 
 // Where the other sections begin; 0 each where the bytes are no savepoint.
-#[derive(Drop)]
+#[derive(Clone, Copy)]
 pub struct Plan {
     pub replies: usize,
     pub events: usize,

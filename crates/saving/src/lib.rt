@@ -5,6 +5,7 @@
 // reads one into rooms of the lengths saved. Two sound clients have equal bytes exactly where their
 // states are equal, and reading takes exactly what writing can produce: docs/SAVEPOINT.md is the
 // page of the format, `savepoint/specs/Calls.antt` says what each call answers.
+#![tactic(auto)]
 mod finding;
 mod laying;
 mod places;
@@ -25,7 +26,7 @@ use packet_reader::PacketReader;
 use refusal::Refusal;
 
 // A client, all but what is lent with it.
-#[derive(Drop)]
+#[derive(Clone, Copy)]
 pub struct Client {
     pub connection: Connection,
     pub reader: PacketReader,
@@ -33,14 +34,14 @@ pub struct Client {
 }
 
 // `savepoint_length`: how many bytes a savepoint takes. `save`: how many it wrote.
-#[derive(Drop)]
+#[derive(Clone, Copy)]
 pub enum Saved {
     Bytes(usize),
     Refused(Refusal),
 }
 
 // `restore`: the client to go on with.
-#[derive(Drop)]
+#[derive(Clone, Copy)]
 pub enum Restored {
     Client(Client),
     Refused(Refusal),

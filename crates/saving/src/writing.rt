@@ -128,7 +128,7 @@ fn put_requests(out: &mut [u8], to: usize, requests: &[u8], first: u64, count: u
 }
 
 // What was copied: where it ends, and how many records it is.
-#[derive(Drop)]
+#[derive(Clone, Copy)]
 struct Copied {
     end: usize,
     count: usize,
@@ -152,7 +152,7 @@ fn copy_one(out: &mut [u8], done: Copied, store: &[u8], at: usize, kind: u8) -> 
 }
 
 // The same of a walk over a window, with how many records it passed in all.
-#[derive(Drop)]
+#[derive(Clone, Copy)]
 struct Passed {
     end: usize,
     count: usize,

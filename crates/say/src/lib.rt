@@ -1,4 +1,5 @@
 // Inside: what the programs write to standard output, one word or number of a line at a time.
+#![tactic(auto)]
 use libc::STDOUT_FILENO;
 use refusal::Refusal;
 

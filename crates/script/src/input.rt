@@ -10,7 +10,7 @@ const RETURN: u8 = 13;
 pub const INPUT: usize = 1179652;
 
 // Where a run is.
-#[derive(Drop)]
+#[derive(Clone, Copy)]
 pub struct Input {
     // The line stands from one index to another.
     pub from: usize,
@@ -216,7 +216,7 @@ fn broken(place: Input) -> Input {
 }
 
 // How many bytes came, 0 at the end of the input.
-#[derive(Drop)]
+#[derive(Clone, Copy)]
 enum Got {
     Bytes(usize),
     Failed,

@@ -3,6 +3,7 @@
 // A line is a command or cannot be read; nothing here knows what a command does. Words are parted
 // by single blanks. The bytes that a line has in hex are put over their digits. No call has a
 // `requires`.
+#![tactic(auto)]
 mod input;
 mod kinds;
 mod line;
@@ -23,7 +24,7 @@ pub use words::{name_end, same};
 // What a line says: the number of a command, and up to three more. Bytes, and words that are read
 // where they are used, stand in the input from index a to b; kinds of requests are 0, 1 and 2 for
 // `none`, `reply` and `fds`.
-#[derive(Drop)]
+#[derive(Clone, Copy)]
 pub struct Op {
     pub code: u8,
     pub a: u64,

@@ -121,7 +121,7 @@ fn moded(n: u64, mode: u8, whole: bool) -> Op {
 }
 
 // Two numbers, and where the second ends; or which of the words can't be read.
-#[derive(Drop)]
+#[derive(Clone, Copy)]
 enum Pair {
     Both(u64, u64, usize),
     Bad(u64),

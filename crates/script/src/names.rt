@@ -80,7 +80,7 @@ pub fn is_leaf(code: u8) -> bool {
 }
 
 // A line's command, whether its name is all of the line, and where the rest starts.
-#[derive(Drop)]
+#[derive(Clone, Copy)]
 pub struct Named {
     pub code: u8,
     pub alone: bool,

@@ -6,14 +6,14 @@ pub(crate) fn most_digits(savepoint: bool) -> usize {
     if savepoint { 1572864 } else { 131072 }
 }
 
-#[derive(Drop)]
+#[derive(Clone, Copy)]
 pub enum Number {
     Value(u64),
     Bad,
 }
 
 // Where the bytes of a line end, or which of its words can't be read.
-#[derive(Drop)]
+#[derive(Clone, Copy)]
 pub enum Bytes {
     End(usize),
     Bad(u64),
@@ -143,7 +143,7 @@ fn is_blank(input: &[u8], at: usize) -> bool {
 }
 
 // Up to where there are pairs of digits, and where their bytes end.
-#[derive(Drop)]
+#[derive(Clone, Copy)]
 struct Taken {
     at: usize,
     to: usize,

@@ -7,6 +7,7 @@
 // A step asks only for what it needs, touches only the room it writes, and is exact: its answer and
 // that room at exit are one definition of what it was given. Laws say what it is in the model's
 // terms, and that the state it leaves is sound.
+#![tactic(auto)]
 ghost use Rattle.std.specs.Prelude.{◌≡◌, ◌<◌};
 ghost use Rattle.requests.specs.Room.{capacity};
 ghost use Rattle.model.specs.Model.{has_reply, joining};
@@ -23,7 +24,7 @@ use requests::{Mode, Request};
 use sequence::SequenceNumber;
 
 // What sending a request would come to: its number, and then the next reply expected.
-#[derive(Drop)]
+#[derive(Clone, Copy)]
 pub enum Going {
     Under(SequenceNumber, SequenceNumber),
     Refused(Refusal),

@@ -4,6 +4,8 @@
 // that it belongs to. A number on the wire and a full number are types of their own, so neither
 // can be handed where the other is due. Nothing is kept here: the three numbers of a connection
 // (last written, next reply expected, last read) come in and go out.
+#![tactic(auto)]
+
 ghost use Rattle.std.specs.Prelude.{◌≡◌, ◌≤◌};
 ghost use Rattle.sequence.specs.Numbering.{Least, FullNumber, says_full, last_number};
 ghost use Rattle.sequence.specs.Sending.{must_sync};
@@ -12,11 +14,11 @@ ghost use Rattle.sequence.specs.Promises.{SendsNumber};
 use refusal::Refusal;
 
 // The 16 bits that a packet carries of the number of its request.
-#[derive(Drop)]
+#[derive(Clone, Copy)]
 pub struct WireNumber(pub u16);
 
 // A full number, counted from one without a wrap; 0 stands before the first request.
-#[derive(Drop)]
+#[derive(Clone, Copy)]
 pub struct SequenceNumber(pub u64);
 
 // The largest full number.
@@ -29,14 +31,14 @@ pub const SYNC_SPAN: u64 = 65534;
 const WIRE_VALUES: u64 = 65536;
 
 // What the number of a packet is.
-#[derive(Drop)]
+#[derive(Clone, Copy)]
 pub enum Full {
     Number(SequenceNumber),
     Refused(Refusal),
 }
 
 // What sending a request comes to: its number, and then the next reply expected.
-#[derive(Drop)]
+#[derive(Clone, Copy)]
 pub enum Sent {
     Number(SequenceNumber, SequenceNumber),
     Refused(Refusal),

@@ -70,7 +70,7 @@ row_filed : {m : Client} {l : List Entry} → Runs m l → (over : Stopped) (ps 
     → FiledAll m (take (length (row_of over m (bytes_in ps)).values) ps) (row_of over m (bytes_in ps)).end
 unfolding many on_turn model_took notes note_packet
 row_filed k over [] h = refl
-row_filed {m} {l} k over (q ∷ ps) h = go (enqueue_packet m q.bytes) refl (λ x r g. row_filed r over ps g) h
+row_filed {m} {l} k over (q ∷ ps) h = go (enqueue_packet m q.bytes) refl (λ x r g. row_filed {m = x.1} {l = grown q x l} r over ps g) h
   where
     go : (a : Answer (Filing × Client)) → a ≡ enqueue_packet m q.bytes
         → ((x : Filing × Client) → Runs x.1 (grown q x l) → Honest x.1.order (log_of ps (row_of over x.1 (bytes_in ps)) (grown q x l)) → FiledAll x.1 (take (length (row_of over x.1 (bytes_in ps)).values) ps) (row_of over x.1 (bytes_in ps)).end)
@@ -97,7 +97,7 @@ row_refused : {m : Client} {l : List Entry} → Runs m l → (over : Stopped) (p
     → NextFair m.order (log_of ps (row_of over m (bytes_in ps)) l) (drop (length (row_of over m (bytes_in ps)).values) ps) → (n : ℕ) → (row_of over m (bytes_in ps)).stopped ≡ refused n → (over ≡ refused n) ⊎ Ordinary n
 unfolding many on_turn model_took notes note_packet
 row_refused k over [] h f n s = inl s
-row_refused {m} {l} k over (q ∷ ps) h f n s = go (enqueue_packet m q.bytes) refl (λ x r g i. row_refused r over ps g i n) h f s
+row_refused {m} {l} k over (q ∷ ps) h f n s = go (enqueue_packet m q.bytes) refl (λ x r g i. row_refused {m = x.1} {l = grown q x l} r over ps g i n) h f s
   where
     go : (a : Answer (Filing × Client)) → a ≡ enqueue_packet m q.bytes
         → ((x : Filing × Client) → Runs x.1 (grown q x l) → Honest x.1.order (log_of ps (row_of over x.1 (bytes_in ps)) (grown q x l))

@@ -7,3 +7,4 @@
 // server and how a held record is followed. `specs/Theorems.antt` and `specs/Served.antt` say what
 // is then certain, `specs/Witness.antt` that there is such a session, and `specs/Engines.antt` which
 // engines the promises of the calls shut out.
+#![tactic(auto)]

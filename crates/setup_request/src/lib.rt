@@ -4,6 +4,7 @@
 // and the name and data of an authorization, each padded to a multiple of four bytes. They are
 // written to the start of an output that the caller lends; a refusal leaves it as it was. Nothing
 // is kept. The server's reply is the business of `connect`.
+#![tactic(auto)]
 ghost use Rattle.std.specs.Prelude.{◌≡◌, ◌+◌, ◌≤◌, [], ◌∷◌, length};
 ghost use Rattle.octets.specs.Put.{put};
 ghost use Rattle.setup_request.specs.Pad.{pad as pad_pad, zeros, padded};
@@ -22,7 +23,7 @@ const NAME_AT: usize = 12;
 pub const MOST_TEXT: usize = 65535;
 
 // How many bytes were written.
-#[derive(Drop)]
+#[derive(Clone, Copy)]
 pub enum Written {
     Bytes(usize),
     Refused(Refusal),

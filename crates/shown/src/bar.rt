@@ -5,7 +5,7 @@ use held::Window;
 
 // What is there of a packet or of a setup: byte order, how long its buffer is, where that begins in
 // the run of bytes, and how many are filled.
-#[derive(Drop)]
+#[derive(Clone, Copy)]
 pub struct Partial {
     pub order: u8,
     pub room: usize,
@@ -15,7 +15,7 @@ pub struct Partial {
 
 // What counts as state beside `Told`: the connection's byte order and rooms, the reader, the three
 // numbers of the allocator, and the handshake. The window says where packets are.
-#[derive(Drop)]
+#[derive(Clone, Copy)]
 pub struct Beside {
     pub order: u8,
     pub requests: usize,

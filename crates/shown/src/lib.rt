@@ -3,6 +3,7 @@
 //
 // Text goes behind what waits in a lent run of bytes, and where it ends then comes back (`text`).
 // Nothing here is promised but that it is safe and ends.
+#![tactic(auto)]
 mod bar;
 mod digest;
 mod packets;
@@ -16,7 +17,7 @@ use held::Window;
 use requests::{Mode, Request};
 
 // What counts as state beside the rooms.
-#[derive(Drop)]
+#[derive(Clone, Copy)]
 pub struct Told {
     pub written: u64,
     pub expected: u64,

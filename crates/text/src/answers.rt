@@ -40,7 +40,7 @@ pub const REPLY: u64 = 0x796c706572;
 // that stopped it; and a packet, so many bytes of the run from an index on. What is 0 isn't written,
 // and each part that is has a blank before it. The last is the number of a packet's class, or that of
 // none, which `class` writes.
-#[derive(Drop)]
+#[derive(Clone, Copy)]
 pub struct Answer {
     pub word: u64,
     pub counted: bool,

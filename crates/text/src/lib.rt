@@ -5,6 +5,7 @@
 // would pass the run's end, what waits is written and the text starts anew; `flush` writes what
 // waits, and the text goes on behind it, so that the last answer still stands there. Behind a write
 // that failed nothing is written. Packets that are shown stand in the same run, somewhere before.
+#![tactic(auto)]
 mod answers;
 mod classes;
 mod notes;

@@ -3,6 +3,7 @@
 // A packet that a caller hands in is first checked for its length, the byte order and its first
 // byte; then its fields can be read. An error has 32 bytes, of which the first eleven say
 // something; what its code and opcodes are called stays with the caller. Nothing is written.
+#![tactic(auto)]
 ghost use Rattle.std.specs.Prelude.{◌≡◌, ◌≤◌, length};
 ghost use Rattle.packet.specs.Packet.{least_packet};
 ghost use Rattle.x11_utils.specs.Error.{error_of};
@@ -11,7 +12,7 @@ ghost use Rattle.x11_utils.specs.Promises.{ChecksPacket, ParsesError};
 use refusal::Refusal;
 use sequence::WireNumber;
 
-#[derive(Drop)]
+#[derive(Clone, Copy)]
 pub enum Checked {
     Ready,
     Refused(Refusal),
@@ -38,7 +39,7 @@ pub fn check_packet(order: u8, packet: &[u8], first: u8) -> Checked
 }
 
 // An error packet, as the server sent it.
-#[derive(Drop)]
+#[derive(Clone, Copy)]
 pub struct X11Error {
     // The kind of error, as it appears on the wire.
     pub code: u8,
@@ -51,7 +52,7 @@ pub struct X11Error {
     pub major: u8,
 }
 
-#[derive(Drop)]
+#[derive(Clone, Copy)]
 pub enum Parsed {
     Error(X11Error),
     Refused(Refusal),

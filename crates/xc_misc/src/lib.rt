@@ -3,6 +3,7 @@
 // A client that has used up its ids asks the server for more by this extension. Requests are
 // written to the start of an output that the caller lends; ids of a list go to a lent room. A
 // refusal leaves both as they were. Nothing is kept.
+#![tactic(auto)]
 mod reply;
 mod request;
 

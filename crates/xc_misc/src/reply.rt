@@ -15,7 +15,7 @@ use x11_utils::Checked;
 const COUNT_AT: usize = 8;
 
 // What every reply begins with, and then the version that the server supports.
-#[derive(Drop)]
+#[derive(Clone, Copy)]
 pub struct GetVersionReply {
     pub sequence: WireNumber,
     pub length: u32,
@@ -24,7 +24,7 @@ pub struct GetVersionReply {
 }
 
 // The first id of a range, and how many ids it has.
-#[derive(Drop)]
+#[derive(Clone, Copy)]
 pub struct GetXIDRangeReply {
     pub sequence: WireNumber,
     pub length: u32,
@@ -33,26 +33,26 @@ pub struct GetXIDRangeReply {
 }
 
 // How many ids came; they are in the lent room.
-#[derive(Drop)]
+#[derive(Clone, Copy)]
 pub struct GetXIDListReply {
     pub sequence: WireNumber,
     pub length: u32,
     pub count: u32,
 }
 
-#[derive(Drop)]
+#[derive(Clone, Copy)]
 pub enum VersionAnswer {
     Reply(GetVersionReply),
     Refused(Refusal),
 }
 
-#[derive(Drop)]
+#[derive(Clone, Copy)]
 pub enum RangeAnswer {
     Reply(GetXIDRangeReply),
     Refused(Refusal),
 }
 
-#[derive(Drop)]
+#[derive(Clone, Copy)]
 pub enum ListAnswer {
     Reply(GetXIDListReply),
     Refused(Refusal),

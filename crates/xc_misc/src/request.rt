@@ -13,7 +13,7 @@ const GET_XID_RANGE: u8 = 1;
 const GET_XID_LIST: u8 = 2;
 
 // How many bytes were written.
-#[derive(Drop)]
+#[derive(Clone, Copy)]
 pub enum Written {
     Bytes(usize),
     Refused(Refusal),

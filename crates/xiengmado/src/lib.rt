@@ -9,6 +9,7 @@
 // Values come back through pointers; a part of a buffer as its start and its size. What `kind` and
 // `mode` cannot mean is refused by 9 too. Nothing is decided here: a contract says that an export
 // does what the promise of the call below it says (`specs/Exports`, over `answers/specs/Exported`).
+#![tactic(auto)]
 
 mod client;
 mod handshake;
