@@ -2,7 +2,7 @@
 use Rattle.std.specs.Prelude.{◌≡◌, refl, Bool, true, false, List, [], ◌∷◌, ◌++◌, ℕ, ◌+◌, ◌-◌, ◌≤◌, ◌<◌, length, take, set}
 use Rattle.std.proofs.Common.{sym, ◌∙◌, subst, arith, length-append, length-take-le, lt-ltb, le-ltb}
 use Rattle.std.proofs.Math.Path.{ap}
-use Rattle.io.specs.Digits.{last_digits, IsDigitCount}
+use Rattle.listing.specs.Number.{last_digits, IsDigitCount}
 use Rattle.octets.specs.Logic.{choose}
 use Rattle.octets.specs.Bytes.{little_order}
 use Rattle.octets.specs.Put.{put, length_put, put_none, put_put, set_behind}
