@@ -4,6 +4,7 @@
 // What such a call comes to is a row of single calls (`model`, specs/Batch.antt): the law there
 // says once for all that a row of exact steps is the model's row and leaves a sound state.
 #![tactic(auto)]
+
 mod events;
 mod feed;
 mod first;

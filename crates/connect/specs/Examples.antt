@@ -4,8 +4,8 @@ use Rattle.octets.specs.Logic.{choose, both, either}
 use Rattle.octets.specs.Bytes.{legal, number_in, low_number, turned}
 use Rattle.octets.specs.Put.{cut}
 use Rattle.octets.specs.Field.{field}
-use Rattle.refusal.specs.Answer.{Answer, gives, refuses, refuse}
-use Rattle.connect.specs.Handshake.{reply_length, aim, room, soundb, fresh, made, capacity, unfilled, part, waits, complete, reached, advanced}
+use Rattle.refusal.specs.Answer.{gives, refuses, refuse}
+use Rattle.connect.specs.Handshake.{reply_length, aim, room, soundb, capacity, unfilled, part, waits, complete, reached, advanced}
 use Rattle.connect.specs.Setup.{failed_of, authenticate_of, setup_of, failed, success, authenticate, read_failed, read_success, read_reply, setup, nowhere, vendor_place, reason_place, text_at}
 use Rattle.connect.specs.declared.handshake.Connect.{Connect}
 

@@ -1,7 +1,7 @@
 -- The handshake over its lent buffer: when it is sound, and what its calls answer. Assumes nothing.
 use Rattle.std.specs.Prelude.{◌≡◌, refl, Bool, not, List, ℕ, ◌+◌, ◌-◌, ◌*◌, leb, ltb, eqb, length}
 use Rattle.std.proofs.Common.{sym, ap, ◌∙◌}
-use Rattle.std.specs.Borrow.{Bor}
+use Rattle.std.specs.Borrow.{MutBor}
 use Rattle.octets.specs.Logic.{choose, both}
 use Rattle.octets.specs.Bytes.{legal}
 use Rattle.octets.specs.Put.{cut}
@@ -11,11 +11,8 @@ use Rattle.refusal.specs.Numbers.{number_of, refusal_of, listed}
 use Rattle.connect.specs.declared.handshake.Connect.{Connect}
 use Rattle.connect.specs.declared.handshake.Span.{Span}
 use Rattle.connect.specs.declared.handshake.Made.{Made}
-use Rattle.connect.specs.declared.handshake.Made.TheVariants as Made
 use Rattle.connect.specs.declared.handshake.Capacity.{Capacity}
-use Rattle.connect.specs.declared.handshake.Capacity.TheVariants as Capacity
 use Rattle.connect.specs.declared.handshake.Advanced.{Advanced}
-use Rattle.connect.specs.declared.handshake.Advanced.TheVariants as Advanced
 
 -- Core, Encoding, Connection Setup: whichever reply comes, its first eight bytes end in two that write the length in 4-byte units of the additional data behind them.
 abbrev pub head : ℕ
@@ -64,7 +61,7 @@ abbrev pub part : Span → List ℕ → List ℕ
 part p s = cut p.start (p.end - p.start) s
 
 -- `buffer` lends p of the buffer b: it shows the unfilled part, and stands where the part stands in the buffer (a place is a block of memory and an index in it).
-pub record Lent (c : Connect) (b p : Bor (List ℕ)) : Type 0 where
+pub record Lent (c : Connect) (b p : MutBor (List ℕ)) : Type 0 where
   pub shows : p.now ≡ part (unfilled c b.now) b.now
   pub stands : p.ref_ptr ≡ (b.ref_ptr.0, (unfilled c b.now).start + b.ref_ptr.1)
 
@@ -131,5 +128,5 @@ unfolding back_advanced
 advanced_one = decides says_advanced back_advanced (elim [ Advanced.NotYet c ↦ refl | Advanced.Complete c ↦ refl | Advanced.Refused r ↦ ap Advanced.Refused (listed r) ])
 
 -- Any two parts that `buffer` may lend show the same and stand in the same place.
-pub lent_one : {c : Connect} {b p q : Bor (List ℕ)} → Lent c b p → Lent c b q → (p.now ≡ q.now) × (p.ref_ptr ≡ q.ref_ptr)
+pub lent_one : {c : Connect} {b p q : MutBor (List ℕ)} → Lent c b p → Lent c b q → (p.now ≡ q.now) × (p.ref_ptr ≡ q.ref_ptr)
 lent_one x y = (x.shows ∙ sym y.shows, x.stands ∙ sym y.stands)

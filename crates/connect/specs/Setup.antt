@@ -52,7 +52,6 @@ use Rattle.connect.specs.declared.reply.SetupFailed.{SetupFailed}
 use Rattle.connect.specs.declared.reply.SetupAuthenticate.{SetupAuthenticate}
 use Rattle.connect.specs.declared.reply.TextAt.{TextAt}
 use Rattle.connect.specs.declared.reply.SetupAnswer.{SetupAnswer}
-use Rattle.connect.specs.declared.reply.SetupAnswer.TheVariants as SetupAnswer
 
 -- the first byte of a reply
 abbrev pub failed_status : ℕ

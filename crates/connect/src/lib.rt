@@ -8,6 +8,7 @@
 // reads it; `vendor` and `reason` show its texts where they stand in the buffer. Bytes past the
 // filled ones mean nothing, and the buffer is never written here.
 #![tactic(auto)]
+
 mod handshake;
 mod reply;
 

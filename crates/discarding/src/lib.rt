@@ -6,6 +6,7 @@
 // what it was given. Laws say what it is in the model's terms, and that the state it leaves is
 // sound.
 #![tactic(auto)]
+
 ghost use Rattle.std.specs.Prelude.{◌≡◌, ◌+◌, ◌<◌, ◌≤◌, length};
 ghost use Rattle.requests.specs.Room.{capacity};
 ghost use Rattle.held.specs.Head.{header_size};

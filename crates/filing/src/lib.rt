@@ -6,6 +6,7 @@
 // number. Only the request room is read, where older requests go without a write. Whoever takes the
 // packet in carries out what was decided here. Laws say that the plan and the numbers are the model's.
 #![tactic(auto)]
+
 ghost use Rattle.std.specs.Prelude.{◌≡◌, ◌≤◌, ◌<◌, length};
 ghost use Rattle.sequence.specs.Numbering.{last_number};
 ghost use Rattle.packet.specs.Packet.{least_packet, most_packet, packet_class};

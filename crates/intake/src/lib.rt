@@ -6,6 +6,7 @@
 // and every room at exit are one definition of what it was given. Laws say what it is in the model's
 // terms, and that the state it leaves is sound.
 #![tactic(auto)]
+
 mod event;
 
 ghost use Rattle.std.specs.Prelude.{length};

@@ -4,7 +4,7 @@ use Rattle.octets.specs.Logic.{choose, both, either}
 use Rattle.octets.specs.Bytes.{legal, number_in, low_number, turned}
 use Rattle.octets.specs.Put.{cut}
 use Rattle.octets.specs.Field.{field}
-use Rattle.refusal.specs.Answer.{Answer, gives, refuses, refuse}
+use Rattle.refusal.specs.Answer.{gives, refuses, refuse}
 use Rattle.packet.specs.Packet.{was_sent, reply, event, generic, class_of}
 use Rattle.packet_reader.specs.Frame.{length_as, frame, total, total_of, aim, cuts, cut_packets}
 use Rattle.packet_reader.specs.Front.{nothing, long, whole, front_of}

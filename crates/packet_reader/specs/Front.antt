@@ -13,7 +13,6 @@ use Rattle.packet_reader.specs.Frame.{length_as, total_of, aim, cons, cuts, cut_
 use Rattle.packet_reader.specs.CutLaws.{aim_least, aim_head, aim_total, cut_rest}
 use Rattle.packet_reader.specs.Stream.{joined}
 use Rattle.packet_reader.specs.declared.Begins.{Begins}
-use Rattle.packet_reader.specs.declared.Begins.TheVariants as Begins
 
 -- nothing, part of a packet, a packet that is longer than any may be (as far as its first 32 bytes tell), or a whole one of so many bytes and that class
 pub data Front : Type 0 where

@@ -1,7 +1,7 @@
 -- The reader over its lent buffer: when it is sound, and what its calls answer. Assumes nothing.
 use Rattle.std.specs.Prelude.{◌≡◌, refl, Bool, not, List, ℕ, ◌+◌, ◌-◌, leb, ltb, eqb, length, take}
 use Rattle.std.proofs.Common.{sym, ap, ◌∙◌}
-use Rattle.std.specs.Borrow.{Bor}
+use Rattle.std.specs.Borrow.{MutBor}
 use Rattle.octets.specs.Logic.{choose, both}
 use Rattle.octets.specs.Bytes.{legal}
 use Rattle.octets.specs.Put.{cut}
@@ -13,11 +13,8 @@ use Rattle.packet_reader.specs.Frame.{aim}
 use Rattle.packet_reader.specs.declared.PacketReader.{PacketReader}
 use Rattle.packet_reader.specs.declared.Span.{Span}
 use Rattle.packet_reader.specs.declared.Made.{Made}
-use Rattle.packet_reader.specs.declared.Made.TheVariants as Made
 use Rattle.packet_reader.specs.declared.Capacity.{Capacity}
-use Rattle.packet_reader.specs.declared.Capacity.TheVariants as Capacity
 use Rattle.packet_reader.specs.declared.Advanced.{Advanced}
-use Rattle.packet_reader.specs.declared.Advanced.TheVariants as Advanced
 
 -- 01, Rooms: a packet buffer has 32 to 65,536 bytes
 abbrev pub most_buffer : ℕ
@@ -55,7 +52,7 @@ abbrev pub part : Span → List ℕ → List ℕ
 part p s = cut p.start (p.end - p.start) s
 
 -- `buffer` lends p of the buffer b: it shows the unfilled part, and stands where the part stands in the buffer (a place is a block of memory and an index in it).
-pub record Lent (r : PacketReader) (b p : Bor (List ℕ)) : Type 0 where
+pub record Lent (r : PacketReader) (b p : MutBor (List ℕ)) : Type 0 where
   pub shows : p.now ≡ part (unfilled r b.now) b.now
   pub stands : p.ref_ptr ≡ (b.ref_ptr.0, (unfilled r b.now).start + b.ref_ptr.1)
 
@@ -118,5 +115,5 @@ unfolding back_advanced
 advanced_one = decides says_advanced back_advanced (elim [ Advanced.NotYet r ↦ refl | Advanced.Packet n k r ↦ ap (λ x. Advanced.Packet n x r) (class_back k) | Advanced.Refused r ↦ ap Advanced.Refused (listed r) ])
 
 -- Any two parts that `buffer` may lend show the same and stand in the same place.
-pub lent_one : {r : PacketReader} {b p q : Bor (List ℕ)} → Lent r b p → Lent r b q → (p.now ≡ q.now) × (p.ref_ptr ≡ q.ref_ptr)
+pub lent_one : {r : PacketReader} {b p q : MutBor (List ℕ)} → Lent r b p → Lent r b q → (p.now ≡ q.now) × (p.ref_ptr ≡ q.ref_ptr)
 lent_one x y = (x.shows ∙ sym y.shows, x.stands ∙ sym y.stands)

@@ -8,6 +8,7 @@
 // the buffer itself. Where whole packets already lie side by side, `front` says what stands first,
 // with no buffer.
 #![tactic(auto)]
+
 ghost use Rattle.std.specs.Prelude.{◌≡◌, ◌≤◌, length};
 ghost use Rattle.packet.specs.Class.{says_class};
 ghost use Rattle.packet_reader.specs.Frame.{length_as, aim};

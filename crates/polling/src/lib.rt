@@ -6,6 +6,7 @@
 // it is in the model's terms, and that the state it leaves is sound. (01, Numbering and filing; the
 // order of refusals is 01's for taking: nothing found, then 8.)
 #![tactic(auto)]
+
 ghost use Rattle.std.specs.Prelude.{◌≡◌};
 ghost use Rattle.held.specs.Reading as Store;
 ghost use Rattle.model.specs.Sound.{Ready};

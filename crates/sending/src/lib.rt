@@ -8,6 +8,7 @@
 // that room at exit are one definition of what it was given. Laws say what it is in the model's
 // terms, and that the state it leaves is sound.
 #![tactic(auto)]
+
 ghost use Rattle.std.specs.Prelude.{◌≡◌, ◌<◌};
 ghost use Rattle.requests.specs.Room.{capacity};
 ghost use Rattle.model.specs.Model.{has_reply, joining};

@@ -1,5 +1,5 @@
 -- The setup request, computed: its bytes in both orders, with texts that are padded by one byte, three and none. Assumes nothing.
-use Rattle.std.specs.Prelude.{◌≡◌, refl, List, [], ◌∷◌, ◌++◌, ℕ, length}
+use Rattle.std.specs.Prelude.{◌≡◌, refl, [], ◌∷◌}
 use Rattle.octets.specs.Logic.{choose, either}
 use Rattle.octets.specs.Bytes.{legal, low_bytes, bytes_of, turned}
 use Rattle.octets.specs.Put.{put}

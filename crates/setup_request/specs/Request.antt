@@ -24,7 +24,6 @@ use Rattle.refusal.specs.Answer.{Answer, gives, refuses, refuse, gives_past, giv
 use Rattle.refusal.specs.Numbers.{number_of, refusal_of, listed}
 use Rattle.setup_request.specs.Pad.{pad, zeros, padded, length_zeros, length_padded}
 use Rattle.setup_request.specs.declared.Written.{Written}
-use Rattle.setup_request.specs.declared.Written.TheVariants as Written
 
 -- 01, Framing and handshake: the client speaks version 11, 0
 abbrev pub major_version : ℕ

@@ -5,6 +5,7 @@
 // written to the start of an output that the caller lends; a refusal leaves it as it was. Nothing
 // is kept. The server's reply is the business of `connect`.
 #![tactic(auto)]
+
 ghost use Rattle.std.specs.Prelude.{◌≡◌, ◌+◌, ◌≤◌, [], ◌∷◌, length};
 ghost use Rattle.octets.specs.Put.{put};
 ghost use Rattle.setup_request.specs.Pad.{pad as pad_pad, zeros, padded};

@@ -16,7 +16,6 @@ use Rattle.packet.specs.Packet.{error_code, wire_number}
 use Rattle.x11_utils.specs.Packet.{checked}
 use Rattle.x11_utils.specs.declared.X11Error.{X11Error}
 use Rattle.x11_utils.specs.declared.Parsed.{Parsed}
-use Rattle.x11_utils.specs.declared.Parsed.TheVariants as Parsed
 
 -- the fields, at their places in the layout
 unfoldable pub error_of : ℕ → List ℕ → X11Error

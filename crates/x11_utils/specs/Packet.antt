@@ -6,7 +6,6 @@ use Rattle.refusal.specs.Answer.{Answer, gives, refuses, refuse, gives_past, dec
 use Rattle.refusal.specs.Numbers.{number_of, refusal_of, listed}
 use Rattle.packet.specs.Packet.{least_packet, most_packet, code_of}
 use Rattle.x11_utils.specs.declared.Checked.{Checked}
-use Rattle.x11_utils.specs.declared.Checked.TheVariants as Checked
 
 -- 01, Refusal numbers, "elsewhere 9, then by number": 1, 2, 13, 14, or the packet's fields can be read.
 unfoldable pub checked : ℕ → List ℕ → ℕ → Answer Unit

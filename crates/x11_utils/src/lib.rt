@@ -4,6 +4,7 @@
 // byte; then its fields can be read. An error has 32 bytes, of which the first eleven say
 // something; what its code and opcodes are called stays with the caller. Nothing is written.
 #![tactic(auto)]
+
 ghost use Rattle.std.specs.Prelude.{◌≡◌, ◌≤◌, length};
 ghost use Rattle.packet.specs.Packet.{least_packet};
 ghost use Rattle.x11_utils.specs.Error.{error_of};

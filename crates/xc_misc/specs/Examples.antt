@@ -1,11 +1,11 @@
 -- XC-MISC's requests and replies, computed: rows with all fields distinct, in both byte orders, that the nearest other readings fail. Assumes nothing.
-use Rattle.std.specs.Prelude.{◌≡◌, refl, true, false, List, [], ◌∷◌, ◌++◌, ℕ, replicate, take}
+use Rattle.std.specs.Prelude.{◌≡◌, refl, List, [], ◌∷◌, ℕ, replicate, take}
 use Rattle.octets.specs.Logic.{choose, either}
 use Rattle.octets.specs.Bytes.{legal, low_bytes, bytes_of, number_in, low_number, turned}
 use Rattle.octets.specs.Put.{put, cut}
 use Rattle.octets.specs.Field.{field, fields}
 use Rattle.octets.specs.Lent.{leaves}
-use Rattle.refusal.specs.Answer.{Answer, gives, refuses, refuse, after}
+use Rattle.refusal.specs.Answer.{gives, refuses, refuse, after}
 use Rattle.x11_utils.specs.Packet.{checked}
 use Rattle.xc_misc.specs.Requests.{header, get_version, get_xid_range, get_xid_list, room_for}
 use Rattle.xc_misc.specs.Replies.{version_of, range_of, list_of, ids_of, reaches, units_checked, reply_checked, list_checked, version, range, list}

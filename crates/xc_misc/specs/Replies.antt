@@ -23,11 +23,8 @@ use Rattle.xc_misc.specs.declared.reply.GetVersionReply.{GetVersionReply}
 use Rattle.xc_misc.specs.declared.reply.GetXIDRangeReply.{GetXIDRangeReply}
 use Rattle.xc_misc.specs.declared.reply.GetXIDListReply.{GetXIDListReply}
 use Rattle.xc_misc.specs.declared.reply.VersionAnswer.{VersionAnswer}
-use Rattle.xc_misc.specs.declared.reply.VersionAnswer.TheVariants as VersionAnswer
 use Rattle.xc_misc.specs.declared.reply.RangeAnswer.{RangeAnswer}
-use Rattle.xc_misc.specs.declared.reply.RangeAnswer.TheVariants as RangeAnswer
 use Rattle.xc_misc.specs.declared.reply.ListAnswer.{ListAnswer}
-use Rattle.xc_misc.specs.declared.reply.ListAnswer.TheVariants as ListAnswer
 
 -- where a list has its count of ids
 abbrev pub count_at : ℕ

@@ -8,7 +8,6 @@ use Rattle.octets.specs.Lent.{leaves}
 use Rattle.refusal.specs.Answer.{Answer, gives, refuses, refuse, gives_past, gives_rest, decides}
 use Rattle.refusal.specs.Numbers.{number_of, refusal_of, listed}
 use Rattle.xc_misc.specs.declared.request.Written.{Written}
-use Rattle.xc_misc.specs.declared.request.Written.TheVariants as Written
 
 -- The extension's opcode, the request's own, and the length of the request in units of four bytes.
 unfoldable pub header : ℕ → ℕ → ℕ → ℕ → List ℕ

@@ -4,6 +4,7 @@
 // written to the start of an output that the caller lends; ids of a list go to a lent room. A
 // refusal leaves both as they were. Nothing is kept.
 #![tactic(auto)]
+
 mod reply;
 mod request;
 
