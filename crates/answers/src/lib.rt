@@ -4,6 +4,7 @@
 // A refusal leaves the row and every lent number as they were (`specs/Exported`); which numbers are
 // shown of an answer, and what stands for what, is in `specs/Shown`.
 #![tactic(auto)]
+
 ghost use Rattle.std.specs.Prelude.{◌≡◌, cond};
 ghost use Rattle.refusal.specs.Numbers.{number_of};
 

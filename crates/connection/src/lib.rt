@@ -7,6 +7,7 @@
 // lent byte as found. Nothing is allocated and nothing blocks: the caller reads and writes the
 // socket.
 #![tactic(auto)]
+
 ghost use Rattle.std.specs.Prelude.{◌≡◌};
 ghost use Rattle.model.specs.Model.{roomy};
 ghost use Rattle.model.specs.Reading.{rooms};

@@ -1,10 +1,9 @@
 -- Ids, computed: rows that the nearest other readings fail. Assumes nothing.
 use Rattle.std.specs.Prelude.{◌≡◌, refl, true, false, ℕ}
-use Rattle.std.specs.Int.Bits.{bit_or}
 use Rattle.octets.specs.Logic.{choose, both, either}
-use Rattle.refusal.specs.Answer.{Answer, gives, refuses, refuse}
+use Rattle.refusal.specs.Answer.{gives, refuses, refuse}
 use Rattle.id_allocator.specs.declared.IdAllocator.{IdAllocator}
-use Rattle.id_allocator.specs.Ids.{power_below, sound, lowest_bit, fresh, no_ids, new_ids, generated, updated}
+use Rattle.id_allocator.specs.Ids.{power_below, sound, lowest_bit, no_ids, new_ids, generated, updated}
 use Rattle.id_allocator.specs.Runs.{next_of, id_of, after_calls, call}
 use Rattle.id_allocator.specs.Lent.{done_of, taken_up}
 

@@ -7,9 +7,7 @@ use Rattle.refusal.specs.Numbers.{number_of}
 use Rattle.refusal.specs.Answer.{Answer, gives, refuses, refuse}
 use Rattle.id_allocator.specs.declared.IdAllocator.{IdAllocator}
 use Rattle.id_allocator.specs.declared.Ids.{Ids}
-use Rattle.id_allocator.specs.declared.Ids.TheVariants as Ids
 use Rattle.id_allocator.specs.declared.Generated.{Generated}
-use Rattle.id_allocator.specs.declared.Generated.TheVariants as Generated
 
 -- An id has 32 bits,
 abbrev pub bits : ℕ

@@ -5,9 +5,7 @@ use Rattle.refusal.specs.Numbers.{number_of}
 use Rattle.refusal.specs.Answer.{Answer, gives, refuses}
 use Rattle.id_allocator.specs.declared.IdAllocator.{IdAllocator}
 use Rattle.id_allocator.specs.declared.lent.NextId.{NextId}
-use Rattle.id_allocator.specs.declared.lent.NextId.TheVariants as NextId
 use Rattle.id_allocator.specs.declared.lent.Updated.{Updated}
-use Rattle.id_allocator.specs.declared.lent.Updated.TheVariants as Updated
 use Rattle.id_allocator.specs.Ids.{generated, updated}
 use Rattle.id_allocator.specs.Runs.{id_of, next_of}
 

@@ -6,13 +6,9 @@ use Rattle.refusal.specs.Numbers.{refusal_of, listed}
 use Rattle.refusal.specs.Answer.{Answer, gives, refuses, refuse, decides}
 use Rattle.id_allocator.specs.declared.IdAllocator.{IdAllocator}
 use Rattle.id_allocator.specs.declared.Ids.{Ids}
-use Rattle.id_allocator.specs.declared.Ids.TheVariants as Ids
 use Rattle.id_allocator.specs.declared.Generated.{Generated}
-use Rattle.id_allocator.specs.declared.Generated.TheVariants as Generated
 use Rattle.id_allocator.specs.declared.lent.NextId.{NextId}
-use Rattle.id_allocator.specs.declared.lent.NextId.TheVariants as NextId
 use Rattle.id_allocator.specs.declared.lent.Updated.{Updated}
-use Rattle.id_allocator.specs.declared.lent.Updated.TheVariants as Updated
 use Rattle.id_allocator.specs.Ids.{bits, limit, Sound, sound, lowest_bit, Lowest, fresh, ranged, new_ids, generated, updated, says_ids, says_generated}
 use Rattle.id_allocator.specs.Runs.{after_calls, call, id_of, next_of, Run, contiguous, EveryId}
 use Rattle.id_allocator.specs.Lent.{says_next, says_updated, taken_up, Generates, Updates}

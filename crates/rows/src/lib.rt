@@ -3,6 +3,7 @@
 // A row that is no state is read as a state that is not sound, so that every call refuses it by 9
 // (`specs/Theorems`).
 #![tactic(auto)]
+
 mod state;
 
 pub use state::{

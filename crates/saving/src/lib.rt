@@ -6,6 +6,7 @@
 // states are equal, and reading takes exactly what writing can produce: docs/SAVEPOINT.md is the
 // page of the format, `savepoint/specs/Calls.antt` says what each call answers.
 #![tactic(auto)]
+
 mod finding;
 mod laying;
 mod places;

@@ -1,0 +1,11 @@
+use Rattle.std.proofs.Common.{arith, length-set}
+use Rattle.rows.proofs.state.put_four.Goals as goal
+
+pub bounds-s-at-2 : goal.bounds-s-at-2
+bounds-s-at-2 c = simp length-set (omega arith)
+
+pub bounds-s-at-3 : goal.bounds-s-at-3
+bounds-s-at-3 c = simp length-set (omega arith)
+
+pub bounds-s-at-4 : goal.bounds-s-at-4
+bounds-s-at-4 c = simp length-set (omega arith)
