@@ -2,7 +2,7 @@
 .DEFAULT_GOAL = help
 .PHONY: help run replay library install uninstall clean test rig beside second x11rb fuzz \
     bench bench-rooms bench-savepoints bench-beside bench-counts published record house
-# rt makes its own checks side by side, and two of them would meet in target/.
+# rt makes its own checks side by side, and of two in one crate the second waits.
 .NOTPARALLEL:
 
 ARCHIVE = target/staticlib/libxiengmado.a
@@ -18,21 +18,22 @@ help:
 
 ##@ Use
 
-run: ## prove the program `packets` and run it on bytes that an X server sent
-	rt check packets
+run: target/bin/packets ## prove the program `packets` and run it on bytes that an X server sent
 	target/bin/packets < tests/streams/xeyes.bin
 
 replay: target/bin/replay ## prove and link the program `replay`: target/bin/replay
 
-# rt leaves a program that is proved already as it is; its new time tells make so.
+# rt proves, links and runs a program; given no input these end at once. One that is proved already it leaves as it is: the copy's
+# new time tells make so.
 $(PROGRAMS): target/bin/%: $(SOURCES)
-	rt check $*
-	touch $@
+	cd crates/$* && rt run < /dev/null > /dev/null
+	install -D crates/$*/out/$* $@
 
 library: $(ARCHIVE) ## prove the static library, which C and Rust link: target/staticlib/libxiengmado.a
 
 $(ARCHIVE): $(SOURCES)
-	rt staticlib xiengmado
+	cd crates/xiengmado_c && rt lib
+	install -D -m 644 crates/xiengmado_c/out/libxiengmado_c.a $@
 
 # DESTDIR is put in front of every place that is written, and into no file.
 PREFIX = /usr/local
@@ -52,12 +53,12 @@ uninstall: ## takes away what install wrote to PREFIX
 	rm -f $(addprefix $(place)/,include/xiengmado.h lib/libxiengmado.a lib/pkgconfig/xiengmado.pc $(PROGRAMS:target/%=%))
 
 clean: ## takes away everything that was built
-	rm -rf target rust/target rust/*/target
+	rm -rf target rust/target rust/*/target crates/*/out
 
 ##@ Check
 
 # The last line is 'N passed, 0 failed'.
-test: ## prove everything from nothing, try what must fail, run every program
+test: ## prove everything, try what must fail, run every program
 	tests/run
 
 # Stops at once where those files are not there.
@@ -103,9 +104,9 @@ endif
 
 # Each function starts at a cache line, so that what stands before it in the program changes no figure.
 bench-rooms: ## the moves of the rooms beside plain C
-	rt staticlib bench
+	cd crates/bench && rt lib
 	mkdir -p target/bench
-	objcopy --set-section-alignment '.text*=64' target/staticlib/libbench.a target/bench/libbench.a
+	objcopy --set-section-alignment '.text*=64' crates/bench/out/libbench.a target/bench/libbench.a
 	gcc -O3 -std=c11 -Wall -Wextra -falign-functions=64 -o target/bench/rooms bench/rooms.c target/bench/libbench.a
 	target/bench/rooms
 
@@ -113,8 +114,7 @@ bench-savepoints: $(ARCHIVE) ## savepoints beside a copy of the same bytes
 	cd rust && cargo build --offline --quiet --release -p bench --bin savepoints
 	rust/target/release/savepoints
 
-bench-beside: published $(ARCHIVE) ## the library beside the published Rust: RUST=folder ARGS='part of the names of rows'
-	rt check packets
+bench-beside: published $(ARCHIVE) target/bin/packets ## the library beside the published Rust: RUST=folder ARGS='part of the names of rows'
 	cd rust && XIENGMADO_RUST="$(abspath $(RUST))" cargo build --offline --quiet --release -p bench
 	rust/target/release/bench docs/bench.svg $(ARGS)
 	rust/target/release/memory

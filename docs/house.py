@@ -21,9 +21,9 @@ def plan():
         if title:
             number = int(title[1])
             floors.setdefault(number, (title[2], {}))
-        elif re.match(r"\w+:", line):
+        elif re.match(r"\w+( staticlib)?:", line):
             name, uses = line.split(":")
-            floors[number][1][name] = uses.split()
+            floors[number][1][name.split()[0]] = uses.split()
     return floors
 
 

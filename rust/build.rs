@@ -1,4 +1,4 @@
-//! Links the static library: from the folder XIENGMADO_LIB, or where `rt staticlib xiengmado` puts it.
+//! Links the static library: from the folder XIENGMADO_LIB, or where `make library` puts it.
 
 use std::env;
 use std::path::PathBuf;

@@ -12,7 +12,6 @@ use Rattle.held.specs.Theorems.{Walks, walks, find_event_law, place_law, fits_la
 use Rattle.held.specs.declared.Window.{Window}
 use Rattle.held.specs.declared.Spot.{Spot}
 use Rattle.held.specs.declared.Walked.{Walked}
-use Rattle.held.specs.declared.Walked.TheVariants as Walked
 use Rattle.held.specs.declared.Found.TheVariants as Found
 
 -- The bytes are those of the move where a call did it, and as found where it refused.

@@ -4,6 +4,7 @@
 // Each export tests whatever the move below it asks for, answers that it refused where a test
 // fails, and otherwise makes the one call. A window is two numbers in a lent array.
 #![tactic(auto)]
+
 ghost use Rattle.std.specs.Prelude.{◌≡◌, true};
 ghost use Rattle.octets.specs.Put.{put, cut};
 ghost use Rattle.requests.specs.Room.{legals};

@@ -9,8 +9,7 @@ use model::{Prepared, kind_of};
 use sequence::SequenceNumber;
 
 // A fresh connection in these rooms.
-#[unsafe(no_mangle)]
-pub extern "C" fn xm_connection_new(
+pub fn xm_connection_new(
     state: &mut [u64],
     order: u8,
     requests: &[u8],
@@ -28,8 +27,7 @@ pub extern "C" fn xm_connection_new(
 
 // Kinds are 0 for a request without a reply, 1 for one with a reply, 2 for one whose reply has
 // descriptors; another is refused by 9.
-#[unsafe(no_mangle)]
-pub extern "C" fn xm_send_request(
+pub fn xm_send_request(
     state: &mut [u64],
     requests: &mut [u8],
     store: &[u8],
@@ -48,8 +46,7 @@ pub extern "C" fn xm_send_request(
 }
 
 // Modes are 1 for DiscardReply and 2 for DiscardReplyAndError; another is refused by 9.
-#[unsafe(no_mangle)]
-pub extern "C" fn xm_discard_reply(
+pub fn xm_discard_reply(
     state: &mut [u64],
     requests: &mut [u8],
     store: &mut [u8],
@@ -74,8 +71,7 @@ pub extern "C" fn xm_discard_reply(
     give_next(answer, state)
 }
 
-#[unsafe(no_mangle)]
-pub extern "C" fn xm_enqueue_fds(
+pub fn xm_enqueue_fds(
     state: &mut [u64],
     requests: &[u8],
     store: &[u8],
@@ -90,8 +86,7 @@ pub extern "C" fn xm_enqueue_fds(
 }
 
 // Places are 0 for the replies, 1 for the events, 2 for a packet that was dropped.
-#[unsafe(no_mangle)]
-pub extern "C" fn xm_enqueue_packet(
+pub fn xm_enqueue_packet(
     state: &mut [u64],
     requests: &[u8],
     store: &mut [u8],
@@ -109,8 +104,7 @@ pub extern "C" fn xm_enqueue_packet(
 }
 
 // Where nothing is found, found is 0 and so are size and count.
-#[unsafe(no_mangle)]
-pub extern "C" fn xm_poll_for_reply_or_error(
+pub fn xm_poll_for_reply_or_error(
     state: &mut [u64],
     requests: &[u8],
     store: &mut [u8],
@@ -139,8 +133,7 @@ pub extern "C" fn xm_poll_for_reply_or_error(
 }
 
 // Results are 0 for TryAgain, 1 for NoReply and 2 for a reply; size is 0 but for a reply.
-#[unsafe(no_mangle)]
-pub extern "C" fn xm_poll_check_for_reply_or_error(
+pub fn xm_poll_check_for_reply_or_error(
     state: &mut [u64],
     requests: &[u8],
     store: &mut [u8],
@@ -166,8 +159,7 @@ pub extern "C" fn xm_poll_check_for_reply_or_error(
 }
 
 // Results as those of the call above.
-#[unsafe(no_mangle)]
-pub extern "C" fn xm_poll_for_reply(
+pub fn xm_poll_for_reply(
     state: &mut [u64],
     requests: &[u8],
     store: &mut [u8],
@@ -193,8 +185,7 @@ pub extern "C" fn xm_poll_for_reply(
 }
 
 // Where nothing is found, found is 0 and so are number and size.
-#[unsafe(no_mangle)]
-pub extern "C" fn xm_poll_for_event_with_sequence(
+pub fn xm_poll_for_event_with_sequence(
     state: &mut [u64],
     requests: &[u8],
     store: &mut [u8],
@@ -212,8 +203,7 @@ pub extern "C" fn xm_poll_for_event_with_sequence(
     give_event(answer, state, found, number, size, class)
 }
 
-#[unsafe(no_mangle)]
-pub extern "C" fn xm_take_closed_fds(
+pub fn xm_take_closed_fds(
     state: &mut [u64],
     requests: &[u8],
     store: &[u8],
@@ -229,8 +219,7 @@ pub extern "C" fn xm_take_closed_fds(
 }
 
 // Sync is 1 where a sync must be sent, otherwise 0.
-#[unsafe(no_mangle)]
-pub extern "C" fn xm_prepare_check_for_reply_or_error(
+pub fn xm_prepare_check_for_reply_or_error(
     state: &[u64],
     requests: &[u8],
     store: &[u8],

@@ -5,8 +5,7 @@ use answers::{BAD, DONE, code, give_setup};
 use connect::{Advanced, Capacity, Connect, Made, SetupAnswer};
 use setup_request::Written;
 
-#[unsafe(no_mangle)]
-pub extern "C" fn xm_setup_request(
+pub fn xm_setup_request(
     order: u8,
     name: &[u8],
     auth: &[u8],
@@ -25,8 +24,7 @@ pub extern "C" fn xm_setup_request(
     }
 }
 
-#[unsafe(no_mangle)]
-pub extern "C" fn xm_connect_new(connect: &mut [u64], order: u8, buf: &[u8]) -> u32
+pub fn xm_connect_new(connect: &mut [u64], order: u8, buf: &[u8]) -> u32
     ensures { XmConnectNew connect.old order buf.now connect.new result }
 {
     if connect.len() != rows::THREE {
@@ -42,12 +40,7 @@ pub extern "C" fn xm_connect_new(connect: &mut [u64], order: u8, buf: &[u8]) -> 
     }
 }
 
-#[unsafe(no_mangle)]
-pub extern "C" fn xm_connect_remaining_capacity(
-    connect: &[u64],
-    buf: &[u8],
-    size: &mut usize,
-) -> u32
+pub fn xm_connect_remaining_capacity(connect: &[u64], buf: &[u8], size: &mut usize) -> u32
     ensures { XmConnectRemainingCapacity connect.now buf.now size.old size.new result }
 {
     let at = rows::handshake(connect);
@@ -62,13 +55,7 @@ pub extern "C" fn xm_connect_remaining_capacity(
 }
 
 // The part that is to be filled next begins where the filled bytes end.
-#[unsafe(no_mangle)]
-pub extern "C" fn xm_connect_buffer(
-    connect: &[u64],
-    buf: &[u8],
-    start: &mut usize,
-    size: &mut usize,
-) -> u32
+pub fn xm_connect_buffer(connect: &[u64], buf: &[u8], start: &mut usize, size: &mut usize) -> u32
     ensures { XmConnectBuffer connect.now buf.now start.old size.old start.new size.new result }
 {
     let at = rows::handshake(connect);
@@ -83,13 +70,7 @@ pub extern "C" fn xm_connect_buffer(
     }
 }
 
-#[unsafe(no_mangle)]
-pub extern "C" fn xm_connect_advance(
-    connect: &mut [u64],
-    buf: &[u8],
-    amount: usize,
-    complete: &mut u8,
-) -> u32
+pub fn xm_connect_advance(connect: &mut [u64], buf: &[u8], amount: usize, complete: &mut u8) -> u32
     ensures { XmConnectAdvance connect.old buf.now amount complete.old connect.new complete.new result }
 {
     let at = rows::handshake(connect);
@@ -111,13 +92,7 @@ pub extern "C" fn xm_connect_advance(
 
 // A success fills all seventeen fields, a failure the first four, and further authentication the
 // third alone, its length.
-#[unsafe(no_mangle)]
-pub extern "C" fn xm_connect_setup(
-    connect: &[u64],
-    buf: &[u8],
-    status: &mut u8,
-    fields: &mut [u32],
-) -> u32
+pub fn xm_connect_setup(connect: &[u64], buf: &[u8], status: &mut u8, fields: &mut [u32]) -> u32
     ensures { XmConnectSetup connect.now buf.now status.old fields.old status.new fields.new result }
 {
     let at = rows::handshake(connect);
@@ -126,13 +101,7 @@ pub extern "C" fn xm_connect_setup(
 }
 
 // The vendor's text of a success; of any other reply no text, at 0.
-#[unsafe(no_mangle)]
-pub extern "C" fn xm_connect_vendor(
-    connect: &[u64],
-    buf: &[u8],
-    start: &mut usize,
-    size: &mut usize,
-) -> u32
+pub fn xm_connect_vendor(connect: &[u64], buf: &[u8], start: &mut usize, size: &mut usize) -> u32
     ensures { XmConnectVendor connect.now buf.now start.old size.old start.new size.new result }
 {
     let at = rows::handshake(connect);
@@ -158,13 +127,7 @@ pub extern "C" fn xm_connect_vendor(
 }
 
 // The reason of a failure or of further authentication; of a success no text, at 0.
-#[unsafe(no_mangle)]
-pub extern "C" fn xm_connect_reason(
-    connect: &[u64],
-    buf: &[u8],
-    start: &mut usize,
-    size: &mut usize,
-) -> u32
+pub fn xm_connect_reason(connect: &[u64], buf: &[u8], start: &mut usize, size: &mut usize) -> u32
     ensures { XmConnectReason connect.now buf.now start.old size.old start.new size.new result }
 {
     let at = rows::handshake(connect);

@@ -4,8 +4,7 @@ ghost use Rattle.xiengmado.specs.ExportsLeaves.{XmIdsNew, XmIdsGenerateId, XmIds
 use answers::{BAD, DONE, code};
 use id_allocator::{Generated, IdAllocator, Ids};
 
-#[unsafe(no_mangle)]
-pub extern "C" fn xm_ids_new(ids: &mut [u64], base: u32, mask: u32) -> u32
+pub fn xm_ids_new(ids: &mut [u64], base: u32, mask: u32) -> u32
     ensures { XmIdsNew ids.old base mask ids.new result }
 {
     if ids.len() != rows::THREE {
@@ -21,8 +20,7 @@ pub extern "C" fn xm_ids_new(ids: &mut [u64], base: u32, mask: u32) -> u32
     }
 }
 
-#[unsafe(no_mangle)]
-pub extern "C" fn xm_ids_generate_id(ids: &mut [u64], id: &mut u32) -> u32
+pub fn xm_ids_generate_id(ids: &mut [u64], id: &mut u32) -> u32
     ensures { XmIdsGenerateId ids.old id.old ids.new id.new result }
 {
     let allocator = rows::ids(ids);
@@ -37,8 +35,7 @@ pub extern "C" fn xm_ids_generate_id(ids: &mut [u64], id: &mut u32) -> u32
     }
 }
 
-#[unsafe(no_mangle)]
-pub extern "C" fn xm_ids_update_xid_range(ids: &mut [u64], start: u32, count: u32) -> u32
+pub fn xm_ids_update_xid_range(ids: &mut [u64], start: u32, count: u32) -> u32
     ensures { XmIdsUpdateXidRange ids.old start count ids.new result }
 {
     let allocator = rows::ids(ids);

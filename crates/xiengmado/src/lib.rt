@@ -1,6 +1,7 @@
 // The engine as a static library: its public calls, for C and whoever can call C. Left out are
 // `unfilled`, whose numbers the two `buffer` calls give, `front`, which is inside, a refusal's
-// `number`, and the calls that are lent an id allocator.
+// `number`, and the calls that are lent an id allocator. The symbols themselves are in
+// `xiengmado_c`, which exports each function of this crate under its name and its contract.
 //
 // Every function is `xm_` and the name of the call below it. It answers 0, or the number of a refusal,
 // and then the state, every lent room and every number behind a pointer are as they were. State is a
@@ -11,14 +12,14 @@
 // does what the promise of the call below it says (`specs/Exports`, over `answers/specs/Exported`).
 #![tactic(auto)]
 
-mod client;
-mod handshake;
-mod ids;
-mod many;
-mod misc;
-mod numbers;
-mod packets;
-mod reader;
-mod rooms;
-mod savepoints;
-mod version;
+pub mod client;
+pub mod handshake;
+pub mod ids;
+pub mod many;
+pub mod misc;
+pub mod numbers;
+pub mod packets;
+pub mod reader;
+pub mod rooms;
+pub mod savepoints;
+pub mod version;

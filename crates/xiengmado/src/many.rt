@@ -5,8 +5,7 @@ ghost use Rattle.xiengmado.specs.Exports.{XmSendRequests, XmEnqueuePackets, XmPo
 use answers::{give_events, give_fed, give_sent_many};
 
 // How many were sent, the last number written and what stopped it.
-#[unsafe(no_mangle)]
-pub extern "C" fn xm_send_requests(
+pub fn xm_send_requests(
     state: &mut [u64],
     requests: &mut [u8],
     store: &[u8],
@@ -24,8 +23,7 @@ pub extern "C" fn xm_send_requests(
 }
 
 // How many bytes were taken, how many packets, and what stopped it.
-#[unsafe(no_mangle)]
-pub extern "C" fn xm_enqueue_packets(
+pub fn xm_enqueue_packets(
     state: &mut [u64],
     requests: &[u8],
     store: &mut [u8],
@@ -43,8 +41,7 @@ pub extern "C" fn xm_enqueue_packets(
 }
 
 // How many events are in the outputs, how many bytes their packets are, and what stopped it.
-#[unsafe(no_mangle)]
-pub extern "C" fn xm_poll_for_events(
+pub fn xm_poll_for_events(
     state: &mut [u64],
     requests: &[u8],
     store: &mut [u8],

@@ -4,8 +4,7 @@ ghost use Rattle.xiengmado.specs.ExportsLeaves.{XmXcMiscGetVersionRequest, XmXcM
 use answers::{DONE, code};
 use xc_misc::{ListAnswer, RangeAnswer, VersionAnswer, Written};
 
-#[unsafe(no_mangle)]
-pub extern "C" fn xm_xc_misc_get_version_request(
+pub fn xm_xc_misc_get_version_request(
     order: u8,
     opcode: u8,
     major: u16,
@@ -25,8 +24,7 @@ pub extern "C" fn xm_xc_misc_get_version_request(
     }
 }
 
-#[unsafe(no_mangle)]
-pub extern "C" fn xm_xc_misc_get_xid_range_request(
+pub fn xm_xc_misc_get_xid_range_request(
     order: u8,
     opcode: u8,
     out: &mut [u8],
@@ -44,8 +42,7 @@ pub extern "C" fn xm_xc_misc_get_xid_range_request(
     }
 }
 
-#[unsafe(no_mangle)]
-pub extern "C" fn xm_xc_misc_get_xid_list_request(
+pub fn xm_xc_misc_get_xid_list_request(
     order: u8,
     opcode: u8,
     count: u32,
@@ -64,8 +61,7 @@ pub extern "C" fn xm_xc_misc_get_xid_list_request(
     }
 }
 
-#[unsafe(no_mangle)]
-pub extern "C" fn xm_xc_misc_get_version_reply(
+pub fn xm_xc_misc_get_version_reply(
     order: u8,
     packet: &[u8],
     sequence: &mut u16,
@@ -89,8 +85,7 @@ pub extern "C" fn xm_xc_misc_get_version_reply(
     }
 }
 
-#[unsafe(no_mangle)]
-pub extern "C" fn xm_xc_misc_get_xid_range_reply(
+pub fn xm_xc_misc_get_xid_range_reply(
     order: u8,
     packet: &[u8],
     sequence: &mut u16,
@@ -114,8 +109,7 @@ pub extern "C" fn xm_xc_misc_get_xid_range_reply(
     }
 }
 
-#[unsafe(no_mangle)]
-pub extern "C" fn xm_xc_misc_get_xid_list_reply(
+pub fn xm_xc_misc_get_xid_list_reply(
     order: u8,
     packet: &[u8],
     ids: &mut [u32],

@@ -4,8 +4,7 @@ ghost use Rattle.xiengmado.specs.ExportsLeaves.{XmFullNumber, XmSend};
 use answers::{DONE, code};
 use sequence::{Full, Sent, SequenceNumber, WireNumber};
 
-#[unsafe(no_mangle)]
-pub extern "C" fn xm_full_number(read: u64, wire: u16, number: &mut u64) -> u32
+pub fn xm_full_number(read: u64, wire: u16, number: &mut u64) -> u32
     ensures { XmFullNumber read wire number.old number.new result }
 {
     let answer = sequence::full_number(SequenceNumber(read), WireNumber(wire));
@@ -18,14 +17,7 @@ pub extern "C" fn xm_full_number(read: u64, wire: u16, number: &mut u64) -> u32
     }
 }
 
-#[unsafe(no_mangle)]
-pub extern "C" fn xm_send(
-    written: u64,
-    expected: u64,
-    reply: bool,
-    number: &mut u64,
-    next: &mut u64,
-) -> u32
+pub fn xm_send(written: u64, expected: u64, reply: bool, number: &mut u64, next: &mut u64) -> u32
     ensures { XmSend written expected reply number.old next.old number.new next.new result }
 {
     let answer = sequence::send(SequenceNumber(written), SequenceNumber(expected), reply);

@@ -4,8 +4,7 @@ ghost use Rattle.xiengmado.specs.ExportsLeaves.{XmCheckPacket, XmError};
 use answers::{DONE, code};
 use x11_utils::{Checked, Parsed, X11Error};
 
-#[unsafe(no_mangle)]
-pub extern "C" fn xm_check_packet(order: u8, packet: &[u8], first: u8) -> u32
+pub fn xm_check_packet(order: u8, packet: &[u8], first: u8) -> u32
     ensures { XmCheckPacket order packet.now first result }
 {
     let answer = x11_utils::check_packet(order, packet, first);
@@ -15,8 +14,7 @@ pub extern "C" fn xm_check_packet(order: u8, packet: &[u8], first: u8) -> u32
     }
 }
 
-#[unsafe(no_mangle)]
-pub extern "C" fn xm_error(
+pub fn xm_error(
     order: u8,
     packet: &[u8],
     error: &mut u8,

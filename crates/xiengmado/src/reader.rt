@@ -4,8 +4,7 @@ ghost use Rattle.xiengmado.specs.ExportsReader.{XmPacketLength, XmReaderNew, XmR
 use answers::{BAD, DONE, code};
 use packet_reader::{Advanced, Capacity, Made, PacketReader};
 
-#[unsafe(no_mangle)]
-pub extern "C" fn xm_packet_length(packet_code: u8, field: u32, class: &mut u8) -> usize
+pub fn xm_packet_length(packet_code: u8, field: u32, class: &mut u8) -> usize
     ensures { XmPacketLength packet_code field class.new result }
 {
     let framed = packet_reader::frame(packet_code, field);
@@ -14,8 +13,7 @@ pub extern "C" fn xm_packet_length(packet_code: u8, field: u32, class: &mut u8) 
     framed.length
 }
 
-#[unsafe(no_mangle)]
-pub extern "C" fn xm_reader_new(reader: &mut [u64], order: u8, buf: &[u8]) -> u32
+pub fn xm_reader_new(reader: &mut [u64], order: u8, buf: &[u8]) -> u32
     ensures { XmReaderNew reader.old order buf.now reader.new result }
 {
     if reader.len() != rows::THREE {
@@ -31,8 +29,7 @@ pub extern "C" fn xm_reader_new(reader: &mut [u64], order: u8, buf: &[u8]) -> u3
     }
 }
 
-#[unsafe(no_mangle)]
-pub extern "C" fn xm_reader_remaining_capacity(reader: &[u64], buf: &[u8], size: &mut usize) -> u32
+pub fn xm_reader_remaining_capacity(reader: &[u64], buf: &[u8], size: &mut usize) -> u32
     ensures { XmReaderRemainingCapacity reader.now buf.now size.old size.new result }
 {
     let at = rows::reader(reader);
@@ -47,13 +44,7 @@ pub extern "C" fn xm_reader_remaining_capacity(reader: &[u64], buf: &[u8], size:
 }
 
 // The part that is to be filled next begins where the filled bytes end.
-#[unsafe(no_mangle)]
-pub extern "C" fn xm_reader_buffer(
-    reader: &[u64],
-    buf: &[u8],
-    start: &mut usize,
-    size: &mut usize,
-) -> u32
+pub fn xm_reader_buffer(reader: &[u64], buf: &[u8], start: &mut usize, size: &mut usize) -> u32
     ensures { XmReaderBuffer reader.now buf.now start.old size.old start.new size.new result }
 {
     let at = rows::reader(reader);
@@ -69,8 +60,7 @@ pub extern "C" fn xm_reader_buffer(
 }
 
 // A packet that isn't whole yet has the length 0, and its class is shown as 0.
-#[unsafe(no_mangle)]
-pub extern "C" fn xm_reader_advance(
+pub fn xm_reader_advance(
     reader: &mut [u64],
     buf: &[u8],
     amount: usize,

@@ -7,13 +7,7 @@ use answers::{BAD, DONE, bit, kind_number, mode_number};
 // What is kept of the request of a number: whether its reply has descriptors, and its mode (0 none, 1
 // DiscardReply, 2 DiscardReplyAndError). Means something for an outstanding number alone. Refused by
 // 9 for a room that is not one for 1 to 65,536 requests.
-#[unsafe(no_mangle)]
-pub extern "C" fn xm_request_at(
-    requests: &[u8],
-    number: u64,
-    descriptors: &mut u8,
-    mode: &mut u8,
-) -> u32
+pub fn xm_request_at(requests: &[u8], number: u64, descriptors: &mut u8, mode: &mut u8) -> u32
     ensures { XmRequestAt requests.now number descriptors.old mode.old descriptors.new mode.new result }
 {
     if !requests::sized(requests, requests::capacity(requests)) {
@@ -30,8 +24,7 @@ pub extern "C" fn xm_request_at(
 // reply, 1 event), number, packet length and count of descriptors. The packet begins 16 bytes behind
 // the index, and the next record where the packet ends. Refused by 9 where no whole record stands
 // there.
-#[unsafe(no_mangle)]
-pub extern "C" fn xm_record_at(
+pub fn xm_record_at(
     store: &[u8],
     at: usize,
     end: usize,

@@ -10,8 +10,7 @@ use answers::{DONE, code};
 use saving::{Client, Restored, Saved};
 
 // How many bytes a savepoint takes.
-#[unsafe(no_mangle)]
-pub extern "C" fn xm_savepoint_length(
+pub fn xm_savepoint_length(
     state: &[u64],
     requests: &[u8],
     store: &[u8],
@@ -29,8 +28,7 @@ pub extern "C" fn xm_savepoint_length(
 }
 
 // The length is that of the savepoint, which stands at the start of out.
-#[unsafe(no_mangle)]
-pub extern "C" fn xm_save(
+pub fn xm_save(
     state: &[u64],
     requests: &[u8],
     store: &[u8],
@@ -50,8 +48,7 @@ pub extern "C" fn xm_save(
 
 // Rows of other lengths are refused as rooms of other lengths are, behind 19: no slots are lent
 // then, so that no room fits.
-#[unsafe(no_mangle)]
-pub extern "C" fn xm_restore(
+pub fn xm_restore(
     bytes: &[u8],
     state: &mut [u64],
     requests: &mut [u8],

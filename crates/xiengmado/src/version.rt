@@ -4,8 +4,7 @@ ghost use Rattle.xiengmado.specs.ExportsLeaves.{XmVersion};
 // 0.2.0: 65,536 for each major, 256 for each minor, 1 for each patch.
 const VERSION: u32 = 512;
 
-#[unsafe(no_mangle)]
-pub extern "C" fn xm_version() -> u32
+pub fn xm_version() -> u32
     ensures { XmVersion result }
 {
     VERSION
