@@ -12,7 +12,7 @@ use Rattle.octets.specs.Logic.{choose, both, either, both_left, both_right}
 use Rattle.octets.specs.Bytes.{legal, number_in, low_number, turned}
 use Rattle.octets.specs.Field.{field}
 use Rattle.octets.specs.Put.{put, cut, length_put, take_put, take_put_before}
-use Rattle.refusal.specs.Answer.{Answer, gives, refuses, refuse, gives_past, gives_rest}
+use Rattle.refusal.specs.Answer.{gives, refuses, refuse, gives_past, gives_rest}
 use Rattle.connect.specs.Handshake.{head, reply_length, aim, room, soundb, fresh, made, Progress, waits, complete, filled_to, reached, advanced}
 use Rattle.connect.specs.Sound.{Sound, is_sound}
 use Rattle.connect.specs.AimLaws.{aim_head, aim_held}

@@ -1,5 +1,5 @@
 -- Laws of `specs/At.antt`. Assumes nothing.
-use Rattle.std.specs.Prelude.{◌≡◌, Bool, true, eqb}
+use Rattle.std.specs.Prelude.{◌≡◌, Bool, true}
 use Rattle.std.proofs.Math.Path.{refl, sym, ap}
 use Rattle.std.proofs.Common.{◌∙◌, subst, drop-drop, lt-ltb, ltb-true, eqb-true, eq-eqb}
 use mathlib.Core.List.{List, [], ◌∷◌, ◌++◌, append_assoc}
@@ -10,7 +10,7 @@ use Rattle.std.proofs.Math.Decide.{ℕ_discrete}
 use native.Mathlib.Omega.{arith}
 use Rattle.std.proofs.Math.ListN.{length, take, drop, length-append, length-drop, take-append-drop}
 use Rattle.std.proofs.Math.Seq.{drop_at, take_at}
-use Rattle.octets.specs.Logic.{both, both_left, both_right, both_yes}
+use Rattle.octets.specs.Logic.{both_left, both_right, both_yes}
 use Rattle.octets.specs.Bytes.{little_order, word, number_in, Octets, word_number, length_bytes_of, number_below}
 use Rattle.octets.specs.Put.{cut, length_cut, cut_add}
 use Rattle.octets.specs.Field.{field, fields, length_fields, field_first, octets_cut, octets_drop}

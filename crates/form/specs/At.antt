@@ -1,21 +1,14 @@
 -- A form at an index of bytes, tested where it stands: what code promises of such a test, and the laws for its early returns. Assumes nothing.
 use Rattle.std.specs.Prelude.{◌≡◌, Bool, true, eqb}
-use Rattle.std.proofs.Math.Path.{refl, sym, ap}
-use Rattle.std.proofs.Common.{◌∙◌, subst, drop-drop, lt-ltb, ltb-true, eqb-true, eq-eqb}
-use mathlib.Core.List.{List, [], ◌∷◌, ◌++◌, append_assoc}
+use mathlib.Core.List.{List, []}
 use Rattle.std.proofs.Math.Option.{some}
-use Prim.Native.Nat.{ℕ, zero, suc, ◌+◌, ◌-◌, ◌*◌, ◌≤◌, ◌<◌, ◌^◌}
-use Rattle.std.proofs.Math.Nat.{mul-suc}
-use Rattle.std.proofs.Math.Decide.{ℕ_discrete}
-use native.Mathlib.Omega.{arith}
-use Rattle.std.proofs.Math.ListN.{length, take, drop, length-append, length-drop, take-append-drop}
-use Rattle.std.proofs.Math.Seq.{drop_at, take_at}
-use Rattle.octets.specs.Logic.{both, both_left, both_right, both_yes}
-use Rattle.octets.specs.Bytes.{little_order, word, number_in, Octets, word_number, length_bytes_of, number_below}
-use Rattle.octets.specs.Put.{cut, length_cut, cut_add}
-use Rattle.octets.specs.Field.{field, fields, length_fields, field_first, octets_cut, octets_drop}
-use Rattle.form.specs.Form.{Form, and_then, number, byte, pair, counted, each, writes}
-use Rattle.form.specs.FormLaws.{Exact}
+use Prim.Native.Nat.{ℕ, ◌+◌, ◌-◌, ◌≤◌}
+use Rattle.std.proofs.Math.ListN.{length, drop}
+use Rattle.octets.specs.Logic.{both}
+use Rattle.octets.specs.Bytes.{little_order}
+use Rattle.octets.specs.Put.{cut}
+use Rattle.octets.specs.Field.{field}
+use Rattle.form.specs.Form.{Form, counted, writes}
 
 -- THE CODE'S ANSWER for a form at an index, with a test of what stands there: the index behind it, or 0 where nothing that passes stands there.
 pub record At {A : Type 0} (f : Form A) (ok : A → Bool) (s : List ℕ) (at r : ℕ) : Type 0 where

@@ -1,16 +1,15 @@
 -- Laws of `specs/Calls.antt`. Assumes nothing.
-use Rattle.std.specs.Prelude.{Bool, true, false, List, [], ◌∷◌, ◌++◌, ◌≡◌, ℕ, ◌≤◌, max, drop}
+use Rattle.std.specs.Prelude.{Bool, true, false, List, [], ◌∷◌, ◌++◌, ◌≡◌, ℕ, max}
 use Rattle.std.proofs.Math.Path.{refl, ap}
 use Rattle.std.proofs.Common.{sym, ◌∙◌, inl, inr, arith}
 use Rattle.octets.specs.Logic.{choose}
 use Rattle.refusal.specs.Answer.{Answer, gives, refuses, refuse, gives_past, gives_rest, gives_same, pass_given}
-use Rattle.sequence.specs.Numbering.{full, in_range}
 use Rattle.sequence.specs.Sending.{sending_by_lem}
-use Rattle.model.specs.Client.{Held, Client, set_waiting}
-use Rattle.packet.specs.Packet.{code_of, unnumbered, wire_of, packet_class}
+use Rattle.model.specs.Client.{Held, Client}
+use Rattle.packet.specs.Packet.{code_of, unnumbered, packet_class}
 use Rattle.packet.specs.Laws.{number_last, number_full}
 use Rattle.model.proofs.Deciding.{ahead_not, enqueue_chain}
-use Rattle.model.specs.Model.{has_reply, send_request, enqueue_fds, take_closed, packet_number, numbered, asked_of, place_of, claimed, filed, Filing, ahead, take_in, enqueue_packet, with_mode, discarding, discard_reply, Found, nothing, at, find, taken_by, poll_for_reply_or_error, checked_by, poll_check, replied_by, poll_for_reply, event_by, poll_for_event}
+use Rattle.model.specs.Model.{has_reply, send_request, enqueue_fds, take_closed, numbered, asked_of, place_of, filed, Filing, take_in, enqueue_packet, with_mode, discarding, discard_reply, Found, nothing, at, find, taken_by, poll_for_reply_or_error, checked_by, poll_check, replied_by, poll_for_reply, event_by, poll_for_event}
 use Rattle.model.specs.Calls.{send, enqueue_fds_ask, enqueue, discard, poll, check, poll_reply, prepare, poll_event, take_closed_ask, Said, step, outcome}
 use Rattle.model.specs.declared.ReplyFdKind.{ReplyFdKind}
 use Rattle.model.specs.declared.DiscardMode.{DiscardMode}

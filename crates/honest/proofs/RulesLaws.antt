@@ -1,5 +1,5 @@
 -- Laws of `specs/Rules.antt`. Assumes nothing.
-use Rattle.std.specs.Prelude.{Bool, List, [], ◌∷◌, ◌⊎◌, ◌≡◌, refl, ℕ, ◌+◌, ◌≤◌, ◌<◌, max}
+use Rattle.std.specs.Prelude.{Bool, List, [], ◌∷◌, ◌≡◌, refl, ℕ, ◌+◌, ◌≤◌, ◌<◌, max}
 use Rattle.std.proofs.Math.Bool.{true, false}
 use Rattle.std.proofs.Common.{inl, inr, ⊎_elim, ap, ◌∙◌, arith}
 use Rattle.std.proofs.Math.Decide.{dec_le}
@@ -13,7 +13,7 @@ use Rattle.sequence.specs.Sending.{sending, sending_by, must_sync, sync_span}
 use Rattle.packet.specs.Packet.{wire_of}
 use Rattle.model.specs.Client.{Numbers}
 use Rattle.model.specs.Model.{Filing}
-use Rattle.honest.specs.Run.{Entry, sent, took, sends, WithReply, Heard, Fair, Honest, Right, Ordered}
+use Rattle.honest.specs.Run.{Entry, sent, took, WithReply, Fair, Honest, Ordered}
 use Rattle.honest.specs.Rules.{RuledBy, none, sends_one, takes_one, Ruled, Before, Inv}
 
 -- FREED: once a request with a reply was sent, no sync is asked for.

@@ -8,7 +8,6 @@ use Rattle.octets.specs.Logic.{choose}
 use Rattle.refusal.specs.Answer.{gives}
 use Rattle.packet.specs.Packet.{code_of, unnumbered}
 use Rattle.model.specs.Model.{Filing}
-use Rattle.model.specs.Calls.{Call, send, enqueue_fds_ask, enqueue, discard, poll, check, poll_reply, prepare, poll_event, take_closed_ask}
 use Rattle.model.specs.Batch.{Each}
 use Rattle.honest.specs.Run.{Entry, sent, took, note_took, WithReply, Heard, Wire, Known, Along, Honest}
 use Rattle.honest.specs.Server.{Packet, carrying, packets_in, Rising, First, HonestServer}

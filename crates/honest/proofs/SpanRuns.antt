@@ -1,26 +1,20 @@
 -- Laws of `specs/Span.antt`. Assumes nothing.
-use Rattle.std.specs.Prelude.{Bool, true, false, List, ◌∷◌, ◌≡◌, refl, ℕ, ◌+◌, ◌-◌, ◌%◌, ◌≤◌, ◌<◌, max}
-use Rattle.std.proofs.Common.{inl, inr, ⊎_elim, ap, ◌∙◌}
+use Rattle.std.specs.Prelude.{Bool, true, false, List, ◌≡◌, ℕ, ◌-◌, ◌%◌, ◌≤◌}
+use Rattle.std.proofs.Common.{ap, ◌∙◌}
 use Rattle.std.proofs.Math.Path.{sym}
-use Rattle.std.proofs.Math.Decide.{dec_le}
 use native.Mathlib.Omega.{arith}
-use borrow.Author.Tests.{leb-true, lt-leb, le-ltb}
-use Rattle.octets.specs.Logic.{choose, both}
-use Rattle.refusal.specs.Answer.{Answer, gives, refuses, refuse, pass, gives_same}
+use Rattle.refusal.specs.Answer.{Answer, gives, refuses, refuse, pass}
 use Rattle.sequence.specs.Numbering.{last_number, wire_values, full, in_range}
-use Rattle.sequence.proofs.NumberingLaws.{full_near}
-use Rattle.sequence.specs.Sending as Sending
-use Rattle.sequence.specs.Sending.{sending_by, sending_by_lem, sync_span}
+use Rattle.sequence.specs.Sending.{sending_by_lem, sync_span}
 use Rattle.packet.specs.Packet.{reply_code, wire_of, reply}
 use Rattle.model.specs.Client.{Numbers, Client}
 use Rattle.model.specs.Model.{Filing, send_request}
 use Rattle.model.specs.declared.ReplyFdKind.TheVariants.{NoReply}
 use Rattle.model.specs.declared.Place.TheVariants.{Replies}
-use Rattle.honest.specs.Run.{Entry, sent, took, Runs, sends, WithReply, Heard, Wire, Fair, Honest, Right}
-use Rattle.honest.specs.Rules.{RuledBy, none, sends_one, takes_one, Ruled, Inv}
-use Rattle.honest.proofs.RulesLaws.{given_by, free_by, ruled_ordered, ruled_near, true_range, ruled_inv}
+use Rattle.honest.specs.Run.{Entry, Runs, sends, Wire, Honest}
+use Rattle.honest.specs.Rules.{Ruled}
 use Rattle.honest.proofs.Calls.{runs_ruled}
-use Rattle.honest.specs.Computing.{packet_in, packet_wire}
+use Rattle.honest.specs.Computing.{packet_wire}
 use Rattle.honest.specs.Span.{AtEdge, further, Misreckoned, reply_in}
 use Rattle.honest.proofs.SpanLaws.{edge_reckoned, one_too_many}
 

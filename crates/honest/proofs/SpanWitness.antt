@@ -1,20 +1,20 @@
 -- Laws of `specs/SpanWitness.antt`. Assumes nothing.
-use Rattle.std.specs.Prelude.{false, List, [], ◌∷◌, ◌++◌, ◌≡◌, refl, ℕ, zero, suc, ◌+◌, ◌-◌, ◌%◌, ◌≤◌, ◌<◌, length}
+use Rattle.std.specs.Prelude.{List, [], ◌∷◌, ◌++◌, ◌≡◌, refl, ℕ, zero, suc, ◌+◌, ◌-◌, ◌%◌, ◌≤◌, ◌<◌, length}
 use Rattle.std.proofs.Common.{sym, subst, ◌∙◌, arith, length-append, le-leb}
 use Rattle.std.proofs.Math.Decide.{dec_le}
 use Rattle.std.proofs.lemmas.Bool.{lt-leb}
-use Rattle.refusal.specs.Answer.{gives, refuses}
+use Rattle.refusal.specs.Answer.{gives}
 use Rattle.sequence.specs.Numbering.{last_number, wire_values}
 use Rattle.sequence.specs.Sending.{sync_span}
 use Rattle.requests.specs.declared.Request.{Request}
-use Rattle.model.specs.Client.{Numbers, Client}
+use Rattle.model.specs.Client.{Numbers}
 use Rattle.model.specs.Model.{joining, send_request}
 use Rattle.model.specs.declared.ReplyFdKind.TheVariants.{NoReply}
-use Rattle.honest.specs.Run.{Entry, sent, Runs, sends, Wire, Honest}
+use Rattle.honest.specs.Run.{Entry, Runs, sends, Wire, Honest}
 use Rattle.honest.proofs.RulesLaws.{ruled_inv}
 use Rattle.honest.proofs.Calls.{runs_ruled}
 use Rattle.honest.specs.Computing.{computing, packet_of, send_to}
-use Rattle.honest.specs.Witness.{client_at, Through, in_replies, rounds}
+use Rattle.honest.specs.Witness.{Through, in_replies, rounds}
 use Rattle.honest.proofs.Witness.{reply_wire, rounds_sends, rounds_honest, any_length}
 use Rattle.honest.specs.Span.{TrueBy, AtEdge, further, Misreckoned}
 use Rattle.honest.proofs.SpanLaws.{wider, one_too_many, edge_reckoned}

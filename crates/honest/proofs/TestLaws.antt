@@ -1,10 +1,8 @@
 -- Laws of `specs/Test.antt`. Assumes nothing.
-use Rattle.std.specs.Prelude.{Bool, true, false, List, [], ◌∷◌, ◌⊎◌, ◌≡◌, refl, ℕ, ◌+◌, ◌%◌, ◌≤◌, ◌<◌, leb, eqb}
+use Rattle.std.specs.Prelude.{Bool, true, false, List, [], ◌∷◌, ◌⊎◌, ◌≡◌, refl, ℕ, ◌≤◌, ◌<◌, leb, eqb}
 use Rattle.std.proofs.Common.{inl, inr, ap, ◌∙◌, arith, leb-true, eqb-true}
-use Rattle.octets.specs.Logic.{both, either, apart, both_left, both_right}
-use Rattle.sequence.specs.Numbering.{wire_values}
-use Rattle.packet.specs.Packet.{wire_of}
-use Rattle.honest.specs.Run.{Entry, sent, took, sends, WithReply, Heard, Fair, Honest}
+use Rattle.octets.specs.Logic.{either, apart, both_left, both_right}
+use Rattle.honest.specs.Run.{Entry, sent, took, WithReply, Heard, Fair, Honest}
 use Rattle.honest.specs.Test.{numbers_asked, numbers_heard, every, among, fairb, honestb}
 
 -- ---- A log that passes is honest.

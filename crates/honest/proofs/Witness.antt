@@ -15,7 +15,7 @@ use Rattle.sequence.specs.Numbering.{last_number, wire_values}
 use Rattle.packet.specs.Packet as Packet
 use Rattle.packet.specs.Packet.{unnumbered, wire_of, was_sent, PacketClass, class_of}
 use Rattle.requests.specs.declared.Request.{Request}
-use Rattle.model.specs.Client.{Numbers, Client, held_packet, costs, set_numbers, set_outstanding, set_replies}
+use Rattle.model.specs.Client.{Client, held_packet, costs, set_replies}
 use Rattle.model.specs.Model as Model
 use Rattle.model.specs.Model.{fresh, joining, send_request, Filing, somebody, packet_number, enqueue_packet, packet, poll_for_reply_or_error}
 use Rattle.model.specs.Calls.{Call, send, enqueue_fds_ask, enqueue, discard, poll, check, poll_reply, prepare, poll_event, take_closed_ask, Said, number, done, filed, absent, answer, closed, refused, step, run}

@@ -1,22 +1,11 @@
 -- Each call of the model keeps the rules: of a run's state the byte order and the three numbers are what sending and numbering alone make of them. Assumes nothing.
-use Rattle.std.specs.Prelude.{Bool, true, false, List, [], ◌∷◌, ◌++◌, ◌≡◌, ℕ, ◌≤◌, max, drop}
-use Rattle.std.proofs.Math.Path.{refl, ap}
-use Rattle.std.proofs.Common.{sym, ◌∙◌, inl, inr, arith}
-use Rattle.octets.specs.Logic.{choose}
-use Rattle.refusal.specs.Answer.{Answer, gives, refuses, refuse, gives_past, gives_rest, gives_same, pass_given}
+use Rattle.std.specs.Prelude.{false, List, ◌≡◌, ℕ, ◌≤◌, max, drop}
+use Rattle.refusal.specs.Answer.{Answer, gives, refuses}
 use Rattle.sequence.specs.Numbering.{full, in_range}
-use Rattle.sequence.specs.Sending.{sending_by_lem}
-use Rattle.model.specs.Client.{Held, Client, set_waiting}
-use Rattle.packet.specs.Packet.{code_of, unnumbered, wire_of, packet_class}
-use Rattle.packet.specs.Laws.{number_last, number_full}
-use Rattle.model.proofs.Deciding.{ahead_not, enqueue_chain}
-use Rattle.model.specs.Model.{has_reply, send_request, enqueue_fds, take_closed, packet_number, numbered, asked_of, place_of, claimed, filed, Filing, ahead, take_in, enqueue_packet, with_mode, discarding, discard_reply, Found, nothing, at, find, taken_by, poll_for_reply_or_error, checked_by, poll_check, replied_by, poll_for_reply, event_by, poll_for_event}
-use Rattle.model.specs.Calls.{send, enqueue_fds_ask, enqueue, discard, poll, check, poll_reply, prepare, poll_event, take_closed_ask, Said, step, outcome}
-use Rattle.model.specs.declared.ReplyFdKind.{ReplyFdKind}
-use Rattle.model.specs.declared.DiscardMode.{DiscardMode}
-use Rattle.model.specs.declared.Place.{Place}
-use Rattle.honest.specs.Run.{Entry, took, note_sent, note_took, noted, Runs, start, call, Ordinary, Lands, held_as}
-use Rattle.honest.specs.Rules.{Ruled, none, sends_one, takes_one}
+use Rattle.model.specs.Client.{Client, set_waiting}
+use Rattle.packet.specs.Packet.{code_of, wire_of, packet_class}
+use Rattle.model.specs.Model.{packet_number, numbered, asked_of, place_of, claimed, filed, Filing, ahead}
+use Rattle.honest.specs.Run.{held_as}
 
 -- ---- calls that touch neither byte order nor numbers
 

@@ -1,19 +1,13 @@
 -- The rules of sending and numbering alone: under them each honest packet gets its true number. Rooms, filing and all other calls are left out. Assumes nothing.
-use Rattle.std.specs.Prelude.{Bool, List, [], ◌∷◌, ◌⊎◌, ◌≡◌, refl, ℕ, ◌+◌, ◌≤◌, ◌<◌, max}
-use Rattle.std.proofs.Math.Bool.{true, false}
-use Rattle.std.proofs.Common.{inl, inr, ⊎_elim, ap, ◌∙◌, arith}
-use Rattle.std.proofs.Math.Decide.{dec_le}
-use borrow.Author.Tests.{leb-false, lt-leb, le-ltb}
-use Rattle.octets.specs.Logic.{choose, both}
-use Rattle.refusal.specs.Answer.{gives, refuse, gives_past, gives_rest, gives_same}
+use Rattle.std.specs.Prelude.{Bool, List, [], ◌∷◌, ◌⊎◌, ◌≡◌, ℕ, ◌+◌, ◌≤◌, ◌<◌, max}
+use Rattle.refusal.specs.Answer.{gives}
 use Rattle.sequence.specs.Numbering.{last_number, wire_values, full, in_range}
-use Rattle.sequence.proofs.NumberingLaws.{full_near}
 use Rattle.sequence.specs.Sending as Sending
 use Rattle.sequence.specs.Sending.{sending, sending_by, must_sync, sync_span}
 use Rattle.packet.specs.Packet.{wire_of}
 use Rattle.model.specs.Client.{Numbers}
 use Rattle.model.specs.Model.{Filing}
-use Rattle.honest.specs.Run.{Entry, sent, took, sends, WithReply, Heard, Fair, Honest, Right, Ordered}
+use Rattle.honest.specs.Run.{Entry, sent, took, sends, WithReply, Heard, Right}
 
 -- What accepted sends and accepted packets make of the three numbers, on a connection of byte order o, where 6 is given from a span on.
 pub data RuledBy (span o : ℕ) : Numbers → List Entry → Type 0 where

@@ -1,16 +1,11 @@
 -- The server's packets as it has them to bring: what is asked of them, instead of a run's log. Where a run has them in order, none left out (`session/specs/Serving.antt`), its log is then honest. Assumes nothing.
-use Rattle.std.specs.Prelude.{Bool, ◌≡◌, refl, ◌⊎◌, ℕ, ◌≤◌, ◌<◌}
-use Rattle.std.proofs.Math.Bool.{true, false}
-use mathlib.Core.List.{List, [], ◌∷◌, ◌++◌, append_assoc}
-use Rattle.std.proofs.Math.Path.{sym}
-use Rattle.std.proofs.Common.{◌∙◌, inl, inr, ⊎_elim, arith}
+use Rattle.std.specs.Prelude.{◌≡◌, ◌⊎◌, ℕ, ◌≤◌}
+use mathlib.Core.List.{List, [], ◌∷◌, ◌++◌}
 use Rattle.octets.specs.Logic.{choose}
-use Rattle.refusal.specs.Answer.{gives}
 use Rattle.packet.specs.Packet.{code_of, unnumbered}
-use Rattle.model.specs.Model.{Filing}
 use Rattle.model.specs.Calls.{Call, send, enqueue_fds_ask, enqueue, discard, poll, check, poll_reply, prepare, poll_event, take_closed_ask}
 use Rattle.model.specs.Batch.{Each}
-use Rattle.honest.specs.Run.{Entry, sent, took, note_took, WithReply, Heard, Wire, Known, Along, Honest}
+use Rattle.honest.specs.Run.{Entry, sent, took, WithReply, Wire, Known, Along}
 
 -- a packet of the server, with its true number
 pub record Packet : Type 0 where

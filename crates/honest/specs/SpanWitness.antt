@@ -1,19 +1,12 @@
 -- There are states at the edge, for each last read up to the bound, fresh and past any wrap: a run of the engine, rooms and all, comes there. So 65,534 is the greatest span. Assumes nothing.
-use Rattle.std.specs.Prelude.{false, List, [], ◌∷◌, ◌++◌, ◌≡◌, refl, ℕ, zero, suc, ◌+◌, ◌-◌, ◌%◌, ◌≤◌, ◌<◌, length}
-use Rattle.std.proofs.Common.{sym, subst, ◌∙◌, arith, length-append, le-leb}
-use Rattle.std.proofs.Math.Decide.{dec_le}
-use Rattle.std.proofs.lemmas.Bool.{lt-leb}
-use Rattle.refusal.specs.Answer.{gives, refuses}
-use Rattle.sequence.specs.Numbering.{last_number, wire_values}
-use Rattle.sequence.specs.Sending.{sync_span}
+use Rattle.std.specs.Prelude.{false, List, ◌∷◌, ◌≡◌, ℕ, zero, suc, ◌+◌}
+use Rattle.refusal.specs.Answer.{refuses}
 use Rattle.requests.specs.declared.Request.{Request}
-use Rattle.model.specs.Client.{Numbers, Client}
-use Rattle.model.specs.Model.{joining, send_request}
+use Rattle.model.specs.Client.{Client}
+use Rattle.model.specs.Model.{send_request}
 use Rattle.model.specs.declared.ReplyFdKind.TheVariants.{NoReply}
-use Rattle.honest.specs.Run.{Entry, sent, Runs, sends, Wire, Honest}
-use Rattle.honest.specs.Computing.{computing, packet_of, send_to}
-use Rattle.honest.specs.Witness.{client_at, Through, in_replies, rounds}
-use Rattle.honest.specs.Span.{TrueBy, AtEdge, further, Misreckoned}
+use Rattle.honest.specs.Run.{Entry, sent, Runs, Honest}
+use Rattle.honest.specs.Witness.{client_at, rounds}
 
 -- j requests without a reply more
 unfoldable pub without : ℕ → List Entry → List Entry

@@ -1,10 +1,9 @@
 -- Honesty as a test of a log. Assumes nothing.
-use Rattle.std.specs.Prelude.{Bool, true, false, List, [], ◌∷◌, ◌⊎◌, ◌≡◌, refl, ℕ, ◌+◌, ◌%◌, ◌≤◌, ◌<◌, leb, eqb}
-use Rattle.std.proofs.Common.{inl, inr, ap, ◌∙◌, arith, leb-true, eqb-true}
-use Rattle.octets.specs.Logic.{both, either, apart, both_left, both_right}
+use Rattle.std.specs.Prelude.{Bool, true, false, List, [], ◌∷◌, ℕ, ◌+◌, ◌%◌, leb, eqb}
+use Rattle.octets.specs.Logic.{both, either}
 use Rattle.sequence.specs.Numbering.{wire_values}
 use Rattle.packet.specs.Packet.{wire_of}
-use Rattle.honest.specs.Run.{Entry, sent, took, sends, WithReply, Heard, Fair, Honest}
+use Rattle.honest.specs.Run.{Entry, sent, took, sends}
 
 -- the numbers of the requests with a reply, and of the packets that came
 unfoldable pub numbers_asked : List Entry → List ℕ

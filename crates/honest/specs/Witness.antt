@@ -1,33 +1,17 @@
 -- There are runs with an honest server: one with each call, and an event, a KeymapNotify of either code, an error and replies that are held, have a descriptor or are dropped; runs of any length; and one that is both, past 65,536. Assumes nothing.
-use Rattle.std.specs.Prelude.{Bool, true, false, List, [], ◌∷◌, ◌++◌, ◌≡◌}
-use Rattle.std.proofs.Common.{inl, inr, ⊎_elim, sym, ap, subst, ◌∙◌, add-one}
-use Rattle.std.proofs.Math.Path.{refl}
-use Prim.Native.Nat.{ℕ, zero, suc, ◌+◌, ◌-◌, ◌%◌, ◌≤◌, ◌<◌, max}
-use Rattle.std.proofs.Math.Decide.{dec_le}
-use native.Mathlib.Omega.{arith}
-use Rattle.std.proofs.Math.ListN.{length, length-append}
-use Rattle.std.proofs.Math.Seq.{drop_at}
-use borrow.Author.Tests.{lt-leb, le-ltb, eq-eqb}
-use Rattle.octets.specs.Logic.{choose, both, either}
-use Rattle.octets.specs.Bytes.{bytes_of, low_bytes, turned}
-use Rattle.refusal.specs.Answer.{gives, refuse, pass}
-use Rattle.sequence.specs.Numbering.{last_number, wire_values}
+use Rattle.std.specs.Prelude.{true, List, [], ◌∷◌}
+use Prim.Native.Nat.{ℕ, zero, suc, ◌%◌, ◌≤◌}
+use Rattle.std.proofs.Math.ListN.{length}
+use Rattle.sequence.specs.Numbering.{wire_values}
 use Rattle.packet.specs.Packet as Packet
 use Rattle.packet.specs.Packet.{unnumbered, wire_of, was_sent, PacketClass, class_of}
 use Rattle.requests.specs.declared.Request.{Request}
-use Rattle.model.specs.Client.{Numbers, Client, held_packet, costs, set_numbers, set_outstanding, set_replies}
-use Rattle.model.specs.Model as Model
-use Rattle.model.specs.Model.{fresh, joining, send_request, Filing, somebody, packet_number, enqueue_packet, packet, poll_for_reply_or_error}
-use Rattle.model.specs.Calls.{Call, send, enqueue_fds_ask, enqueue, discard, poll, check, poll_reply, prepare, poll_event, take_closed_ask, Said, number, done, filed, absent, answer, closed, refused, step, run}
-use Rattle.model.specs.Calls as Calls
-use Rattle.model.specs.declared.ReplyFdKind.TheVariants.{NoReply, ReplyWithoutFds, ReplyWithFds}
-use Rattle.model.specs.declared.DiscardMode.TheVariants.{DiscardReply}
-use Rattle.model.specs.declared.Place.{Place}
-use Rattle.model.specs.declared.Place.TheVariants.{Replies, Events, Dropped}
-use Rattle.honest.specs.Run.{Entry, sent, took, noted, Runs, start, call, sends, WithReply, Heard, Wire, Fair, Honest}
-use Rattle.honest.specs.Computing.{computing, packet_of, packet_wire, send_to, packet_to, poll_to}
-use Rattle.honest.specs.Server.{Packet, carrying, HonestServer}
-use Rattle.honest.specs.Test.{numbers_asked, numbers_heard, every, among, fairb, honestb}
+use Rattle.model.specs.Client.{Numbers, Client, set_numbers, set_outstanding}
+use Rattle.model.specs.Model.{fresh, Filing}
+use Rattle.model.specs.Calls.{Call}
+use Rattle.model.specs.declared.Place.TheVariants.{Replies}
+use Rattle.honest.specs.Run.{Entry, sent, took, Runs}
+use Rattle.honest.specs.Computing.{packet_of}
 
 -- ---- A run with every kind of call and packet
 

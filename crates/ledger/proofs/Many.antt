@@ -1,8 +1,7 @@
 -- Laws of `specs/Many.antt`. Assumes nothing.
-use Rattle.std.specs.Prelude.{Bool, true, false, List, [], ◌∷◌, ◌++◌, ◌≡◌, refl, ℕ, zero, suc, ◌+◌, ltb, length}
+use Rattle.std.specs.Prelude.{Bool, true, false, List, [], ◌∷◌, ◌++◌, ◌≡◌, refl, ℕ, ◌+◌, ltb, length}
 use Rattle.std.proofs.Common.{sym, ap, ◌∙◌, arith}
 use Rattle.octets.specs.Logic.{choose}
-use Rattle.octets.specs.Put.{put}
 use Rattle.refusal.specs.Answer.{Answer, gives, refuses, gives_rest, gives_same}
 use Rattle.model.specs.Client.{Held, Client, set_events}
 use Rattle.model.specs.Model.{Taken, none, packet, Filing, send_request, event_by, poll_for_event}
@@ -12,7 +11,7 @@ use Rattle.model.specs.Batch.{Turn, goes, stops, Many, onward, on_turn, many, St
 use Rattle.model.specs.BatchLaws.{goes_one}
 use Rattle.model.specs.Feed.{Took, model_took}
 use Rattle.model.specs.SendRequests.{kinds, kind_of, send_turn, sendings, send_requests, Sendings, ShownSendings, shown_sendings}
-use Rattle.model.specs.PollForEvents.{turns, Lent, lent, room_for, event_turn, Handings, or_refused, handed, poll_for_events, packets_of, marks_of, ShownHandings, shown_handings, packets_of_handings, marks_of_handings}
+use Rattle.model.specs.PollForEvents.{turns, Lent, lent, room_for, event_turn, Handings, or_refused, handed, poll_for_events, ShownHandings, shown_handings, packets_of_handings, marks_of_handings}
 use Rattle.model.specs.declared.Connection.{Connection}
 use Rattle.model.specs.declared.ReplyFdKind.{ReplyFdKind}
 use Rattle.batch.specs.Theorems.{handing_gave}

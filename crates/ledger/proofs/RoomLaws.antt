@@ -1,5 +1,5 @@
 -- Laws of `specs/RoomLaws.antt`. Assumes nothing.
-use Rattle.std.specs.Prelude.{Bool, true, false, not, List, [], ◌∷◌, ◌++◌, ◌↔◌, ◌≡◌, refl, ℕ, ◌+◌, ◌<◌, leb}
+use Rattle.std.specs.Prelude.{Bool, true, false, not, List, [], ◌∷◌, ◌↔◌, ◌≡◌, refl, ℕ, ◌+◌, ◌<◌, leb}
 use Rattle.std.proofs.Common.{sym, ap, ◌∙◌, subst, arith}
 use Rattle.std.proofs.Math.ListN.{length}
 use borrow.Author.Tests.{leb-true, leb-false, le-leb, lt-leb, ltb-true, ltb-false, lt-ltb, le-ltb}
@@ -11,7 +11,7 @@ use Rattle.packet.specs.Laws.{number_refused}
 use Rattle.packet.specs.Packet.{least_packet, most_packet}
 use Rattle.held.specs.Head.{header_size}
 use Rattle.descriptors.specs.Room.{most_descriptors}
-use Rattle.model.specs.Client.{Held, Client, set_numbers, set_outstanding, used, inside}
+use Rattle.model.specs.Client.{Held, Client, used, inside}
 use Rattle.model.specs.Deciding.{filed_by}
 use Rattle.model.proofs.Deciding.{enqueue_chain}
 use Rattle.model.specs.Model as Model

@@ -11,7 +11,7 @@ use Rattle.requests.specs.Room.{capacity}
 use Rattle.requests.specs.declared.Request.{Request}
 use Rattle.sequence.specs.Numbering.{last_number}
 use Rattle.sequence.specs.Sending.{sync_span, must_sync}
-use Rattle.model.specs.Client.{Client, set_numbers, set_outstanding}
+use Rattle.model.specs.Client.{Client}
 use Rattle.model.specs.Model.{fresh, has_reply, joining, send_request}
 use Rattle.model.specs.Calls.{Call, send, Said, number, refused, Step, step, Ran, run}
 use Rattle.model.specs.Promise.{guarded_on, same}

@@ -1,12 +1,11 @@
 -- Laws of `specs/Deciding.antt`. Assumes nothing.
-use Rattle.std.specs.Prelude.{◌≡◌, refl, Bool, true, false, not, List, ℕ, ◌+◌, ◌≤◌, ltb, length}
+use Rattle.std.specs.Prelude.{◌≡◌, refl, Bool, true, false, not, List, ℕ, ◌≤◌, ltb, length}
 use Rattle.std.proofs.Common.{ap, ◌∙◌, ltb-false}
-use Rattle.octets.specs.Logic.{both, apart, both_yes}
-use Rattle.refusal.specs.Answer.{Answer, gives, refuse, pass, pass_agree, pass_refuse, pass_pass}
-use Rattle.packet.specs.Packet.{least_packet, most_packet, code_of, packet_class, unnumbered}
-use Rattle.held.specs.Head.{header_size}
-use Rattle.model.specs.Client.{Client, used}
-use Rattle.model.specs.Model.{packet_number, Asked, asked_of, place_of, claimed, is_held, Filing, task_by, ahead, decide_by, decide, take_in, enqueue_packet}
+use Rattle.octets.specs.Logic.{apart, both_yes}
+use Rattle.refusal.specs.Answer.{gives, refuse, pass, pass_agree, pass_refuse, pass_pass}
+use Rattle.packet.specs.Packet.{least_packet, most_packet, code_of, unnumbered}
+use Rattle.model.specs.Client.{Client}
+use Rattle.model.specs.Model.{packet_number, Asked, asked_of, claimed, ahead, decide_by, decide, take_in, enqueue_packet}
 use Rattle.model.specs.Deciding.{filed_by}
 
 -- A numbered packet that is not ahead is of a request that was sent.

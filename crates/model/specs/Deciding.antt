@@ -1,12 +1,12 @@
 -- A packet taken in, refusal by refusal. Assumes nothing.
-use Rattle.std.specs.Prelude.{◌≡◌, refl, Bool, true, false, not, List, ℕ, ◌+◌, ◌≤◌, ltb, length}
-use Rattle.std.proofs.Common.{ap, ◌∙◌, ltb-false}
-use Rattle.octets.specs.Logic.{both, apart, both_yes}
-use Rattle.refusal.specs.Answer.{Answer, gives, refuse, pass, pass_agree, pass_refuse, pass_pass}
-use Rattle.packet.specs.Packet.{least_packet, most_packet, code_of, packet_class, unnumbered}
+use Rattle.std.specs.Prelude.{List, ℕ, ◌+◌, ltb, length}
+use Rattle.octets.specs.Logic.{both}
+use Rattle.refusal.specs.Answer.{Answer, gives, refuse}
+use Rattle.packet.specs.Packet.{code_of, packet_class}
 use Rattle.held.specs.Head.{header_size}
 use Rattle.model.specs.Client.{Client, used}
-use Rattle.model.specs.Model.{packet_number, Asked, asked_of, place_of, claimed, is_held, Filing, task_by, ahead, decide_by, decide, take_in, enqueue_packet}
+use Rattle.model.specs.Model.{Asked, place_of, claimed, is_held, Filing, task_by, ahead, take_in}
+
 -- a packet that has its number and whose request is known: 4, 5, or it is taken in;
 abbrev pub fitted_by : Client → List ℕ → ℕ → Asked → Answer (Filing × Client)
 fitted_by c p n a =

@@ -14,7 +14,7 @@ use Rattle.requests.specs.declared.Request.{Request}
 use Rattle.held.specs.Head as Head
 use Rattle.held.specs.Reading as Store
 use Rattle.held.specs.Rows.{length_flat, costs_append}
-use Rattle.descriptors.specs.Room.{counted, most_descriptors}
+use Rattle.descriptors.specs.Room.{counted}
 use Rattle.model.specs.Client.{Held, Client, first, used, costs, descriptors_of, inside}
 use Rattle.model.specs.Reading.{Rooms, reads}
 use Rattle.model.specs.Sound.{Sound}

@@ -1,12 +1,11 @@
 -- Laws of `specs/Ranges.antt`. Assumes nothing.
-use Rattle.std.specs.Prelude.{◌≡◌, true, ℕ, ◌≤◌, ◌<◌}
+use Rattle.std.specs.Prelude.{◌≡◌, true, ℕ}
 use Rattle.std.proofs.Math.Path.{refl, sym, ap}
 use mathlib.Core.List.{List, [], ◌∷◌}
 use native.Mathlib.Omega.{arith}
 use Rattle.std.proofs.Math.ListN.{length, length-append}
 use borrow.Author.Tests.{leb-true, ltb-true, eqb-true, le-leb, lt-ltb, eq-eqb}
 use Rattle.octets.specs.Logic.{both_left, both_right, both_yes}
-use Rattle.octets.specs.Bytes.{legal}
 use Rattle.sequence.specs.Numbering.{last_number}
 use Rattle.packet.specs.Packet.{least_packet, most_packet}
 use Rattle.packet_reader.specs.Reader as Reader

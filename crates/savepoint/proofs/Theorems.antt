@@ -10,7 +10,6 @@ use Rattle.octets.specs.Bytes.{Octets}
 use Rattle.octets.specs.Put.{cut, cut_put}
 use Rattle.refusal.specs.Answer.{Answer, gives, refuses, refuse, pass, gives_past, gives_rest, gives_same, pass_given, past_refusal}
 use Rattle.packet_reader.specs.Sound as Reader
-use Rattle.id_allocator.specs.Ids as Ids
 use Rattle.requests.specs.Room.{bytes_for}
 use Rattle.requests.specs.Theorems.{capacity_bytes}
 use Rattle.descriptors.specs.Room.{most_descriptors}

@@ -1,23 +1,14 @@
 -- The test of a saved state is the rules' sentence: in range, as the model has it, and without descriptors. Assumes nothing.
 use Rattle.std.specs.Prelude.{◌≡◌, true, ℕ, ◌≤◌, ◌<◌}
-use Rattle.std.proofs.Math.Path.{refl, sym, ap}
-use mathlib.Core.List.{List, [], ◌∷◌}
-use native.Mathlib.Omega.{arith}
-use Rattle.std.proofs.Math.ListN.{length, length-append}
-use borrow.Author.Tests.{leb-true, ltb-true, eqb-true, le-leb, lt-ltb, eq-eqb}
-use Rattle.octets.specs.Logic.{both_left, both_right, both_yes}
+use Rattle.std.proofs.Math.ListN.{length}
 use Rattle.octets.specs.Bytes.{legal}
 use Rattle.sequence.specs.Numbering.{last_number}
 use Rattle.packet.specs.Packet.{least_packet, most_packet}
-use Rattle.packet_reader.specs.Reader as Reader
 use Rattle.requests.specs.Room.{requests_most}
 use Rattle.held.specs.Head.{most_store}
-use Rattle.model.specs.Client.{Held, Client, used, inside, descriptors_of}
+use Rattle.model.specs.Client.{Held, Client}
 use Rattle.model.specs.Model.{least_store}
-use Rattle.model.specs.Batch.{Each}
-use Rattle.model.specs.Encoding.{ReplyFits, EventFits, NeverFall, InRange}
-use Rattle.form.specs.Form.{each}
-use Rattle.savepoint.specs.Saved.{Partial, target, held_fits, never_fall, in_numbers, in_range, sound_partial}
+use Rattle.savepoint.specs.Saved.{Partial, target}
 
 -- ---- held packets
 

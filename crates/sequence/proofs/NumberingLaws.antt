@@ -1,8 +1,8 @@
 -- Laws of `specs/Numbering.antt`. Assumes nothing.
-use Rattle.std.specs.Prelude.{◌≡◌, ℕ, ◌+◌, ◌-◌, ◌%◌, ◌<◌, ◌≤◌, nat_lt, refl}
+use Rattle.std.specs.Prelude.{◌≡◌, ℕ, ◌+◌, ◌%◌, ◌<◌, ◌≤◌, refl}
 use Rattle.std.proofs.Common.{sym, ap, ◌∙◌, arith, lt-ltb, le-ltb}
 use Rattle.refusal.specs.Answer.{Answer, gives, refuses, refuse, decides}
-use Rattle.refusal.specs.Numbers.{number_of, refusal_of, listed}
+use Rattle.refusal.specs.Numbers.{refusal_of, listed}
 use Rattle.sequence.specs.declared.Full.{Full}
 use Rattle.sequence.specs.Numbering.{last_number, wire_values, Least, in_range, FullNumber, says_full, full}
 

@@ -1,8 +1,7 @@
 -- 01, Numbering and filing: the full number of a packet. Assumes nothing.
-use Rattle.std.specs.Prelude.{◌≡◌, ℕ, ◌+◌, ◌-◌, ◌%◌, ◌<◌, ◌≤◌, nat_lt, refl}
-use Rattle.std.proofs.Common.{sym, ap, ◌∙◌, arith, lt-ltb, le-ltb}
-use Rattle.refusal.specs.Answer.{Answer, gives, refuses, refuse, decides}
-use Rattle.refusal.specs.Numbers.{number_of, refusal_of, listed}
+use Rattle.std.specs.Prelude.{◌≡◌, ℕ, ◌+◌, ◌-◌, ◌%◌, ◌≤◌, nat_lt}
+use Rattle.refusal.specs.Answer.{Answer, gives, refuses, refuse}
+use Rattle.refusal.specs.Numbers.{number_of}
 use Rattle.sequence.specs.declared.Full.{Full}
 
 -- 01, Rooms: full numbers run from 0 to 2^63 - 1
