@@ -28,6 +28,7 @@ pub struct Shown {
 }
 
 pub(crate) fn line(
+    rt: &impl Print,
     start: Done,
     op: Op,
     requests: &[u8],
@@ -37,8 +38,17 @@ pub(crate) fn line(
 ) -> Done {
     let first = fresh(start, op.a as usize);
     let take = op.code == script::FEEDIN;
-    let shown = all(first, op.b as usize, take, requests, store, slots, bytes);
-    told(shown, start.waiting, bytes)
+    let shown = all(
+        rt,
+        first,
+        op.b as usize,
+        take,
+        requests,
+        store,
+        slots,
+        bytes,
+    );
+    told(rt, shown, start.waiting, bytes)
 }
 
 fn fresh(start: Done, from: usize) -> Shown {
@@ -55,24 +65,25 @@ fn fresh(start: Done, from: usize) -> Shown {
 }
 
 // How many packets came, the reader's room, the packets, and what stopped it.
-fn told(shown: Shown, waiting: usize, bytes: &mut [u8]) -> Done {
+fn told(rt: &impl Print, shown: Shown, waiting: usize, bytes: &mut [u8]) -> Done {
     let room = leaves::room(shown.reader, bytes);
     let counts = text::both(text::PACKETS, shown.count, text::ROOM, room as u64, 0);
-    let a = text::tell(bytes, waiting, counts);
+    let a = text::tell(rt, bytes, waiting, counts);
     let b = text::join(bytes, a, text::behind(waiting, WORDS), shown.text);
     let c = shown.connection;
-    crate::left(c, shown.reader, stopping(shown.stop, bytes, b))
+    crate::left(c, shown.reader, stopping(rt, shown.stop, bytes, b))
 }
 
-fn stopping(stop: u8, bytes: &mut [u8], waiting: usize) -> usize {
+fn stopping(rt: &impl Print, stop: u8, bytes: &mut [u8], waiting: usize) -> usize {
     if stop == 0 {
         return waiting;
     }
-    text::counted(bytes, waiting, b" refused ", stop as u64)
+    text::counted(rt, bytes, waiting, b" refused ", stop as u64)
 }
 
 // A proved loop has to end, so it counts down the bytes: each turn uses one at least.
 fn all(
+    rt: &impl Print,
     start: Shown,
     end: usize,
     take: bool,
@@ -88,7 +99,7 @@ fn all(
         if is_over(shown, end) {
             return shown;
         }
-        shown = one(shown, end, take, requests, store, slots, bytes);
+        shown = one(rt, shown, end, take, requests, store, slots, bytes);
     }
     shown
 }
@@ -101,6 +112,7 @@ fn is_over(shown: Shown, end: usize) -> bool {
 }
 
 fn one(
+    rt: &impl Print,
     shown: Shown,
     end: usize,
     take: bool,
@@ -115,7 +127,7 @@ fn one(
         }
         Fed::Packet(n, len, class, reader) => {
             let next = on(shown, n, reader);
-            return came(next, len, class, take, requests, store, slots, bytes);
+            return came(rt, next, len, class, take, requests, store, slots, bytes);
         }
         Fed::Refused(refusal) => {
             return stopped(shown, refusal);
@@ -125,6 +137,7 @@ fn one(
 
 // A packet, which is at the start of the reader's buffer.
 fn came(
+    rt: &impl Print,
     shown: Shown,
     len: usize,
     class: Class,
@@ -134,7 +147,7 @@ fn came(
     slots: &mut [u32],
     bytes: &mut [u8],
 ) -> Shown {
-    let next = seen(shown, len, class, bytes);
+    let next = seen(rt, shown, len, class, bytes);
     if !take {
         return next;
     }
@@ -155,10 +168,10 @@ fn stopped(shown: Shown, refusal: Refusal) -> Shown {
 }
 
 // It is shown with its class, and counted.
-fn seen(shown: Shown, len: usize, class: Class, bytes: &mut [u8]) -> Shown {
+fn seen(rt: &impl Print, shown: Shown, len: usize, class: Class, bytes: &mut [u8]) -> Shown {
     let mut next = shown;
-    let a = text::packet(bytes, shown.text, leaves::READER, len);
-    next.text = text::class(bytes, a, packet::class_number(class) as u64);
+    let a = text::packet(rt, bytes, shown.text, leaves::READER, len);
+    next.text = text::class(rt, bytes, a, packet::class_number(class) as u64);
     next.count = text::up(shown.count);
     next
 }

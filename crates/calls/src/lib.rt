@@ -4,6 +4,7 @@
 // text come back side by side, and a refused call hands back the state that it was given. Packets go
 // in and out of one lent run of bytes, in which the text stands too. No call has a `requires`.
 #![tactic(auto)]
+
 mod feeds;
 mod many;
 mod polls;
@@ -43,6 +44,7 @@ pub fn left(connection: Connection, reader: Buffered, waiting: usize) -> Done {
 
 // A command of the connection, over rooms as long as it was opened with.
 pub fn line(
+    rt: &impl Print,
     start: Done,
     op: Op,
     requests: &mut [u8],
@@ -58,11 +60,20 @@ pub fn line(
     if store.len() < s {
         return start;
     }
-    ended(start, op, &mut requests[..k], &mut store[..s], slots, bytes)
+    ended(
+        rt,
+        start,
+        op,
+        &mut requests[..k],
+        &mut store[..s],
+        slots,
+        bytes,
+    )
 }
 
 // The command, and what it put on the close list.
 fn ended(
+    rt: &impl Print,
     start: Done,
     op: Op,
     requests: &mut [u8],
@@ -70,15 +81,16 @@ fn ended(
     slots: &mut [u32],
     bytes: &mut [u8],
 ) -> Done {
-    let done = carried(start, op, requests, store, slots, bytes);
+    let done = carried(rt, start, op, requests, store, slots, bytes);
     if done.connection.counts.closed == 0 {
         return done;
     }
-    close(done, requests, store, slots, bytes)
+    close(rt, done, requests, store, slots, bytes)
 }
 
 // The commands that write more than one call's answer, and the others.
 fn carried(
+    rt: &impl Print,
     start: Done,
     op: Op,
     requests: &mut [u8],
@@ -89,21 +101,22 @@ fn carried(
     let code = op.code;
     match code {
         script::FEED | script::FEEDIN => {
-            return feeds::line(start, op, requests, store, slots, bytes);
+            return feeds::line(rt, start, op, requests, store, slots, bytes);
         }
         script::DRAIN => {
-            return many::drain(start, requests, store, slots, bytes);
+            return many::drain(rt, start, requests, store, slots, bytes);
         }
         script::POLL_REPLY_OR_ERROR => {
-            return polls::reply_or_error(start, op.a, requests, store, slots, bytes);
+            return polls::reply_or_error(rt, start, op.a, requests, store, slots, bytes);
         }
         _ => {
-            return single(start, op, requests, store, slots, bytes);
+            return single(rt, start, op, requests, store, slots, bytes);
         }
     }
 }
 
 fn single(
+    rt: &impl Print,
     start: Done,
     op: Op,
     requests: &mut [u8],
@@ -113,14 +126,14 @@ fn single(
 ) -> Done {
     let c = start.connection;
     let called = make(c, op, requests, store, slots, bytes);
-    answered(start, called, bytes)
+    answered(rt, start, called, bytes)
 }
 
 // The answer written.
-pub(crate) fn answered(start: Done, called: Called, bytes: &mut [u8]) -> Done {
+pub(crate) fn answered(rt: &impl Print, start: Done, called: Called, bytes: &mut [u8]) -> Done {
     let c = called.connection;
     let answer = called.answer;
-    let waiting = text::tell(bytes, start.waiting, answer);
+    let waiting = text::tell(rt, bytes, start.waiting, answer);
     left(c, start.reader, waiting)
 }
 
@@ -183,13 +196,21 @@ fn taken(
 }
 
 // The close list, taken whole and listed.
-fn close(start: Done, requests: &[u8], store: &[u8], slots: &mut [u32], bytes: &mut [u8]) -> Done {
+fn close(
+    rt: &impl Print,
+    start: Done,
+    requests: &[u8],
+    store: &[u8],
+    slots: &mut [u32],
+    bytes: &mut [u8],
+) -> Done {
     let mut space = [0u32; LIST];
     let list: &mut [u32] = &mut space;
     let c = start.connection;
     match connection::take_closed_fds(c, requests, store, slots, list) {
         Closed::Taken(count, next) => {
             return listed(
+                rt,
                 left(next, start.reader, start.waiting),
                 b" closed",
                 count,
@@ -208,6 +229,7 @@ pub(crate) const LIST: usize = 257;
 
 // A word, and the first descriptors of a list.
 pub(crate) fn listed(
+    rt: &impl Print,
     start: Done,
     word: &[u8],
     count: usize,
@@ -215,6 +237,6 @@ pub(crate) fn listed(
     bytes: &mut [u8],
 ) -> Done {
     let mut done = start;
-    done.waiting = text::first(bytes, start.waiting, word, list, count);
+    done.waiting = text::first(rt, bytes, start.waiting, word, list, count);
     done
 }

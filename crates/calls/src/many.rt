@@ -89,6 +89,7 @@ const MARKS: usize = 6144;
 // One call that hands out many events. Their packets go to the start of the run of bytes, up to the
 // reader's buffer.
 pub(crate) fn drain(
+    rt: &impl Print,
     start: Done,
     requests: &[u8],
     store: &mut [u8],
@@ -99,7 +100,7 @@ pub(crate) fn drain(
     let marks: &mut [u64] = &mut space;
     let c = start.connection;
     let answer = polled(c, leaves::READER, requests, store, slots, bytes, marks);
-    drained(start, answer, bytes, marks)
+    drained(rt, start, answer, bytes, marks)
 }
 
 // As many as fit into the first bytes, so many of them, and into the marks.
@@ -118,27 +119,28 @@ fn polled(
     connection::poll_for_events(c, requests, store, slots, &mut bytes[..room], marks)
 }
 
-fn drained(start: Done, answer: Events, bytes: &mut [u8], marks: &[u64]) -> Done {
+fn drained(rt: &impl Print, start: Done, answer: Events, bytes: &mut [u8], marks: &[u64]) -> Done {
     match answer {
         Events::Handed(count, _, _, next) => {
-            let a = text::counted(bytes, start.waiting, b" events ", count as u64);
-            let b = events(count, marks, bytes, a);
+            let a = text::counted(rt, bytes, start.waiting, b" events ", count as u64);
+            let b = events(rt, count, marks, bytes, a);
             return crate::left(next, start.reader, b);
         }
         Events::Refused(refusal) => {
             let c = start.connection;
-            return crate::answered(start, sends::refused(c, refusal), bytes);
+            return crate::answered(rt, start, sends::refused(c, refusal), bytes);
         }
     }
 }
 
-fn events(count: usize, marks: &[u64], bytes: &mut [u8], waiting: usize) -> usize {
+fn events(rt: &impl Print, count: usize, marks: &[u64], bytes: &mut [u8], waiting: usize) -> usize {
     let mut next = waiting;
     let mut from = 0;
     let mut i = 0;
     while i < count {
         let len = length_at(marks, i);
         next = event(
+            rt,
             number_at(marks, i),
             from,
             len,
@@ -154,6 +156,7 @@ fn events(count: usize, marks: &[u64], bytes: &mut [u8], waiting: usize) -> usiz
 
 // An event's number, its packet, which stands from an index on, and the packet's class.
 fn event(
+    rt: &impl Print,
     number: u64,
     from: usize,
     len: usize,
@@ -161,9 +164,9 @@ fn event(
     bytes: &mut [u8],
     waiting: usize,
 ) -> usize {
-    let a = text::counted(bytes, waiting, b" ", number);
-    let b = text::packet(bytes, a, from, len);
-    text::class(bytes, b, class)
+    let a = text::counted(rt, bytes, waiting, b" ", number);
+    let b = text::packet(rt, bytes, a, from, len);
+    text::class(rt, bytes, b, class)
 }
 
 // The three marks of an event: its number, the length of its packet and the number of its class.

@@ -95,6 +95,7 @@ fn shown(handed: Handed) -> text::Answer {
 
 // The one call that hands out descriptors besides, which are listed behind its packet.
 pub(crate) fn reply_or_error(
+    rt: &impl Print,
     start: Done,
     number: u64,
     requests: &[u8],
@@ -114,17 +115,17 @@ pub(crate) fn reply_or_error(
         bytes,
         list,
     );
-    handed(start, answer, list, bytes)
+    handed(rt, start, answer, list, bytes)
 }
 
-fn handed(start: Done, answer: Polled, list: &[u32], bytes: &mut [u8]) -> Done {
+fn handed(rt: &impl Print, start: Done, answer: Polled, list: &[u32], bytes: &mut [u8]) -> Done {
     let c = start.connection;
-    let done = crate::answered(start, polled(c, answer), bytes);
+    let done = crate::answered(rt, start, polled(c, answer), bytes);
     let count = count_of(answer);
     if count == 0 {
         return done;
     }
-    crate::listed(done, b" fds", count, list, bytes)
+    crate::listed(rt, done, b" fds", count, list, bytes)
 }
 
 fn polled(c: Connection, answer: Polled) -> Called {

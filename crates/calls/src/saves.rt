@@ -16,21 +16,31 @@ pub struct Point {
     pub waiting: usize,
 }
 
-fn answered(start: Point, answer: Answer, bytes: &mut [u8]) -> Point {
+fn answered(rt: &impl Print, start: Point, answer: Answer, bytes: &mut [u8]) -> Point {
     let mut next = start;
-    next.waiting = text::tell(bytes, start.waiting, answer);
+    next.waiting = text::tell(rt, bytes, start.waiting, answer);
     next
 }
 
+// The longest buffer of a reader.
+const LONGEST: usize = 65536;
+
 // ---- `save`
 
-pub fn save(start: Point, requests: &[u8], store: &[u8], slots: &[u32], bytes: &mut [u8]) -> Point {
+pub fn save(
+    rt: &impl Print,
+    start: Point,
+    requests: &[u8],
+    store: &[u8],
+    slots: &[u32],
+    bytes: &mut [u8],
+) -> Point {
     let client = start.client;
     let c = client.connection;
     let outstanding = text::cut(requests, 0, requests::bytes_for(c.capacity));
     let held = text::cut(store, 0, c.room);
     let answer = written(client, start.room, outstanding, held, slots, bytes);
-    answered(start, shown(answer), bytes)
+    answered(rt, start, shown(answer), bytes)
 }
 
 fn shown(answer: Saved) -> Answer {
@@ -49,7 +59,7 @@ fn written(
     slots: &[u32],
     bytes: &mut [u8],
 ) -> Saved {
-    let mut space = io::large_buffer();
+    let mut space = [0u8; LONGEST];
     let buf: &mut [u8] = &mut space;
     let n = copied(buf, room, bytes);
     put(client, requests, store, slots, text::cut(buf, 0, n), bytes)
@@ -86,6 +96,7 @@ fn put(
 // The bytes from one index to another are a savepoint. Rooms are as long as it says; those that are
 // longer than the program's own are refused by 9, since its own are lent then.
 pub fn restore(
+    rt: &impl Print,
     start: Point,
     op: Op,
     requests: &mut [u8],
@@ -93,7 +104,7 @@ pub fn restore(
     slots: &[u32],
     bytes: &mut [u8],
 ) -> Point {
-    let mut space = io::large_buffer();
+    let mut space = [0u8; LONGEST];
     let buf: &mut [u8] = &mut space;
     let saved = text::cut(bytes, op.a as usize, op.b as usize);
     let lengths = lengths_in(saved);
@@ -101,10 +112,10 @@ pub fn restore(
     match answer {
         Restored::Client(client) => {
             let next = laid(client, start, text::cut(buf, 0, lengths.buffer), bytes);
-            return answered(next, text::say(text::OK), bytes);
+            return answered(rt, next, text::say(text::OK), bytes);
         }
         Restored::Refused(refusal) => {
-            return answered(start, text::refusal(refusal), bytes);
+            return answered(rt, start, text::refusal(refusal), bytes);
         }
     }
 }

@@ -6,6 +6,7 @@ use shown::{Beside, Partial, Told};
 
 // Where the text ends then. The command's number is 1 for `state full`, else 0.
 pub fn state(
+    rt: &impl Print,
     c: Connection,
     leaves: Leaves,
     op: Op,
@@ -17,8 +18,8 @@ pub fn state(
 ) -> usize {
     let outstanding = text::cut(requests, 0, requests::bytes_for(c.capacity));
     let held = text::cut(store, 0, c.room);
-    let a = shown::line(told(c), outstanding, held, slots, bytes, waiting);
-    shown::behind(beside(c, leaves), op.a == 1, held, bytes, a)
+    let a = shown::line(rt, told(c), outstanding, held, slots, bytes, waiting);
+    shown::behind(rt, beside(c, leaves), op.a == 1, held, bytes, a)
 }
 
 fn told(c: Connection) -> Told {

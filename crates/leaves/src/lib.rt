@@ -6,6 +6,7 @@
 // bytes that a script puts into them somewhere behind. No call has a `requires`: where the run is
 // too short, the reader or the handshake is refused by 9.
 #![tactic(auto)]
+
 mod handshake;
 mod ids;
 mod moves;

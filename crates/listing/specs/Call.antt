@@ -9,13 +9,10 @@ use Rattle.packet.specs.Packet.{code_of, number_after}
 use Rattle.packet_reader.specs.Front.{Front, nothing, part, long, whole, front_of}
 use Rattle.listing.specs.Text.{first_line, line_of, end_line, refused_line}
 use Rattle.listing.specs.declared.Stage.{Stage}
-use Rattle.listing.specs.declared.Stage.TheVariants as Stage
 use Rattle.listing.specs.declared.Wants.{Wants}
-use Rattle.listing.specs.declared.Wants.TheVariants as Wants
 use Rattle.listing.specs.declared.Turn.{Turn}
 use Rattle.listing.specs.declared.lines.Listed.{Listed}
 use Rattle.listing.specs.declared.lines.Next.{Next}
-use Rattle.listing.specs.declared.lines.Next.TheVariants as Next
 
 -- a number below 2^64 has at most 20 digits, and a byte stands behind it; a line has three such items
 abbrev pub item_most : ℕ

@@ -1,10 +1,10 @@
--- The digits that `io::decimal` gives are those of the text. Assumes nothing.
+-- The digits that `number::decimal` gives are those of the text. Assumes nothing.
 use Rattle.std.specs.Prelude.{◌≡◌, [], ◌∷◌, ◌++◌, ℕ, zero, suc, ◌+◌, ◌-◌, ◌*◌, ◌/◌, ◌%◌, ◌^◌, ◌≤◌, ◌<◌, ltb}
 use Rattle.std.proofs.Common.{subst, arith, Fits, lt-ltb, le-ltb}
 use Rattle.std.proofs.Math.Nat.{pow-succ', one-le-pow, pow-le-pow_right}
 use Rattle.std.proofs.Math.Decide.{dec_le}
 use Rattle.std.specs.Int.{w64}
-use Rattle.io.specs.Digits.{last_digits, IsDigitCount, hex_digit_ascii}
+use Rattle.listing.specs.Number.{last_digits, IsDigitCount, hex_digit_ascii}
 use Rattle.listing.specs.Text.{digits_in, decimal}
 
 -- a power more is ten times as much

@@ -1,33 +1,27 @@
 -- Laws of lines as they are written, and of what bytes begin with. Assumes nothing.
-use Rattle.std.specs.Prelude.{◌≡◌, refl, Bool, true, false, List, [], ◌∷◌, ◌++◌, ℕ, ◌+◌, ◌-◌, ◌≤◌, ◌<◌, length, take, set}
+use Rattle.std.specs.Prelude.{◌≡◌, refl, Bool, true, false, List, [], ◌∷◌, ◌++◌, ℕ, ◌+◌, ◌≤◌, ◌<◌, length, take, set}
 use Rattle.std.proofs.Common.{sym, ◌∙◌, subst, arith, length-append, length-take-le, lt-ltb, le-ltb}
 use Rattle.std.proofs.Math.Path.{ap}
-use Rattle.io.specs.Digits.{last_digits, IsDigitCount}
+use Rattle.listing.specs.Number.{last_digits, IsDigitCount}
 use Rattle.octets.specs.Logic.{choose}
 use Rattle.octets.specs.Bytes.{little_order}
 use Rattle.octets.specs.Put.{put, length_put, put_none, put_put, set_behind}
 use Rattle.refusal.specs.Answer.{Answer, gives, refuses}
 use Rattle.refusal.specs.declared.Refusal.{Refusal}
-use Rattle.refusal.specs.declared.Refusal.TheVariants as Refusal
 use Rattle.sequence.specs.Numbering.{says_full}
 use Rattle.sequence.specs.declared.Full.{Full}
-use Rattle.sequence.specs.declared.Full.TheVariants as Full
 use Rattle.sequence.specs.declared.SequenceNumber.{SequenceNumber}
 use Rattle.packet.specs.Packet.{least_packet, number_after}
 use Rattle.packet.specs.Class.{says_class}
 use Rattle.packet.specs.declared.Class.{Class}
 use Rattle.packet_reader.specs.Front.{Front, nothing, part, long, whole, front_of, says_begins, tells_whole}
 use Rattle.packet_reader.specs.declared.Begins.{Begins}
-use Rattle.packet_reader.specs.declared.Begins.TheVariants as Begins
 use Rattle.listing.specs.Text.{decimal, item, first_line, line_of, end_line, refused_line}
 use Rattle.listing.specs.Digits.{decimal_is}
 use Rattle.listing.specs.Call.{item_most, line_most, Wrote, none, refused, packet, with_number, numbered_of, ahead_by, ahead_of, says_next, opening, closing, closes, waits, start, after, room, Lists}
 use Rattle.listing.specs.declared.Stage.{Stage}
-use Rattle.listing.specs.declared.Stage.TheVariants as Stage
 use Rattle.listing.specs.declared.Wants.{Wants}
-use Rattle.listing.specs.declared.Wants.TheVariants as Wants
 use Rattle.listing.specs.declared.lines.Next.{Next}
-use Rattle.listing.specs.declared.lines.Next.TheVariants as Next
 
 -- ---- Lines as they are written
 

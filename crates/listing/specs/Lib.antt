@@ -1,4 +1,5 @@
 pub mod Text
+pub mod Number
 pub mod Digits
 pub mod Call
 pub mod Laws

@@ -14,7 +14,6 @@ use Rattle.listing.specs.Text.{first_line, line_of, refused_line}
 use Rattle.listing.specs.Call.{line_most, Wrote, Ahead, none, refused, packet, ahead_of, Point, Row, waits, closes, behind, closing, turn, rows, row_of, opening, call_of, start, after, ended, room, point_of, want_of, Lists, Turns}
 use Rattle.listing.specs.Laws.{packet_fits}
 use Rattle.listing.specs.declared.Stage.{Stage}
-use Rattle.listing.specs.declared.Stage.TheVariants as Stage
 use Rattle.listing.specs.declared.Wants.TheVariants as Wants
 use Rattle.listing.specs.declared.lines.Listed.{Listed}
 

@@ -6,9 +6,7 @@ use Rattle.listing.specs.Text.{first_line, text_of}
 use Rattle.packet.specs.Packet.{least_packet}
 use Rattle.listing.specs.Call.{line_most, Point, start, after, ended, Want, bytes, room, nothing_more, Row, call_of, point_of, want_of, Turns}
 use Rattle.listing.specs.declared.Stage.{Stage}
-use Rattle.listing.specs.declared.Stage.TheVariants as Stage
 use Rattle.listing.specs.declared.Wants.{Wants}
-use Rattle.listing.specs.declared.Wants.TheVariants as Wants
 use Rattle.listing.specs.declared.Turn.{Turn}
 use Rattle.listing.specs.Loop.{call_used}
 use Rattle.listing.specs.Ends.{Comes, last, later, call_comes, call_opens}

@@ -6,7 +6,9 @@
 // lent: the text of a stream is the same however the bytes come and however often the output is
 // handed on (`any_pieces`).
 #![tactic(auto)]
+
 mod lines;
+mod number;
 
 ghost use Rattle.std.specs.Prelude.{◌≤◌, length, take};
 ghost use Rattle.listing.specs.Call.{opening, call_of, point_of, Lists, Turns};

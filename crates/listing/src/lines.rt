@@ -5,7 +5,7 @@ ghost use Rattle.packet.specs.Packet.{least_packet};
 ghost use Rattle.listing.specs.Text.{newline, item as text_item, line_of, refused_line};
 ghost use Rattle.listing.specs.Call.{item_most, line_most, Wrote, ahead_of, numbered_of, says_next, Lists, closing as call_closing, closes, row_of};
 
-use super::{Stage, Wants};
+use super::{Stage, Wants, number};
 use packet_reader::Begins;
 use refusal::Refusal;
 use sequence::{Full, SequenceNumber};
@@ -28,7 +28,7 @@ fn item(out: &mut [u8], at: usize, n: u64, behind: u8) -> usize
     ensures { Wrote item_most out.old at (text_item n behind) result out.new }
 {
     let mut text = [0u8; 20];
-    let k = io::decimal(n, &mut text);
+    let k = number::decimal(n, &mut text);
     octets::copy_in(out, at, &text[..k]);
     let end = at + k;
     out[end] = behind;

@@ -3,34 +3,36 @@
 // The program reads, asks `listing` for text, and writes it. What the text is, and when bytes or
 // room are wanted, is decided there.
 #![tactic(auto)]
-ghost use Rattle.std.specs.Prelude.{◌≤◌, length};
 
-use libc::{STDIN_FILENO, STDOUT_FILENO};
+ghost use Rattle.std.specs.Prelude.{◌≤◌, length, IfOk};
+
 use listing::{Stage, Wants};
+use std::io;
+use std::io::Read;
 
 // The buffer has twice the bytes of the longest packet: where bytes are wanted less than one packet
 // is held, so there is room behind it.
-fn main() {
+fn main(rt: HostRuntime) -> io::Result<()> {
     let mut space = [0u8; 131072];
     let buf: &mut [u8] = &mut space;
-    let mut text = io::large_buffer();
+    let mut text = [0u8; 65536];
     let out: &mut [u8] = &mut text;
-    run(buf, out);
+    run(&rt, &mut rt.stdin(), buf, out)
 }
 
 // More bytes behind those held; how many are held then.
-fn more(buf: &mut [u8], held: usize) -> usize
+fn more(input: &mut impl Read, buf: &mut [u8], held: usize) -> io::Result<usize>
     requires { held ≤ length buf.old }
-    ensures { (held ≤ result) × (result ≤ length buf.new) }
+    ensures { IfOk result (λ n. (held ≤ n) × (n ≤ length buf.new)) }
 {
     let end = buf.len();
     let part = &mut buf[held..end];
-    let n = io::count(libc::read(STDIN_FILENO, part), part);
-    held + n
+    let n = input.read(part)?;
+    Ok(held + n)
 }
 
 // A proved loop has to end, so it counts turns down from a number that no run uses up.
-fn run(buf: &mut [u8], out: &mut [u8]) {
+fn run(rt: &impl Print, input: &mut impl Read, buf: &mut [u8], out: &mut [u8]) -> io::Result<()> {
     let mut place = Stage::Start;
     let mut held = 0;
     let mut over = false;
@@ -39,20 +41,21 @@ fn run(buf: &mut [u8], out: &mut [u8]) {
         turns -= 1;
         let turn = listing::list(place, buf, held, over, out);
         let written = turn.written;
-        io::write_all(STDOUT_FILENO, &out[..written]);
+        rt.write_all(&out[..written])?;
         place = turn.place;
         held = turn.held;
         let wants = turn.wants;
         match wants {
             Wants::Bytes => {
-                let filled = more(buf, held);
+                let filled = more(input, buf, held)?;
                 over = filled == held;
                 held = filled;
             }
             Wants::Room => {}
             Wants::Nothing => {
-                return;
+                return Ok(());
             }
         }
     }
+    Ok(())
 }

@@ -68,31 +68,37 @@ pub(crate) fn counted(checks: Checks, verdict: Verdict) -> Checks {
 }
 
 // The verdict on the line of a number, behind what waits.
-pub(crate) fn write(verdict: Verdict, number: u64, waiting: usize, bytes: &mut [u8]) -> usize {
-    let a = text::verdict(bytes, waiting);
-    let b = say(verdict, number, a, bytes);
-    text::word(bytes, b, b"\n")
+pub(crate) fn write(
+    rt: &impl Print,
+    verdict: Verdict,
+    number: u64,
+    waiting: usize,
+    bytes: &mut [u8],
+) -> usize {
+    let a = text::verdict(rt, bytes, waiting);
+    let b = say(rt, verdict, number, a, bytes);
+    text::word(rt, bytes, b, b"\n")
 }
 
-fn say(verdict: Verdict, number: u64, waiting: usize, bytes: &mut [u8]) -> usize {
+fn say(rt: &impl Print, verdict: Verdict, number: u64, waiting: usize, bytes: &mut [u8]) -> usize {
     match verdict {
         Verdict::Same => {
-            return text::word(bytes, waiting, b"expect ok");
+            return text::word(rt, bytes, waiting, b"expect ok");
         }
         Verdict::Differs => {
-            return text::counted(bytes, waiting, b"expect differs at line ", number);
+            return text::counted(rt, bytes, waiting, b"expect differs at line ", number);
         }
         Verdict::Long => {
-            return text::counted(bytes, waiting, b"expect long at line ", number);
+            return text::counted(rt, bytes, waiting, b"expect long at line ", number);
         }
     }
 }
 
 // What came of all that was expected, if something was.
-pub(crate) fn total(checks: Checks, waiting: usize, bytes: &mut [u8]) -> usize {
+pub(crate) fn total(rt: &impl Print, checks: Checks, waiting: usize, bytes: &mut [u8]) -> usize {
     if checks.expected == 0 {
         return waiting;
     }
-    let a = text::counted(bytes, waiting, b" expected ", checks.expected);
-    text::counted(bytes, a, b" differ ", checks.differ)
+    let a = text::counted(rt, bytes, waiting, b" expected ", checks.expected);
+    text::counted(rt, bytes, a, b" differ ", checks.differ)
 }

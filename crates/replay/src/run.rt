@@ -30,6 +30,7 @@ pub(crate) fn fresh(c: Connection) -> State {
 }
 
 pub(crate) fn line(
+    rt: &impl Print,
     state: State,
     place: Input,
     requests: &mut [u8],
@@ -44,15 +45,16 @@ pub(crate) fn line(
             return state;
         }
         script::EXPECT => {
-            return expected(state, op, place.number, bytes);
+            return expected(rt, state, op, place.number, bytes);
         }
         _ => {
-            return carried(state, place, op, requests, store, slots, bytes);
+            return carried(rt, state, place, op, requests, store, slots, bytes);
         }
     }
 }
 
 fn carried(
+    rt: &impl Print,
     state: State,
     place: Input,
     op: Op,
@@ -61,14 +63,14 @@ fn carried(
     slots: &mut [u32],
     bytes: &mut [u8],
 ) -> State {
-    let next = begun(state, bytes);
-    let done = command(next, place, op, requests, store, slots, bytes);
-    ended(done, bytes)
+    let next = begun(rt, state, bytes);
+    let done = command(rt, next, place, op, requests, store, slots, bytes);
+    ended(rt, done, bytes)
 }
 
 // An answer begins.
-fn begun(state: State, bytes: &mut [u8]) -> State {
-    at(state, text::begin(bytes, state.waiting))
+fn begun(rt: &impl Print, state: State, bytes: &mut [u8]) -> State {
+    at(state, text::begin(rt, bytes, state.waiting))
 }
 
 fn at(state: State, waiting: usize) -> State {
@@ -78,8 +80,8 @@ fn at(state: State, waiting: usize) -> State {
 }
 
 // A command more, which is answered: the end of its line.
-fn ended(state: State, bytes: &mut [u8]) -> State {
-    counted(state, text::close(bytes, state.waiting))
+fn ended(rt: &impl Print, state: State, bytes: &mut [u8]) -> State {
+    counted(state, text::close(rt, bytes, state.waiting))
 }
 
 fn counted(state: State, waiting: usize) -> State {
@@ -90,6 +92,7 @@ fn counted(state: State, waiting: usize) -> State {
 }
 
 fn command(
+    rt: &impl Print,
     state: State,
     place: Input,
     op: Op,
@@ -101,49 +104,49 @@ fn command(
     let code = op.code;
     match code {
         script::BAD => {
-            return bad(state, place.number, op.a, bytes);
+            return bad(rt, state, place.number, op.a, bytes);
         }
         script::NEW => {
-            return opened(state, place.number, op, requests, store, slots, bytes);
+            return opened(rt, state, place.number, op, requests, store, slots, bytes);
         }
         script::STOP => {
-            return stopping(state, bytes);
+            return stopping(rt, state, bytes);
         }
         script::CLASSES => {
-            return classing(state, bytes);
+            return classing(rt, state, bytes);
         }
         _ => {
-            let next = named(state, place, bytes);
-            return call(next, op, requests, store, slots, bytes);
+            let next = named(rt, state, place, bytes);
+            return call(rt, next, op, requests, store, slots, bytes);
         }
     }
 }
 
 // The name of the command.
-fn named(state: State, place: Input, bytes: &mut [u8]) -> State {
+fn named(rt: &impl Print, state: State, place: Input, bytes: &mut [u8]) -> State {
     let end = script::name_end(bytes, place.from, place.end);
-    at(state, text::copy(bytes, state.waiting, place.from, end))
+    at(state, text::copy(rt, bytes, state.waiting, place.from, end))
 }
 
 // ---- lines that cannot be read
 
-fn bad(state: State, number: u64, word: u64, bytes: &mut [u8]) -> State {
-    let a = text::counted(bytes, state.waiting, b"bad line ", number);
-    at(state, which(word, a, bytes))
+fn bad(rt: &impl Print, state: State, number: u64, word: u64, bytes: &mut [u8]) -> State {
+    let a = text::counted(rt, bytes, state.waiting, b"bad line ", number);
+    at(state, which(rt, word, a, bytes))
 }
 
-fn which(word: u64, waiting: usize, bytes: &mut [u8]) -> usize {
+fn which(rt: &impl Print, word: u64, waiting: usize, bytes: &mut [u8]) -> usize {
     if word == 0 {
-        return text::word(bytes, waiting, b" long");
+        return text::word(rt, bytes, waiting, b" long");
     }
-    text::counted(bytes, waiting, b" word ", word)
+    text::counted(rt, bytes, waiting, b" word ", word)
 }
 
 // ---- `expect` and `stop`
 
-fn expected(state: State, op: Op, number: u64, bytes: &mut [u8]) -> State {
+fn expected(rt: &impl Print, state: State, op: Op, number: u64, bytes: &mut [u8]) -> State {
     let verdict = checks::judge(op.a as usize, op.b as usize, bytes);
-    let waiting = checks::write(verdict, number, state.waiting, bytes);
+    let waiting = checks::write(rt, verdict, number, state.waiting, bytes);
     let checks = checks::counted(state.checks, verdict);
     counted(with_checks(state, checks), waiting)
 }
@@ -154,19 +157,19 @@ fn with_checks(state: State, checks: Checks) -> State {
     next
 }
 
-fn stopping(state: State, bytes: &mut [u8]) -> State {
+fn stopping(rt: &impl Print, state: State, bytes: &mut [u8]) -> State {
     let mut checks = state.checks;
     checks.stop = true;
-    let a = text::word(bytes, state.waiting, b"stop ok");
+    let a = text::word(rt, bytes, state.waiting, b"stop ok");
     at(with_checks(state, checks), a)
 }
 
 // ---- `classes`
 
 // How packets are shown is no state: it is kept with the text.
-fn classing(state: State, bytes: &mut [u8]) -> State {
+fn classing(rt: &impl Print, state: State, bytes: &mut [u8]) -> State {
     text::show_classes(bytes);
-    at(state, text::word(bytes, state.waiting, b"classes ok"))
+    at(state, text::word(rt, bytes, state.waiting, b"classes ok"))
 }
 
 // ---- `new`
@@ -174,6 +177,7 @@ fn classing(state: State, bytes: &mut [u8]) -> State {
 // Rooms of these lengths. The program's own store is shorter than the longest that the rules allow:
 // a line that asks for more cannot be read here.
 fn opened(
+    rt: &impl Print,
     state: State,
     number: u64,
     op: Op,
@@ -185,20 +189,21 @@ fn opened(
     let s = op.b as usize;
     if store.len() < s {
         if s <= held::MOST_STORE {
-            return bad(state, number, 3, bytes);
+            return bad(rt, state, number, 3, bytes);
         }
     }
-    answered(state, open(op, requests, store, slots), bytes)
+    answered(rt, state, open(op, requests, store, slots), bytes)
 }
 
-fn answered(state: State, answer: Next, bytes: &mut [u8]) -> State {
+fn answered(rt: &impl Print, state: State, answer: Next, bytes: &mut [u8]) -> State {
     match answer {
         Next::State(c) => {
-            let a = text::word(bytes, state.waiting, b"new ok");
+            let a = text::word(rt, bytes, state.waiting, b"new ok");
             return at(with(state, c), a);
         }
         Next::Refused(refusal) => {
             let a = text::counted(
+                rt,
                 bytes,
                 state.waiting,
                 b"new refused ",
@@ -231,6 +236,7 @@ fn open(op: Op, requests: &[u8], store: &[u8], slots: &[u32]) -> Next {
 // ---- the other commands: the answer behind the name
 
 fn call(
+    rt: &impl Print,
     state: State,
     op: Op,
     requests: &mut [u8],
@@ -240,32 +246,32 @@ fn call(
 ) -> State {
     let code = op.code;
     if script::is_leaf(code) {
-        return leafed(state, op, bytes);
+        return leafed(rt, state, op, bytes);
     }
     match code {
         script::STATE => {
-            return at(state, shown(state, op, requests, store, slots, bytes));
+            return at(state, shown(rt, state, op, requests, store, slots, bytes));
         }
         script::SAVE => {
-            let next = calls::save(point(state), requests, store, slots, bytes);
+            let next = calls::save(rt, point(state), requests, store, slots, bytes);
             return pointed(state, next);
         }
         script::RESTORE => {
-            let next = calls::restore(point(state), op, requests, store, slots, bytes);
+            let next = calls::restore(rt, point(state), op, requests, store, slots, bytes);
             return pointed(state, next);
         }
         _ => {
-            let done = calls::line(started(state), op, requests, store, slots, bytes);
+            let done = calls::line(rt, started(state), op, requests, store, slots, bytes);
             return finished(state, done);
         }
     }
 }
 
-fn leafed(state: State, op: Op, bytes: &mut [u8]) -> State {
+fn leafed(rt: &impl Print, state: State, op: Op, bytes: &mut [u8]) -> State {
     let leaves = state.leaves;
     let turned = leaves::make(leaves, op, state.connection.order, bytes);
     let answer = turned.answer;
-    let a = text::tell(bytes, state.waiting, answer);
+    let a = text::tell(rt, bytes, state.waiting, answer);
     at(turned_to(state, turned), a)
 }
 
@@ -277,6 +283,7 @@ fn turned_to(state: State, turned: leaves::Turned) -> State {
 }
 
 fn shown(
+    rt: &impl Print,
     state: State,
     op: Op,
     requests: &[u8],
@@ -286,7 +293,17 @@ fn shown(
 ) -> usize {
     let c = state.connection;
     let leaves = state.leaves;
-    calls::state(c, leaves, op, requests, store, slots, bytes, state.waiting)
+    calls::state(
+        rt,
+        c,
+        leaves,
+        op,
+        requests,
+        store,
+        slots,
+        bytes,
+        state.waiting,
+    )
 }
 
 // What a command of the connection works on.

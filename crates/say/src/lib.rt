@@ -1,49 +1,51 @@
 // Inside: what the programs write to standard output, one word or number of a line at a time.
 #![tactic(auto)]
-use libc::STDOUT_FILENO;
+
 use refusal::Refusal;
+use std::io;
 
-pub fn word(text: &[u8]) {
-    io::write_all(STDOUT_FILENO, text);
+pub fn word(rt: &impl Print, text: &[u8]) -> io::Result<()> {
+    rt.write_all(text)
 }
 
-pub fn number(n: u64) {
-    io::write_all(STDOUT_FILENO, b" ");
-    io::print_decimal(STDOUT_FILENO, n);
+pub fn number(rt: &impl Print, n: u64) -> io::Result<()> {
+    print!(rt; " {n}")
 }
 
-pub fn refused(r: Refusal) {
-    word(b" refused");
-    number(r.number() as u64);
+pub fn refused(rt: &impl Print, r: Refusal) -> io::Result<()> {
+    word(rt, b" refused")?;
+    number(rt, r.number() as u64)
 }
 
-pub fn end() {
-    word(b"\n");
+pub fn end(rt: &impl Print) -> io::Result<()> {
+    word(rt, b"\n")
 }
 
 // The bytes in hex, in one word.
-pub fn bytes(s: &[u8]) {
-    word(b" ");
+pub fn bytes(rt: &impl Print, s: &[u8]) -> io::Result<()> {
+    word(rt, b" ")?;
     let mut i = 0;
     while i < s.len() {
-        byte(s[i]);
+        byte(rt, s[i])?;
         i += 1;
     }
+    Ok(())
 }
 
-fn byte(x: u8) {
-    io::print_hex(STDOUT_FILENO, x as u64, 2);
+fn byte(rt: &impl Print, x: u8) -> io::Result<()> {
+    print!(rt; "{x:02x}")
 }
 
 // Each number.
-pub fn all(s: &[u32]) {
+pub fn all(rt: &impl Print, s: &[u32]) -> io::Result<()> {
     let mut i = 0;
     while i < s.len() {
-        narrow(s[i]);
+        narrow(rt, s[i])?;
         i += 1;
     }
+    Ok(())
 }
 
-fn narrow(n: u32) {
-    number(n as u64);
+fn narrow(rt: &impl Print, n: u32) -> io::Result<()> {
+    number(rt, n as u64)
 }

@@ -1,6 +1,6 @@
 // Standard input, a line at a time. In the run of bytes it stands before the text. A line ends before
 // a newline or at the end of the input, and a carriage return there is no part of it.
-use libc::STDIN_FILENO;
+use std::io::Read;
 
 const NEWLINE: u8 = 10;
 
@@ -53,7 +53,13 @@ pub fn stop(place: Input) -> Input {
 
 // The next line; waiting is where the text ends. A proved loop has to end, so it counts turns down
 // from a number that no run uses up.
-pub fn next(place: Input, waiting: usize, bytes: &mut [u8]) -> Input {
+pub fn next(
+    rt: &impl Print,
+    input: &mut impl Read,
+    place: Input,
+    waiting: usize,
+    bytes: &mut [u8],
+) -> Input {
     let mut now = begin(place);
     let mut turns = u64::MAX;
     while turns > 0 {
@@ -62,7 +68,7 @@ pub fn next(place: Input, waiting: usize, bytes: &mut [u8]) -> Input {
         if end < now.filled {
             return found(now, end, bytes);
         }
-        now = more(kept(now, bytes), waiting, bytes);
+        now = more(rt, input, kept(now, bytes), waiting, bytes);
         if !now.more {
             return last(now, bytes);
         }
@@ -189,14 +195,20 @@ fn slid(place: Input, bytes: &mut [u8]) -> Input {
 // What a read puts behind the input that is there. Before it all answers are written, so that
 // whoever gives one line at a time has them; a file is read in large pieces. Where they can't be
 // written there is no more input.
-fn more(place: Input, waiting: usize, bytes: &mut [u8]) -> Input {
-    text::flush(bytes, waiting);
+fn more(
+    rt: &impl Print,
+    input: &mut impl Read,
+    place: Input,
+    waiting: usize,
+    bytes: &mut [u8],
+) -> Input {
+    text::flush(rt, bytes, waiting);
     let mut now = place;
     now.more = false;
     if text::failed(bytes) {
         return now;
     }
-    match read(bytes, place.filled) {
+    match read(input, bytes, place.filled) {
         Got::Bytes(n) => came(now, n),
         Got::Failed => broken(now),
     }
@@ -222,7 +234,7 @@ enum Got {
     Failed,
 }
 
-fn read(bytes: &mut [u8], from: usize) -> Got {
+fn read(input: &mut impl Read, bytes: &mut [u8], from: usize) -> Got {
     let end = text::NOTES;
     if bytes.len() < end {
         return Got::Bytes(0);
@@ -231,9 +243,8 @@ fn read(bytes: &mut [u8], from: usize) -> Got {
         return Got::Bytes(0);
     }
     let part = &mut bytes[from..end];
-    let got = libc::read(STDIN_FILENO, part);
-    if got < 0 {
-        return Got::Failed;
+    match input.read(part) {
+        Ok(n) => Got::Bytes(n),
+        Err(_) => Got::Failed,
     }
-    Got::Bytes(io::count(got, part))
 }

@@ -4,6 +4,7 @@
 // by single blanks. The bytes that a line has in hex are put over their digits. No call has a
 // `requires`.
 #![tactic(auto)]
+
 mod input;
 mod kinds;
 mod line;

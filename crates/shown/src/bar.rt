@@ -28,75 +28,97 @@ pub struct Beside {
     pub handshake: Partial,
 }
 
-pub fn behind(b: Beside, full: bool, store: &[u8], out: &mut [u8], waiting: usize) -> usize {
-    let a = rooms(b, full, out, waiting);
-    let c = held_bytes(b.window, full, store, out, a);
-    let d = part(b" reader ", b.reader, full, out, c);
-    let e = ids(b, out, d);
-    part(b" handshake ", b.handshake, full, out, e)
+pub fn behind(
+    rt: &impl Print,
+    b: Beside,
+    full: bool,
+    store: &[u8],
+    out: &mut [u8],
+    waiting: usize,
+) -> usize {
+    let a = rooms(rt, b, full, out, waiting);
+    let c = held_bytes(rt, b.window, full, store, out, a);
+    let d = part(rt, b" reader ", b.reader, full, out, c);
+    let e = ids(rt, b, out, d);
+    part(rt, b" handshake ", b.handshake, full, out, e)
 }
 
-fn rooms(b: Beside, full: bool, out: &mut [u8], waiting: usize) -> usize {
-    let a = text::word(out, waiting, b" |");
-    let c = marked(full, out, a);
-    let d = lettered(b" order ", b.order, out, c);
-    let e = text::counted(out, d, b" rooms ", b.requests as u64);
-    text::counted(out, e, b" ", b.store as u64)
+fn rooms(rt: &impl Print, b: Beside, full: bool, out: &mut [u8], waiting: usize) -> usize {
+    let a = text::word(rt, out, waiting, b" |");
+    let c = marked(rt, full, out, a);
+    let d = lettered(rt, b" order ", b.order, out, c);
+    let e = text::counted(rt, out, d, b" rooms ", b.requests as u64);
+    text::counted(rt, out, e, b" ", b.store as u64)
 }
 
-fn marked(full: bool, out: &mut [u8], waiting: usize) -> usize {
+fn marked(rt: &impl Print, full: bool, out: &mut [u8], waiting: usize) -> usize {
     if !full {
         return waiting;
     }
-    text::word(out, waiting, b" full")
+    text::word(rt, out, waiting, b" full")
 }
 
-fn lettered(word: &[u8], letter: u8, out: &mut [u8], waiting: usize) -> usize {
-    let a = text::word(out, waiting, word);
-    text::word(out, a, &[letter])
+fn lettered(rt: &impl Print, word: &[u8], letter: u8, out: &mut [u8], waiting: usize) -> usize {
+    let a = text::word(rt, out, waiting, word);
+    text::word(rt, out, a, &[letter])
 }
 
 // Events first, as before the bar: where replies stand among them is no state.
-fn held_bytes(w: Window, full: bool, store: &[u8], out: &mut [u8], waiting: usize) -> usize {
+fn held_bytes(
+    rt: &impl Print,
+    w: Window,
+    full: bool,
+    store: &[u8],
+    out: &mut [u8],
+    waiting: usize,
+) -> usize {
     let start = w.start;
     let end = w.end;
-    let a = text::word(out, waiting, b" held");
+    let a = text::word(rt, out, waiting, b" held");
     if end <= start {
         return a;
     }
     if full {
-        let b = packets::tell(store, start, end, held::IN_EVENTS, out, a);
-        return packets::tell(store, start, end, held::IN_REPLIES, out, b);
+        let b = packets::tell(rt, store, start, end, held::IN_EVENTS, out, a);
+        return packets::tell(rt, store, start, end, held::IN_REPLIES, out, b);
     }
     let h = packets::fold(store, start, end, held::IN_EVENTS, digest::EMPTY);
     digest::tell(
+        rt,
         packets::fold(store, start, end, held::IN_REPLIES, h),
         out,
         a,
     )
 }
 
-fn part(word: &[u8], p: Partial, full: bool, out: &mut [u8], waiting: usize) -> usize {
-    let a = lettered(word, p.order, out, waiting);
-    let b = text::counted(out, a, b" ", p.room as u64);
-    let c = text::counted(out, b, b" ", p.filled as u64);
+fn part(
+    rt: &impl Print,
+    word: &[u8],
+    p: Partial,
+    full: bool,
+    out: &mut [u8],
+    waiting: usize,
+) -> usize {
+    let a = lettered(rt, word, p.order, out, waiting);
+    let b = text::counted(rt, out, a, b" ", p.room as u64);
+    let c = text::counted(rt, out, b, b" ", p.filled as u64);
     if p.filled == 0 {
         return c;
     }
     if full {
-        return text::packet(out, c, p.from, p.filled);
+        return text::packet(rt, out, c, p.from, p.filled);
     }
     let end = text::behind(p.from, p.filled);
     let h = digest::fold(digest::EMPTY, text::cut(out, p.from, end));
-    digest::tell(h, out, c)
+    digest::tell(rt, h, out, c)
 }
 
 // Before there are any the step is 0.
-fn ids(b: Beside, out: &mut [u8], waiting: usize) -> usize {
+fn ids(rt: &impl Print, b: Beside, out: &mut [u8], waiting: usize) -> usize {
     if b.step == 0 {
-        return text::word(out, waiting, b" ids none");
+        return text::word(rt, out, waiting, b" ids none");
     }
-    let a = text::counted(out, waiting, b" ids ", b.next);
-    let c = text::counted(out, a, b" ", b.last);
-    text::counted(out, c, b" ", b.step)
+    let a = text::counted(rt, out, waiting, b" ids ", b.next);
+    let c = text::counted(rt, out, a, b" ", b.last);
+    text::counted(rt, out, c, b" ", b.step)
 }

@@ -35,8 +35,8 @@ fn times(x: u64) -> u64 {
 }
 
 // Its sixteen hex digits, behind a blank.
-pub(crate) fn tell(h: u64, out: &mut [u8], waiting: usize) -> usize {
+pub(crate) fn tell(rt: &impl Print, h: u64, out: &mut [u8], waiting: usize) -> usize {
     let mut digits = [0u8; 8];
     octets::put_u64(octets::BIG, &mut digits, 0, h);
-    crate::packets::hex(&digits, out, waiting)
+    crate::packets::hex(rt, &digits, out, waiting)
 }

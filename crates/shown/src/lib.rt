@@ -4,6 +4,7 @@
 // Text goes behind what waits in a lent run of bytes, and where it ends then comes back (`text`).
 // Nothing here is promised but that it is safe and ends.
 #![tactic(auto)]
+
 mod bar;
 mod digest;
 mod packets;
@@ -28,6 +29,7 @@ pub struct Told {
 }
 
 pub fn line(
+    rt: &impl Print,
     c: Told,
     requests: &[u8],
     store: &[u8],
@@ -35,31 +37,38 @@ pub fn line(
     out: &mut [u8],
     waiting: usize,
 ) -> usize {
-    let a = numbers(c, out, waiting);
-    let b = outstanding(c, requests, out, a);
-    let d = held_packets(c, store, slots, out, b);
-    rest(c, slots, out, d)
+    let a = numbers(rt, c, out, waiting);
+    let b = outstanding(rt, c, requests, out, a);
+    let d = held_packets(rt, c, store, slots, out, b);
+    rest(rt, c, slots, out, d)
 }
 
-fn numbers(c: Told, out: &mut [u8], waiting: usize) -> usize {
-    let a = text::counted(out, waiting, b" written ", c.written);
-    let b = text::counted(out, a, b" expected ", c.expected);
-    text::counted(out, b, b" read ", c.read)
+fn numbers(rt: &impl Print, c: Told, out: &mut [u8], waiting: usize) -> usize {
+    let a = text::counted(rt, out, waiting, b" written ", c.written);
+    let b = text::counted(rt, out, a, b" expected ", c.expected);
+    text::counted(rt, out, b, b" read ", c.read)
 }
 
 // ---- outstanding requests, as runs of equal ones
 
-fn outstanding(c: Told, requests: &[u8], out: &mut [u8], waiting: usize) -> usize {
-    let a = text::word(out, waiting, b" out");
+fn outstanding(rt: &impl Print, c: Told, requests: &[u8], out: &mut [u8], waiting: usize) -> usize {
+    let a = text::word(rt, out, waiting, b" out");
     if c.written < c.first {
         return a;
     }
-    let b = text::counted(out, a, b" ", c.first);
-    runs(requests, c.first, c.written - c.first, out, b)
+    let b = text::counted(rt, out, a, b" ", c.first);
+    runs(rt, requests, c.first, c.written - c.first, out, b)
 }
 
 // The runs of the requests from first on, more behind the first.
-fn runs(requests: &[u8], first: u64, more: u64, out: &mut [u8], waiting: usize) -> usize {
+fn runs(
+    rt: &impl Print,
+    requests: &[u8],
+    first: u64,
+    more: u64,
+    out: &mut [u8],
+    waiting: usize,
+) -> usize {
     if u64::MAX - first <= more {
         return waiting;
     }
@@ -72,17 +81,17 @@ fn runs(requests: &[u8], first: u64, more: u64, out: &mut [u8], waiting: usize) 
         count += 1;
         let now = letter_at(requests, first + done);
         if now != letter {
-            next = run(count, letter, out, next);
+            next = run(rt, count, letter, out, next);
             letter = now;
             count = 0;
         }
     }
-    run(count + 1, letter, out, next)
+    run(rt, count + 1, letter, out, next)
 }
 
-fn run(count: u64, letter: u8, out: &mut [u8], waiting: usize) -> usize {
-    let a = text::counted(out, waiting, b" ", count);
-    text::word(out, a, &[letter])
+fn run(rt: &impl Print, count: u64, letter: u8, out: &mut [u8], waiting: usize) -> usize {
+    let a = text::counted(rt, out, waiting, b" ", count);
+    text::word(rt, out, a, &[letter])
 }
 
 fn letter_at(requests: &[u8], number: u64) -> u8 {
@@ -112,11 +121,18 @@ fn letter_of(request: Request) -> u8 {
 
 // ---- held packets
 
-fn held_packets(c: Told, store: &[u8], slots: &[u32], out: &mut [u8], waiting: usize) -> usize {
+fn held_packets(
+    rt: &impl Print,
+    c: Told,
+    store: &[u8],
+    slots: &[u32],
+    out: &mut [u8],
+    waiting: usize,
+) -> usize {
     let start = c.window.start;
     let end = c.window.end;
-    let a = events(store, start, end, out, waiting);
-    replies(store, start, end, slots, c.counts.closed, out, a)
+    let a = events(rt, store, start, end, out, waiting);
+    replies(rt, store, start, end, slots, c.counts.closed, out, a)
 }
 
 // The size of the record at an index, or 0 where there is none before the end.
@@ -136,22 +152,29 @@ pub(crate) fn size(store: &[u8], at: usize, end: usize) -> usize
     n
 }
 
-fn events(store: &[u8], start: usize, end: usize, out: &mut [u8], waiting: usize) -> usize {
+fn events(
+    rt: &impl Print,
+    store: &[u8],
+    start: usize,
+    end: usize,
+    out: &mut [u8],
+    waiting: usize,
+) -> usize {
     let mut at = start;
-    let mut next = text::word(out, waiting, b" events");
+    let mut next = text::word(rt, out, waiting, b" events");
     while at < end {
         let n = size(store, at, end);
         if n == 0 {
             return next;
         }
-        next = event(store, at, out, next);
+        next = event(rt, store, at, out, next);
         at += n;
     }
     next
 }
 
 // The record at an index, if it is an event.
-fn event(store: &[u8], at: usize, out: &mut [u8], waiting: usize) -> usize {
+fn event(rt: &impl Print, store: &[u8], at: usize, out: &mut [u8], waiting: usize) -> usize {
     if store.len() < held::HEADER {
         return waiting;
     }
@@ -161,18 +184,19 @@ fn event(store: &[u8], at: usize, out: &mut [u8], waiting: usize) -> usize {
     if held::kind_at(store, at) != held::IN_EVENTS {
         return waiting;
     }
-    record(store, at, out, waiting)
+    record(rt, store, at, out, waiting)
 }
 
 // Its number and its length.
-fn record(store: &[u8], at: usize, out: &mut [u8], waiting: usize) -> usize
+fn record(rt: &impl Print, store: &[u8], at: usize, out: &mut [u8], waiting: usize) -> usize
     requires { at + header_size ≤ length store.now }
 {
-    let a = text::counted(out, waiting, b" ", held::number_at(store, at));
-    text::counted(out, a, b":", held::length_at(store, at) as u64)
+    let a = text::counted(rt, out, waiting, b" ", held::number_at(store, at));
+    text::counted(rt, out, a, b":", held::length_at(store, at) as u64)
 }
 
 fn replies(
+    rt: &impl Print,
     store: &[u8],
     start: usize,
     end: usize,
@@ -183,13 +207,13 @@ fn replies(
 ) -> usize {
     let mut at = start;
     let mut fds = closed;
-    let mut next = text::word(out, waiting, b" replies");
+    let mut next = text::word(rt, out, waiting, b" replies");
     while at < end {
         let n = size(store, at, end);
         if n == 0 {
             return next;
         }
-        next = reply(store, at, slots, fds, out, next);
+        next = reply(rt, store, at, slots, fds, out, next);
         fds = past(store, at, fds);
         at += n;
     }
@@ -212,6 +236,7 @@ fn past(store: &[u8], at: usize, fds: usize) -> usize {
 
 // The record at an index, if it is a reply; its descriptors stand from fds on.
 fn reply(
+    rt: &impl Print,
     store: &[u8],
     at: usize,
     slots: &[u32],
@@ -228,12 +253,19 @@ fn reply(
     if held::kind_at(store, at) != held::IN_REPLIES {
         return waiting;
     }
-    let a = record(store, at, out, waiting);
-    colons(slots, fds, held::count_at(store, at), out, a)
+    let a = record(rt, store, at, out, waiting);
+    colons(rt, slots, fds, held::count_at(store, at), out, a)
 }
 
 // count descriptors from an index on.
-fn colons(slots: &[u32], from: usize, count: u8, out: &mut [u8], waiting: usize) -> usize {
+fn colons(
+    rt: &impl Print,
+    slots: &[u32],
+    from: usize,
+    count: u8,
+    out: &mut [u8],
+    waiting: usize,
+) -> usize {
     let mut next = waiting;
     let mut i = from;
     let mut left = count;
@@ -241,28 +273,34 @@ fn colons(slots: &[u32], from: usize, count: u8, out: &mut [u8], waiting: usize)
         if slots.len() <= i {
             return next;
         }
-        next = colon(slots[i], out, next);
+        next = colon(rt, slots[i], out, next);
         i += 1;
         left -= 1;
     }
     next
 }
 
-fn colon(fd: u32, out: &mut [u8], waiting: usize) -> usize {
-    text::counted(out, waiting, b":", fd as u64)
+fn colon(rt: &impl Print, fd: u32, out: &mut [u8], waiting: usize) -> usize {
+    text::counted(rt, out, waiting, b":", fd as u64)
 }
 
 // ---- waiting descriptors, and what is used
 
-fn rest(c: Told, slots: &[u32], out: &mut [u8], waiting: usize) -> usize {
-    let a = waiting_fds(c, slots, out, waiting);
+fn rest(rt: &impl Print, c: Told, slots: &[u32], out: &mut [u8], waiting: usize) -> usize {
+    let a = waiting_fds(rt, c, slots, out, waiting);
     if c.window.end < c.window.start {
         return a;
     }
-    text::counted(out, a, b" used ", (c.window.end - c.window.start) as u64)
+    text::counted(
+        rt,
+        out,
+        a,
+        b" used ",
+        (c.window.end - c.window.start) as u64,
+    )
 }
 
-fn waiting_fds(c: Told, slots: &[u32], out: &mut [u8], waiting: usize) -> usize {
+fn waiting_fds(rt: &impl Print, c: Told, slots: &[u32], out: &mut [u8], waiting: usize) -> usize {
     if slots.len() < c.counts.closed {
         return waiting;
     }
@@ -270,5 +308,12 @@ fn waiting_fds(c: Told, slots: &[u32], out: &mut [u8], waiting: usize) -> usize 
         return waiting;
     }
     let start = c.counts.closed + c.counts.held;
-    text::first(out, waiting, b" waiting", &slots[start..], c.counts.waiting)
+    text::first(
+        rt,
+        out,
+        waiting,
+        b" waiting",
+        &slots[start..],
+        c.counts.waiting,
+    )
 }

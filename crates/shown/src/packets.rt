@@ -32,6 +32,7 @@ fn kind_of(record: &[u8]) -> u8 {
 
 // The packets in hex.
 pub(crate) fn tell(
+    rt: &impl Print,
     store: &[u8],
     start: usize,
     end: usize,
@@ -46,25 +47,30 @@ pub(crate) fn tell(
         if n == 0 {
             return next;
         }
-        next = packet(text::cut(store, at, at + n), kind, out, next);
+        next = packet(rt, text::cut(store, at, at + n), kind, out, next);
         at += n;
     }
     next
 }
 
-fn packet(record: &[u8], kind: u8, out: &mut [u8], waiting: usize) -> usize {
+fn packet(rt: &impl Print, record: &[u8], kind: u8, out: &mut [u8], waiting: usize) -> usize {
     if kind_of(record) != kind {
         return waiting;
     }
-    hex(text::cut(record, held::HEADER, record.len()), out, waiting)
+    hex(
+        rt,
+        text::cut(record, held::HEADER, record.len()),
+        out,
+        waiting,
+    )
 }
 
 // Bytes in hex, behind a blank.
-pub(crate) fn hex(bytes: &[u8], out: &mut [u8], waiting: usize) -> usize {
-    let mut next = text::word(out, waiting, b" ");
+pub(crate) fn hex(rt: &impl Print, bytes: &[u8], out: &mut [u8], waiting: usize) -> usize {
+    let mut next = text::word(rt, out, waiting, b" ");
     let mut i = 0;
     while i < bytes.len() {
-        next = text::byte(out, next, bytes[i]);
+        next = text::byte(rt, out, next, bytes[i]);
         i += 1;
     }
     next

@@ -110,13 +110,13 @@ pub fn whether(yes: bool) -> Answer {
     if yes { say(TRUE) } else { say(FALSE) }
 }
 
-pub fn tell(out: &mut [u8], waiting: usize, answer: Answer) -> usize {
-    let a = named(out, waiting, answer.word);
-    let b = numbered(out, a, answer.counted, answer.n);
-    let c = item(out, b, answer.also, answer.m);
-    let d = item(out, c, stopped(answer.stop), answer.stop as u64);
-    let e = bytes(out, d, answer.from, answer.len);
-    classes::class(out, e, answer.class)
+pub fn tell(rt: &impl Print, out: &mut [u8], waiting: usize, answer: Answer) -> usize {
+    let a = named(rt, out, waiting, answer.word);
+    let b = numbered(rt, out, a, answer.counted, answer.n);
+    let c = item(rt, out, b, answer.also, answer.m);
+    let d = item(rt, out, c, stopped(answer.stop), answer.stop as u64);
+    let e = bytes(rt, out, d, answer.from, answer.len);
+    classes::class(rt, out, e, answer.class)
 }
 
 // The word before the number of a refusal, where there is one.
@@ -124,46 +124,46 @@ fn stopped(stop: u8) -> u64 {
     if stop == 0 { 0 } else { REFUSED }
 }
 
-fn item(out: &mut [u8], waiting: usize, word: u64, n: u64) -> usize {
+fn item(rt: &impl Print, out: &mut [u8], waiting: usize, word: u64, n: u64) -> usize {
     if word == 0 {
         return waiting;
     }
-    let next = named(out, waiting, word);
-    crate::counted(out, next, b" ", n)
+    let next = named(rt, out, waiting, word);
+    crate::counted(rt, out, next, b" ", n)
 }
 
-fn numbered(out: &mut [u8], waiting: usize, counted: bool, n: u64) -> usize {
+fn numbered(rt: &impl Print, out: &mut [u8], waiting: usize, counted: bool, n: u64) -> usize {
     if !counted {
         return waiting;
     }
-    crate::counted(out, waiting, b" ", n)
+    crate::counted(rt, out, waiting, b" ", n)
 }
 
-fn bytes(out: &mut [u8], waiting: usize, from: usize, len: usize) -> usize {
+fn bytes(rt: &impl Print, out: &mut [u8], waiting: usize, from: usize, len: usize) -> usize {
     if len == 0 {
         return waiting;
     }
-    crate::packet(out, waiting, from, len)
+    crate::packet(rt, out, waiting, from, len)
 }
 
-fn named(out: &mut [u8], waiting: usize, word: u64) -> usize {
+fn named(rt: &impl Print, out: &mut [u8], waiting: usize, word: u64) -> usize {
     if word == 0 {
         return waiting;
     }
-    let next = crate::word(out, waiting, b" ");
-    letters(out, next, word)
+    let next = crate::word(rt, out, waiting, b" ");
+    letters(rt, out, next, word)
 }
 
-fn letters(out: &mut [u8], waiting: usize, word: u64) -> usize {
+fn letters(rt: &impl Print, out: &mut [u8], waiting: usize, word: u64) -> usize {
     let mut next = waiting;
     let mut left = word;
     while left > 0 {
-        next = letter(out, next, (left % 256) as u8);
+        next = letter(rt, out, next, (left % 256) as u8);
         left = left / 256;
     }
     next
 }
 
-fn letter(out: &mut [u8], waiting: usize, c: u8) -> usize {
-    crate::word(out, waiting, &[c])
+fn letter(rt: &impl Print, out: &mut [u8], waiting: usize, c: u8) -> usize {
+    crate::word(rt, out, waiting, &[c])
 }

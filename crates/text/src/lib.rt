@@ -6,6 +6,7 @@
 // waits, and the text goes on behind it, so that the last answer still stands there. Behind a write
 // that failed nothing is written. Packets that are shown stand in the same run, somewhere before.
 #![tactic(auto)]
+
 mod answers;
 mod classes;
 mod notes;
@@ -19,7 +20,7 @@ pub use answers::{
     whether,
 };
 pub use classes::{NO_CLASS, class};
-use libc::{STDERR_FILENO, STDOUT_FILENO};
+use itoa::Buffer;
 pub use notes::{NOTES, failed, parted, show_classes};
 pub use run::{behind, cut, up};
 
@@ -31,7 +32,7 @@ pub const START: usize = NOTES + 32;
 // and 14 for the blank and the class of each of 2,048 packets.
 const FREE: usize = 294912;
 
-pub fn word(out: &mut [u8], waiting: usize, text: &[u8]) -> usize {
+pub fn word(rt: &impl Print, out: &mut [u8], waiting: usize, text: &[u8]) -> usize {
     let end = out.len();
     if waiting <= end {
         if text.len() <= end - waiting {
@@ -39,52 +40,52 @@ pub fn word(out: &mut [u8], waiting: usize, text: &[u8]) -> usize {
             return waiting + text.len();
         }
     }
-    let next = anew(out, waiting);
-    let went = write(failed(out), text);
+    let next = anew(rt, out, waiting);
+    let went = write(rt, failed(out), text);
     notes::went(out, went);
     next
 }
 
 // What waits is written.
-pub fn flush(out: &mut [u8], waiting: usize) {
+pub fn flush(rt: &impl Print, out: &mut [u8], waiting: usize) {
     let from = notes::place(out, notes::WRITTEN);
-    let went = write(failed(out), cut(out, from, waiting));
+    let went = write(rt, failed(out), cut(out, from, waiting));
     notes::went(out, went);
     notes::put_place(out, notes::WRITTEN, waiting);
 }
 
-fn write(failed: bool, text: &[u8]) -> bool {
+fn write(rt: &impl Print, failed: bool, text: &[u8]) -> bool {
     if failed {
         return false;
     }
-    io::write_all(STDOUT_FILENO, text)
+    rt.write_all(text).is_ok()
 }
 
 // A line to the error output, at once.
-pub fn complain(line: &[u8]) {
-    io::write_all(STDERR_FILENO, line);
+pub fn complain(rt: &HostRuntime, line: &[u8]) {
+    let _ = rt.stderr().write_all(line);
 }
 
 // What waits is written, and the text starts anew.
-fn anew(out: &mut [u8], waiting: usize) -> usize {
-    flush(out, waiting);
+fn anew(rt: &impl Print, out: &mut [u8], waiting: usize) -> usize {
+    flush(rt, out, waiting);
     notes::put_place(out, notes::WRITTEN, START);
     notes::part(out, true);
     START
 }
 
 // An answer begins: it will stand in one piece, unless it is longer than what is free at least.
-pub fn begin(out: &mut [u8], waiting: usize) -> usize {
-    let next = ready(out, waiting, FREE);
+pub fn begin(rt: &impl Print, out: &mut [u8], waiting: usize) -> usize {
+    let next = ready(rt, out, waiting, FREE);
     notes::part(out, false);
     notes::put_place(out, notes::FROM, next);
     next
 }
 
 // It ends, and with it its line.
-pub fn close(out: &mut [u8], waiting: usize) -> usize {
+pub fn close(rt: &impl Print, out: &mut [u8], waiting: usize) -> usize {
     notes::put_place(out, notes::END, waiting);
-    word(out, waiting, b"\n")
+    word(rt, out, waiting, b"\n")
 }
 
 // The last answer, if it stands in one piece.
@@ -101,38 +102,37 @@ const VERDICT: usize = 64;
 
 // A verdict on the last answer begins: where there is no room behind what waits there is behind the
 // answer.
-pub fn verdict(out: &mut [u8], waiting: usize) -> usize {
+pub fn verdict(rt: &impl Print, out: &mut [u8], waiting: usize) -> usize {
     if waiting <= out.len() {
         if VERDICT <= out.len() - waiting {
             return waiting;
         }
     }
-    flush(out, waiting);
+    flush(rt, out, waiting);
     let end = notes::place(out, notes::END);
     notes::put_place(out, notes::WRITTEN, end);
     end
 }
 
 // A number in decimal digits.
-fn number(out: &mut [u8], waiting: usize, n: u64) -> usize {
-    let mut digits = [0u8; 20];
-    let k = io::decimal(n, &mut digits);
-    word(out, waiting, &digits[..k])
+fn number(rt: &impl Print, out: &mut [u8], waiting: usize, n: u64) -> usize {
+    let mut digits = Buffer::new();
+    word(rt, out, waiting, digits.format(n).as_bytes())
 }
 
 // A word and a number behind it.
-pub fn counted(out: &mut [u8], waiting: usize, text: &[u8], n: u64) -> usize {
-    let next = word(out, waiting, text);
-    number(out, next, n)
+pub fn counted(rt: &impl Print, out: &mut [u8], waiting: usize, text: &[u8], n: u64) -> usize {
+    let next = word(rt, out, waiting, text);
+    number(rt, out, next, n)
 }
 
 // The len bytes of the run from an index on as lower-case hex digits, behind a blank.
-pub fn packet(out: &mut [u8], waiting: usize, from: usize, len: usize) -> usize {
-    let next = word(out, waiting, b" ");
-    hex(out, next, from, len)
+pub fn packet(rt: &impl Print, out: &mut [u8], waiting: usize, from: usize, len: usize) -> usize {
+    let next = word(rt, out, waiting, b" ");
+    hex(rt, out, next, from, len)
 }
 
-fn hex(out: &mut [u8], waiting: usize, from: usize, len: usize) -> usize {
+fn hex(rt: &impl Print, out: &mut [u8], waiting: usize, from: usize, len: usize) -> usize {
     if out.len() < from {
         return waiting;
     }
@@ -144,7 +144,7 @@ fn hex(out: &mut [u8], waiting: usize, from: usize, len: usize) -> usize {
             return digits(out, waiting, from, len);
         }
     }
-    pairs(out, waiting, from, len)
+    pairs(rt, out, waiting, from, len)
 }
 
 // Where all of them fit behind what waits.
@@ -171,22 +171,22 @@ fn put(out: &mut [u8], at: usize, c: u8)
 }
 
 // Where some of them do not.
-fn pairs(out: &mut [u8], waiting: usize, from: usize, len: usize) -> usize
+fn pairs(rt: &impl Print, out: &mut [u8], waiting: usize, from: usize, len: usize) -> usize
     requires { from + len ≤ length out.old }
 {
     let mut next = waiting;
     let mut i = 0;
     while i < len {
         let x = out[from + i];
-        next = byte(out, next, x);
+        next = byte(rt, out, next, x);
         i += 1;
     }
     next
 }
 
 // A byte as two hex digits.
-pub fn byte(out: &mut [u8], waiting: usize, x: u8) -> usize {
-    word(out, waiting, &[digit(x / 16), digit(x % 16)])
+pub fn byte(rt: &impl Print, out: &mut [u8], waiting: usize, x: u8) -> usize {
+    word(rt, out, waiting, &[digit(x / 16), digit(x % 16)])
 }
 
 fn digit(x: u8) -> u8 {
@@ -200,36 +200,43 @@ fn digit(x: u8) -> u8 {
 }
 
 // A word, and the first count numbers behind it, a blank before each, if there are so many.
-pub fn first(out: &mut [u8], waiting: usize, text: &[u8], numbers: &[u32], count: usize) -> usize {
-    let next = word(out, waiting, text);
+pub fn first(
+    rt: &impl Print,
+    out: &mut [u8],
+    waiting: usize,
+    text: &[u8],
+    numbers: &[u32],
+    count: usize,
+) -> usize {
+    let next = word(rt, out, waiting, text);
     if numbers.len() < count {
         return next;
     }
-    list(out, next, &numbers[..count])
+    list(rt, out, next, &numbers[..count])
 }
 
-fn list(out: &mut [u8], waiting: usize, numbers: &[u32]) -> usize {
+fn list(rt: &impl Print, out: &mut [u8], waiting: usize, numbers: &[u32]) -> usize {
     let mut next = waiting;
     let mut i = 0;
     while i < numbers.len() {
-        next = narrow(out, next, numbers[i]);
+        next = narrow(rt, out, next, numbers[i]);
         i += 1;
     }
     next
 }
 
-fn narrow(out: &mut [u8], waiting: usize, n: u32) -> usize {
-    counted(out, waiting, b" ", n as u64)
+fn narrow(rt: &impl Print, out: &mut [u8], waiting: usize, n: u32) -> usize {
+    counted(rt, out, waiting, b" ", n as u64)
 }
 
 // At least n bytes free, where the run has so many: what waits is written if there are fewer.
-pub fn ready(out: &mut [u8], waiting: usize, n: usize) -> usize {
+pub fn ready(rt: &impl Print, out: &mut [u8], waiting: usize, n: usize) -> usize {
     if waiting <= out.len() {
         if n <= out.len() - waiting {
             return waiting;
         }
     }
-    anew(out, waiting)
+    anew(rt, out, waiting)
 }
 
 // Text that stands in the run from one index to another, moved up behind what waits.
@@ -248,7 +255,7 @@ pub fn join(out: &mut [u8], waiting: usize, from: usize, end: usize) -> usize {
 }
 
 // The bytes of the run from one index to another, put behind what waits.
-pub fn copy(out: &mut [u8], waiting: usize, from: usize, end: usize) -> usize {
+pub fn copy(rt: &impl Print, out: &mut [u8], waiting: usize, from: usize, end: usize) -> usize {
     if out.len() < end {
         return waiting;
     }
@@ -256,7 +263,7 @@ pub fn copy(out: &mut [u8], waiting: usize, from: usize, end: usize) -> usize {
         return waiting;
     }
     let n = end - from;
-    let next = ready(out, waiting, n);
+    let next = ready(rt, out, waiting, n);
     if out.len() < n {
         return next;
     }

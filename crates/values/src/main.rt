@@ -5,15 +5,18 @@
 // those of `made`, which tell fields apart that a server makes equal. The ids are those that the Rust
 // answers, but where its 32 bits overflow (docs/DIFFERENCES.md).
 #![tactic(auto)]
+
 mod ids;
 mod misc;
 
-fn main() {
-    ids::of_masks();
-    ids::of_ranges();
-    misc::requests();
-    misc::errors();
-    misc::replies();
-    misc::made();
-    misc::refused();
+use std::io;
+
+fn main(rt: HostRuntime) -> io::Result<()> {
+    ids::of_masks(&rt)?;
+    ids::of_ranges(&rt)?;
+    misc::requests(&rt)?;
+    misc::errors(&rt)?;
+    misc::replies(&rt)?;
+    misc::made(&rt)?;
+    misc::refused(&rt)
 }

@@ -1,250 +1,296 @@
 // XC-MISC and error packets, as an X server sent them.
+use std::io;
 use x11_utils::{Parsed, X11Error};
 use xc_misc::{ListAnswer, RangeAnswer, VersionAnswer, Written};
 
 // The opcode that the server gave the extension.
 const OPCODE: u8 = 136;
 
-pub(crate) fn requests() {
-    requests_in(octets::LITTLE);
-    requests_in(octets::BIG);
-    requests_in(0);
+pub(crate) fn requests(rt: &impl Print) -> io::Result<()> {
+    requests_in(rt, octets::LITTLE)?;
+    requests_in(rt, octets::BIG)?;
+    requests_in(rt, 0)
 }
 
-fn requests_in(order: u8) {
+fn requests_in(rt: &impl Print, order: u8) -> io::Result<()> {
     let mut space = [255u8; 9];
     let out: &mut [u8] = &mut space;
-    written(xc_misc::get_version_request(order, OPCODE, 1, 2, out), out);
-    written(xc_misc::get_xid_list_request(order, OPCODE, 3, out), out);
-    written(xc_misc::get_xid_range_request(order, OPCODE, out), out);
+    written(
+        rt,
+        xc_misc::get_version_request(order, OPCODE, 1, 2, out),
+        out,
+    )?;
+    written(
+        rt,
+        xc_misc::get_xid_list_request(order, OPCODE, 3, out),
+        out,
+    )?;
+    written(rt, xc_misc::get_xid_range_request(order, OPCODE, out), out)?;
     let mut narrow = [255u8; 3];
     let short: &mut [u8] = &mut narrow;
-    written(xc_misc::get_xid_range_request(order, OPCODE, short), short);
+    written(
+        rt,
+        xc_misc::get_xid_range_request(order, OPCODE, short),
+        short,
+    )
 }
 
 // The answer, and the whole output.
-fn written(answer: Written, out: &[u8]) {
-    say::word(b"request");
+fn written(rt: &impl Print, answer: Written, out: &[u8]) -> io::Result<()> {
+    say::word(rt, b"request")?;
     match answer {
-        Written::Bytes(n) => say::number(n as u64),
-        Written::Refused(r) => say::refused(r),
+        Written::Bytes(n) => say::number(rt, n as u64)?,
+        Written::Refused(r) => say::refused(rt, r)?,
     }
-    say::bytes(out);
-    say::end();
+    say::bytes(rt, out)?;
+    say::end(rt)
 }
 
-pub(crate) fn errors() {
+pub(crate) fn errors(rt: &impl Print) -> io::Result<()> {
     error(
+        rt,
         octets::LITTLE,
         b"\x00\x03\x06\x00\x78\x56\x34\x12\x00\x00\x03\x00\x00\x00\x00\x00\x00\x00\x00\x00\x00\x00\x00\x00\x00\x00\x00\x00\x00\x00\x00\x00",
-    );
+    )?;
     error(
+        rt,
         octets::LITTLE,
         b"\x00\x01\x07\x00\x78\x56\x34\x12\x4d\x00\x88\x00\x00\x00\x00\x00\x00\x00\x00\x00\x00\x00\x00\x00\x00\x00\x00\x00\x00\x00\x00\x00",
-    );
+    )?;
     error(
+        rt,
         octets::LITTLE,
         b"\x00\x01\x08\x00\x78\x56\x34\x12\x00\x00\x7e\x00\x00\x00\x00\x00\x00\x00\x00\x00\x00\x00\x00\x00\x00\x00\x00\x00\x00\x00\x00\x00",
-    );
+    )?;
     error(
+        rt,
         octets::LITTLE,
         b"\x00\x10\x0a\x00\x78\x56\x34\x12\x02\x00\x88\x00\x00\x00\x00\x00\x00\x00\x00\x00\x00\x00\x00\x00\x00\x00\x00\x00\x00\x00\x00\x00",
-    );
+    )?;
     error(
+        rt,
         octets::BIG,
         b"\x00\x03\x00\x06\x12\x34\x56\x78\x00\x00\x03\x00\x00\x00\x00\x00\x2e\x58\x31\x31\x2d\x75\x6e\x69\x78\x2f\x58\x37\x37\x20\x61\x2e",
-    );
+    )?;
     error(
+        rt,
         octets::BIG,
         b"\x00\x01\x00\x07\x12\x34\x56\x78\x00\x4d\x88\x00\x00\x00\x00\x00\x2e\x58\x31\x31\x2d\x75\x6e\x69\x78\x2f\x58\x37\x37\x20\x61\x2e",
-    );
+    )?;
     error(
+        rt,
         octets::BIG,
         b"\x00\x01\x00\x08\x12\x34\x56\x78\x00\x00\x7e\x00\x00\x00\x00\x00\x2e\x58\x31\x31\x2d\x75\x6e\x69\x78\x2f\x58\x37\x37\x20\x61\x2e",
-    );
+    )?;
     error(
+        rt,
         octets::BIG,
         b"\x00\x10\x00\x0a\x12\x34\x56\x78\x00\x02\x88\x00\x00\x00\x00\x00\x2e\x58\x31\x31\x2d\x75\x6e\x69\x78\x2f\x58\x37\x37\x20\x61\x2e",
-    );
+    )
 }
 
 // Code, wire number, bad value, minor and major opcode.
-fn error(order: u8, packet: &[u8]) {
-    say::word(b"error");
+fn error(rt: &impl Print, order: u8, packet: &[u8]) -> io::Result<()> {
+    say::word(rt, b"error")?;
     match X11Error::try_parse(order, packet) {
         Parsed::Error(e) => {
-            say::number(e.code as u64);
-            say::number(e.sequence.0 as u64);
-            say::number(e.value as u64);
-            say::number(e.minor as u64);
-            say::number(e.major as u64);
+            say::number(rt, e.code as u64)?;
+            say::number(rt, e.sequence.0 as u64)?;
+            say::number(rt, e.value as u64)?;
+            say::number(rt, e.minor as u64)?;
+            say::number(rt, e.major as u64)?;
         }
-        Parsed::Refused(r) => say::refused(r),
+        Parsed::Refused(r) => say::refused(rt, r)?,
     }
-    say::end();
+    say::end(rt)
 }
 
-pub(crate) fn replies() {
+pub(crate) fn replies(rt: &impl Print) -> io::Result<()> {
     version(
+        rt,
         octets::LITTLE,
         b"\x01\x00\x02\x00\x00\x00\x00\x00\x01\x00\x01\x00\x00\x00\x00\x00\x00\x00\x00\x00\x00\x00\x00\x00\x00\x00\x00\x00\x00\x00\x00\x00",
-    );
+    )?;
     range(
+        rt,
         octets::LITTLE,
         b"\x01\x00\x03\x00\x00\x00\x00\x00\x00\x00\x20\x00\x00\x00\x20\x00\x00\x00\x00\x00\x00\x00\x00\x00\x00\x00\x00\x00\x00\x00\x00\x00",
-    );
+    )?;
     list(
+        rt,
         octets::LITTLE,
         b"\x01\x00\x04\x00\x03\x00\x00\x00\x03\x00\x00\x00\x00\x00\x00\x00\x00\x00\x00\x00\x00\x00\x00\x00\x00\x00\x00\x00\x00\x00\x00\x00\x00\x00\x20\x00\x01\x00\x20\x00\x02\x00\x20\x00",
-    );
+    )?;
     list(
+        rt,
         octets::LITTLE,
         b"\x01\x00\x05\x00\x00\x00\x00\x00\x00\x00\x00\x00\x00\x00\x00\x00\x00\x00\x00\x00\x00\x00\x00\x00\x00\x00\x00\x00\x00\x00\x00\x00",
-    );
+    )?;
     version(
+        rt,
         octets::BIG,
         b"\x01\x00\x00\x02\x00\x00\x00\x00\x00\x01\x00\x01\x00\x00\x00\x00\x00\x00\x00\x00\x00\x00\x00\x00\x00\x00\x00\x00\x00\x00\x00\x00",
-    );
+    )?;
     range(
+        rt,
         octets::BIG,
         b"\x01\x00\x00\x03\x00\x00\x00\x00\x00\x20\x00\x00\x00\x20\x00\x00\x00\x00\x00\x00\x00\x00\x00\x00\x00\x00\x00\x00\x00\x00\x00\x00",
-    );
+    )?;
     list(
+        rt,
         octets::BIG,
         b"\x01\x00\x00\x04\x00\x00\x00\x03\x00\x00\x00\x03\x00\x00\x00\x00\x00\x00\x00\x00\x00\x00\x00\x00\x00\x00\x00\x00\x00\x00\x00\x00\x00\x20\x00\x00\x00\x20\x00\x01\x00\x20\x00\x02",
-    );
+    )?;
     list(
+        rt,
         octets::BIG,
         b"\x01\x00\x00\x05\x00\x00\x00\x00\x00\x00\x00\x00\x00\x00\x00\x00\x00\x00\x00\x00\x00\x00\x00\x00\x00\x00\x00\x00\x00\x00\x00\x00",
-    );
+    )
 }
 
 // Replies made by XC-MISC's layout, whose fields all differ: a version, a range, and lists of two ids
 // whose length says less and more than that, and of four in the bytes of three.
-pub(crate) fn made() {
-    made_little();
-    made_big();
+pub(crate) fn made(rt: &impl Print) -> io::Result<()> {
+    made_little(rt)?;
+    made_big(rt)
 }
 
-fn made_little() {
+fn made_little(rt: &impl Print) -> io::Result<()> {
     version(
+        rt,
         octets::LITTLE,
         b"\x01\xc8\x04\x03\x00\x00\x00\x00\x01\x00\x02\x00\x0d\x0c\x0b\x0a\x00\x00\x00\x00\x00\x00\x00\x00\x00\x00\x00\x00\x00\x00\x00\x00",
-    );
+    )?;
     range(
+        rt,
         octets::LITTLE,
         b"\x01\xc8\x04\x03\x00\x00\x00\x00\x05\x00\x20\x00\xfb\xff\x1f\x00\x00\x00\x00\x00\x00\x00\x00\x00\x00\x00\x00\x00\x00\x00\x00\x00",
-    );
+    )?;
     list(
+        rt,
         octets::LITTLE,
         b"\x01\xc8\x04\x03\x01\x00\x00\x00\x02\x00\x00\x00\x0c\x0d\x0e\x0f\x10\x11\x12\x13\x14\x15\x16\x17\x18\x19\x1a\x1b\x1c\x1d\x1e\x1f\x05\x00\x20\x00\x09\x00\x20\x00\x0d\x00\x20\x00",
-    );
+    )?;
     list(
+        rt,
         octets::LITTLE,
         b"\x01\xc8\x04\x03\x03\x00\x00\x00\x02\x00\x00\x00\x0c\x0d\x0e\x0f\x10\x11\x12\x13\x14\x15\x16\x17\x18\x19\x1a\x1b\x1c\x1d\x1e\x1f\x05\x00\x20\x00\x09\x00\x20\x00\x0d\x00\x20\x00",
-    );
+    )?;
     list(
+        rt,
         octets::LITTLE,
         b"\x01\xc8\x04\x03\x01\x00\x00\x00\x04\x00\x00\x00\x0c\x0d\x0e\x0f\x10\x11\x12\x13\x14\x15\x16\x17\x18\x19\x1a\x1b\x1c\x1d\x1e\x1f\x05\x00\x20\x00\x09\x00\x20\x00\x0d\x00\x20\x00",
-    );
+    )
 }
 
-fn made_big() {
+fn made_big(rt: &impl Print) -> io::Result<()> {
     version(
+        rt,
         octets::BIG,
         b"\x01\xc8\x03\x04\x00\x00\x00\x00\x00\x01\x00\x02\x0a\x0b\x0c\x0d\x00\x00\x00\x00\x00\x00\x00\x00\x00\x00\x00\x00\x00\x00\x00\x00",
-    );
+    )?;
     range(
+        rt,
         octets::BIG,
         b"\x01\xc8\x03\x04\x00\x00\x00\x00\x00\x20\x00\x05\x00\x1f\xff\xfb\x00\x00\x00\x00\x00\x00\x00\x00\x00\x00\x00\x00\x00\x00\x00\x00",
-    );
+    )?;
     list(
+        rt,
         octets::BIG,
         b"\x01\xc8\x03\x04\x00\x00\x00\x01\x00\x00\x00\x02\x0c\x0d\x0e\x0f\x10\x11\x12\x13\x14\x15\x16\x17\x18\x19\x1a\x1b\x1c\x1d\x1e\x1f\x00\x20\x00\x05\x00\x20\x00\x09\x00\x20\x00\x0d",
-    );
+    )?;
     list(
+        rt,
         octets::BIG,
         b"\x01\xc8\x03\x04\x00\x00\x00\x03\x00\x00\x00\x02\x0c\x0d\x0e\x0f\x10\x11\x12\x13\x14\x15\x16\x17\x18\x19\x1a\x1b\x1c\x1d\x1e\x1f\x00\x20\x00\x05\x00\x20\x00\x09\x00\x20\x00\x0d",
-    );
+    )?;
     list(
+        rt,
         octets::BIG,
         b"\x01\xc8\x03\x04\x00\x00\x00\x01\x00\x00\x00\x04\x0c\x0d\x0e\x0f\x10\x11\x12\x13\x14\x15\x16\x17\x18\x19\x1a\x1b\x1c\x1d\x1e\x1f\x00\x20\x00\x05\x00\x20\x00\x09\x00\x20\x00\x0d",
-    );
+    )
 }
 
-fn version(order: u8, packet: &[u8]) {
-    say::word(b"version");
+fn version(rt: &impl Print, order: u8, packet: &[u8]) -> io::Result<()> {
+    say::word(rt, b"version")?;
     match xc_misc::get_version_reply(order, packet) {
         VersionAnswer::Reply(v) => {
-            say::number(v.sequence.0 as u64);
-            say::number(v.length as u64);
-            say::number(v.major as u64);
-            say::number(v.minor as u64);
+            say::number(rt, v.sequence.0 as u64)?;
+            say::number(rt, v.length as u64)?;
+            say::number(rt, v.major as u64)?;
+            say::number(rt, v.minor as u64)?;
         }
-        VersionAnswer::Refused(r) => say::refused(r),
+        VersionAnswer::Refused(r) => say::refused(rt, r)?,
     }
-    say::end();
+    say::end(rt)
 }
 
-fn range(order: u8, packet: &[u8]) {
-    say::word(b"range");
+fn range(rt: &impl Print, order: u8, packet: &[u8]) -> io::Result<()> {
+    say::word(rt, b"range")?;
     match xc_misc::get_xid_range_reply(order, packet) {
         RangeAnswer::Reply(v) => {
-            say::number(v.sequence.0 as u64);
-            say::number(v.length as u64);
-            say::number(v.start as u64);
-            say::number(v.count as u64);
+            say::number(rt, v.sequence.0 as u64)?;
+            say::number(rt, v.length as u64)?;
+            say::number(rt, v.start as u64)?;
+            say::number(rt, v.count as u64)?;
         }
-        RangeAnswer::Refused(r) => say::refused(r),
+        RangeAnswer::Refused(r) => say::refused(rt, r)?,
     }
-    say::end();
+    say::end(rt)
 }
 
 // The fields, and all four places of the lent room.
-fn list(order: u8, packet: &[u8]) {
-    say::word(b"list");
+fn list(rt: &impl Print, order: u8, packet: &[u8]) -> io::Result<()> {
+    say::word(rt, b"list")?;
     let mut space = [7u32; 4];
     let ids: &mut [u32] = &mut space;
     match xc_misc::get_xid_list_reply(order, packet, ids) {
         ListAnswer::Reply(v) => {
-            say::number(v.sequence.0 as u64);
-            say::number(v.length as u64);
-            say::number(v.count as u64);
+            say::number(rt, v.sequence.0 as u64)?;
+            say::number(rt, v.length as u64)?;
+            say::number(rt, v.count as u64)?;
         }
-        ListAnswer::Refused(r) => say::refused(r),
+        ListAnswer::Refused(r) => say::refused(rt, r)?,
     }
-    say::all(ids);
-    say::end();
+    say::all(rt, ids)?;
+    say::end(rt)
 }
 
 // Each refusal, damaged from the packets above.
-pub(crate) fn refused() {
+pub(crate) fn refused(rt: &impl Print) -> io::Result<()> {
     list(
+        rt,
         octets::LITTLE,
         b"\x01\x00\x04\x00\x03\x00\x00\x00\x03\x00\x00\x00\x00\x00\x00\x00\x00\x00\x00\x00\x00\x00\x00\x00\x00\x00\x00\x00\x00\x00\x00",
-    );
+    )?;
     list(
+        rt,
         0,
         b"\x01\x00\x04\x00\x03\x00\x00\x00\x03\x00\x00\x00\x00\x00\x00\x00\x00\x00\x00\x00\x00\x00\x00\x00\x00\x00\x00\x00\x00\x00\x00\x00\x00\x00\x20\x00\x01\x00\x20\x00\x02\x00\x20\x00",
-    );
+    )?;
     list(
+        rt,
         octets::LITTLE,
         b"\x02\x00\x04\x00\x03\x00\x00\x00\x03\x00\x00\x00\x00\x00\x00\x00\x00\x00\x00\x00\x00\x00\x00\x00\x00\x00\x00\x00\x00\x00\x00\x00\x00\x00\x20\x00\x01\x00\x20\x00\x02\x00\x20\x00",
-    );
+    )?;
     list(
+        rt,
         octets::LITTLE,
         b"\x01\x00\x04\x00\x04\x00\x00\x00\x03\x00\x00\x00\x00\x00\x00\x00\x00\x00\x00\x00\x00\x00\x00\x00\x00\x00\x00\x00\x00\x00\x00\x00\x00\x00\x20\x00\x01\x00\x20\x00\x02\x00\x20\x00",
-    );
+    )?;
     list(
+        rt,
         octets::LITTLE,
         b"\x01\x00\x04\x00\x03\x00\x00\x00\x05\x00\x00\x00\x00\x00\x00\x00\x00\x00\x00\x00\x00\x00\x00\x00\x00\x00\x00\x00\x00\x00\x00\x00\x00\x00\x20\x00\x01\x00\x20\x00\x02\x00\x20\x00",
-    );
+    )?;
     list(
+        rt,
         octets::LITTLE,
         b"\x01\x00\x04\x00\x06\x00\x00\x00\x06\x00\x00\x00\x00\x00\x00\x00\x00\x00\x00\x00\x00\x00\x00\x00\x00\x00\x00\x00\x00\x00\x00\x00\x00\x00\x20\x00\x01\x00\x20\x00\x02\x00\x20\x00\x00\x00\x00\x00\x00\x00\x00\x00\x00\x00\x00\x00",
-    );
+    )?;
     error(
+        rt,
         octets::LITTLE,
         b"\x01\x00\x04\x00\x03\x00\x00\x00\x03\x00\x00\x00\x00\x00\x00\x00\x00\x00\x00\x00\x00\x00\x00\x00\x00\x00\x00\x00\x00\x00\x00\x00",
-    );
+    )
 }

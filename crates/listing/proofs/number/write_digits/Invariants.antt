@@ -1,0 +1,10 @@
+-- The digits still to write, and then those written, are the digits of n.
+use Rattle.std.proofs.Common.{◌≡◌, ◌++◌, ◌≤◌, length, take, drop}
+use Rattle.listing.specs.Number.{last_digits}
+use Rattle.listing.proofs.number.write_digits.Given as goal
+
+abbrev pub invariant-loop-i : goal.invariant-loop-i
+invariant-loop-i l = (length l.out ≡ length l.initial.out) × (l.i ≤ l.k) × (last_digits 10 l.i l.rest ++ drop l.i (take l.k l.out) ≡ last_digits 10 l.k l.n)
+
+abbrev pub decreases-loop-i : goal.decreases-loop-i
+decreases-loop-i l = l.i
