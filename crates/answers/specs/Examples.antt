@@ -1,7 +1,7 @@
 -- What the exports show, computed: rows that the nearest other readings fail, with all numbers distinct. Assumes nothing.
-use Rattle.std.specs.Prelude.{◌≡◌, refl, true, false, List, [], ◌∷◌, ℕ, replicate}
+use Rattle.std.specs.Prelude.{◌≡◌, refl, true, false, [], ◌∷◌, ℕ, replicate}
 use Rattle.octets.specs.Logic.{choose, either}
-use Rattle.refusal.specs.Answer.{Answer, gives, refuses, refuse, pass}
+use Rattle.refusal.specs.Answer.{gives, refuses, refuse, pass}
 use Rattle.packet.specs.Packet as Packet
 use Rattle.packet.specs.declared.Class.TheVariants as Class
 use Rattle.packet_reader.specs.Reader as Reader

@@ -21,7 +21,6 @@ use Rattle.connect.specs.declared.reply.SetupFailed.{SetupFailed}
 use Rattle.connect.specs.declared.reply.SetupAuthenticate.{SetupAuthenticate}
 use Rattle.model.specs.Model as Model
 use Rattle.requests.specs.declared.Mode.{Mode}
-use Rattle.requests.specs.declared.Mode.TheVariants as Mode
 use Rattle.held.specs.Head as Head
 use Rattle.model.specs.Model.{Filing}
 use Rattle.model.specs.Says.{Shown, none, packet, ShownPoll, again, no_reply, reply, IfShown, IfPolled, Under, Bare}
@@ -33,9 +32,7 @@ use Rattle.model.specs.Feed.{ShownFed}
 use Rattle.model.specs.Feed as Feed
 use Rattle.model.specs.declared.Connection.{Connection}
 use Rattle.model.specs.declared.Place.{Place}
-use Rattle.model.specs.declared.Place.TheVariants as Place
 use Rattle.model.specs.declared.DiscardMode.{DiscardMode}
-use Rattle.model.specs.declared.DiscardMode.TheVariants as DiscardMode
 use Rattle.rows.specs.State.{four, connection_row, kept_row, sent_row}
 
 -- no numbers; a number itself

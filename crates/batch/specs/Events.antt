@@ -16,9 +16,7 @@ use Rattle.model.specs.Says.{shown_taken, bytes_of_taken, says_event}
 use Rattle.model.specs.SaysBatch.{says_events}
 use Rattle.model.specs.declared.Connection.{Connection}
 use Rattle.model.specs.declared.Event.{Event}
-use Rattle.model.specs.declared.Event.TheVariants as Event
 use Rattle.model.specs.declared.Events.{Events}
-use Rattle.model.specs.declared.Events.TheVariants as Events
 use Rattle.model.specs.declared.Stop.TheVariants as Stops
 use Rattle.polling.specs.Exact.{event_exact}
 use Rattle.model.specs.declared.Handed.{Handed}

@@ -15,7 +15,6 @@ use Rattle.held.specs.Find.{found_event}
 use Rattle.held.specs.Lies.{FindsEvent, FirstEvent}
 use Rattle.held.specs.Theorems as Lists
 use Rattle.held.specs.declared.Found.{Found}
-use Rattle.held.specs.declared.Found.TheVariants as Found
 use Rattle.held.specs.declared.Spot.{Spot}
 use Rattle.model.specs.Client.{Held}
 use Rattle.model.specs.Model.{Taken, none, packet}
@@ -28,7 +27,6 @@ use Rattle.model.specs.PollForEvents.{room_for, marks_each, marks_for}
 use Rattle.model.specs.declared.Connection.{Connection}
 use Rattle.model.specs.declared.Handed.{Handed}
 use Rattle.model.specs.declared.Event.{Event}
-use Rattle.model.specs.declared.Event.TheVariants as Event
 use Rattle.model.specs.Moved.{moved_state}
 use Rattle.polling.specs.Exact.{event_at, without, stays, moved, event_from, event_exact, EventStep}
 use Rattle.polling.specs.Left.{event_is}

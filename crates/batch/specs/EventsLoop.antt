@@ -23,9 +23,7 @@ use Rattle.model.specs.PollForEvents.{turns, lent, room_for, handing, or_refused
 use Rattle.model.specs.declared.Connection.{Connection}
 use Rattle.model.specs.declared.Handed.{Handed}
 use Rattle.model.specs.declared.Event.{Event}
-use Rattle.model.specs.declared.Event.TheVariants as Event
 use Rattle.model.specs.declared.Events.{Events}
-use Rattle.model.specs.declared.Events.TheVariants as Events
 use Rattle.model.specs.declared.Stop.TheVariants as Stops
 use Rattle.model.specs.declared.Stop as Declared
 use Rattle.polling.specs.Exact.{stays, event_exact}

@@ -15,7 +15,6 @@ use Rattle.model.specs.Feed.{Stopped, ended, partial, refused, Took, Feeding, mo
 use Rattle.model.specs.declared.Connection.{Connection}
 use Rattle.model.specs.declared.Fed.{Fed}
 use Rattle.batch.specs.declared.feed.Turned.{Turned}
-use Rattle.batch.specs.declared.feed.Turned.TheVariants as Turned
 
 -- ---- THE MODEL
 

@@ -7,7 +7,6 @@ use Rattle.std.proofs.Math.Seq.{take-length}
 use Rattle.refusal.specs.Answer.{Answer, gives, refuses, gives_same}
 use Rattle.refusal.specs.Numbers.{number_of}
 use Rattle.refusal.specs.declared.Refusal.{Refusal}
-use Rattle.refusal.specs.declared.Refusal.TheVariants as Refusal
 use Rattle.sequence.specs.declared.SequenceNumber.{SequenceNumber}
 use Rattle.packet.specs.Packet.{least_packet}
 use Rattle.packet.specs.Class.{says_class}
@@ -16,7 +15,6 @@ use Rattle.packet_reader.specs.Frame.{cut_packets}
 use Rattle.packet_reader.specs.CutLaws.{aim_least}
 use Rattle.packet_reader.specs.Front.{Front, front_of, says_begins, tells_whole, packets_none}
 use Rattle.packet_reader.specs.declared.Begins.{Begins}
-use Rattle.packet_reader.specs.declared.Begins.TheVariants as Begins
 use Rattle.intake.specs.Exact.{enqueue_exact, EnqueueStep}
 use Rattle.intake.specs.Theorems.{enqueue_sound}
 use Rattle.model.specs.Model.{Filing}
@@ -30,12 +28,9 @@ use Rattle.model.specs.Feed.{Stopped, ended, refused, Took, bytes_taken, exact_t
 use Rattle.model.specs.declared.Connection.{Connection}
 use Rattle.model.specs.declared.Place.{Place}
 use Rattle.model.specs.declared.Enqueued.{Enqueued}
-use Rattle.model.specs.declared.Enqueued.TheVariants as Enqueued
 use Rattle.model.specs.declared.Halt.{Halt}
-use Rattle.model.specs.declared.Halt.TheVariants as Halt
 use Rattle.model.specs.declared.Fed.TheVariants as Fed
 use Rattle.batch.specs.declared.feed.Turned.{Turned}
-use Rattle.batch.specs.declared.feed.Turned.TheVariants as Turned
 use Rattle.batch.specs.Feed.{stop_at, feeding, packet_turn, row, feed_exact, FeedStep, turn_by, on, halted, shown_turn, left_by, says_turned, TurnIs, PacketTurn, FrontTurn}
 use Rattle.batch.specs.FeedLaws.{Goes, turn_goes, turn_stops, stop_nothing}
 

@@ -8,7 +8,6 @@ use Rattle.intake.specs.Exact.{enqueue_exact}
 use Rattle.intake.specs.Event.{Writable, PlainEvent, IsPlain, PlainStep, ready_writable}
 use Rattle.intake.specs.Theorems.{takeable}
 use Rattle.intake.specs.declared.event.Plain.{Plain}
-use Rattle.intake.specs.declared.event.Plain.TheVariants as Plain
 use Rattle.model.specs.Reading.{rooms}
 use Rattle.model.specs.Promise.{answer_of, rooms_of, same}
 use Rattle.model.specs.Sound.{Sound}

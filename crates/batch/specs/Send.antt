@@ -10,7 +10,6 @@ use Rattle.model.specs.SendRequests.{kinds, kind_of, Sendings, sendings, shown_s
 use Rattle.model.specs.SaysBatch.{says_sent_many}
 use Rattle.model.specs.declared.Connection.{Connection}
 use Rattle.model.specs.declared.SentMany.{SentMany}
-use Rattle.model.specs.declared.SentMany.TheVariants as SentMany
 use Rattle.model.specs.declared.Stop as Declared
 use Rattle.sending.specs.Send.{send_exact}
 

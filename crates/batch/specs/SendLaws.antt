@@ -15,7 +15,6 @@ use Rattle.model.specs.SaysBatch.{says_stop}
 use Rattle.model.specs.declared.Connection.{Connection}
 use Rattle.model.specs.declared.ReplyFdKind.{ReplyFdKind}
 use Rattle.model.specs.declared.Sent.{Sent}
-use Rattle.model.specs.declared.Sent.TheVariants as Sent
 use Rattle.refusal.specs.Numbers.{number_of}
 use Rattle.refusal.specs.declared.Refusal.{Refusal}
 use Rattle.model.specs.declared.SentMany.{SentMany}

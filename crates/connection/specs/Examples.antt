@@ -1,12 +1,12 @@
 -- `new` at work, computed: rows that the nearest other readings fail. Assumes nothing.
-use Rattle.std.specs.Prelude.{◌≡◌, refl, List, ℕ, replicate}
+use Rattle.std.specs.Prelude.{◌≡◌, refl, ℕ, replicate}
 use Rattle.octets.specs.Logic.{both, either}
 use Rattle.octets.specs.Bytes.{legal}
 use Rattle.refusal.specs.Answer.{gives, refuses, refuse, pass}
 use Rattle.requests.specs.Room.{capacity}
 use Rattle.model.specs.Model.{fresh, roomy, new}
 use Rattle.model.specs.Reading.{Rooms, rooms}
-use Rattle.connection.specs.Calls.{fresh_state, open_exact, opened}
+use Rattle.connection.specs.Calls.{open_exact, opened}
 
 -- rooms of these lengths
 abbrev lent : ℕ → ℕ → ℕ → Rooms

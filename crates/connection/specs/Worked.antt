@@ -23,7 +23,6 @@ use Rattle.model.specs.Promise.{answer_of, rooms_of, output_of, model_of, guarde
 use Rattle.model.specs.Says.{packet, says_event}
 use Rattle.model.specs.declared.Connection.{Connection}
 use Rattle.model.specs.declared.Event.{Event}
-use Rattle.model.specs.declared.Event.TheVariants as Event
 use Rattle.model.specs.declared.Handed.{Handed}
 use Rattle.model.specs.declared.ReplyFdKind.TheVariants.{NoReply}
 use Rattle.polling.specs.Exact.{event_exact}

@@ -1,5 +1,5 @@
 -- Descriptors in their slots, computed: rows that the nearest other readings fail. Assumes nothing.
-use Rattle.std.specs.Prelude.{◌≡◌, refl, true, false, List, [], ◌∷◌, ◌++◌, ℕ, replicate}
+use Rattle.std.specs.Prelude.{◌≡◌, refl, true, false, [], ◌∷◌, replicate}
 use Rattle.octets.specs.Logic.{choose, both}
 use Rattle.octets.specs.Put.{put, cut}
 use Rattle.descriptors.specs.Room.{total, counted, Room, room, sound, closing, holding, waiting, held_run, inside, count, enqueue, hold, close_run, close_waiting, close_held, remove_run, hand_out, take_closed, Gives}

@@ -10,7 +10,6 @@ use Rattle.held.specs.Moves.{Left, left, removed, demoted}
 use Rattle.held.specs.declared.Window.{Window}
 use Rattle.held.specs.declared.Spot.{Spot}
 use Rattle.held.specs.declared.Found.{Found}
-use Rattle.held.specs.declared.Found.TheVariants as Found
 use Rattle.held.specs.Tally.{own, lower, higher}
 use Rattle.descriptors.specs.Room as Slots
 use Rattle.packet.specs.Packet.{class_of, is_error}
@@ -19,7 +18,6 @@ use Rattle.model.specs.Reading.{Rooms, rooms, slots_of}
 use Rattle.model.specs.Promise.{Done}
 use Rattle.model.specs.declared.Connection.{Connection}
 use Rattle.model.specs.declared.DiscardMode.{DiscardMode}
-use Rattle.model.specs.declared.DiscardMode.TheVariants as DiscardMode
 use Rattle.model.specs.Moved.{moved_state}
 
 -- "sets the mode of an outstanding request"

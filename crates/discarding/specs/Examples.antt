@@ -6,7 +6,7 @@ use Rattle.held.specs.Head as Head
 use Rattle.held.specs.Reading.{fds_in}
 use Rattle.held.specs.Tally.{own, lower, higher}
 use Rattle.descriptors.specs.Room as Slots
-use Rattle.model.specs.Client.{Client, descriptors_of, set_replies}
+use Rattle.model.specs.Client.{descriptors_of, set_replies}
 use Rattle.model.specs.Model.{fresh, of_number, not_of, above, errors_of, closing_order, discarding}
 use Rattle.model.specs.Reading.{with_descriptors}
 use Rattle.model.specs.declared.DiscardMode.{DiscardMode}

@@ -21,7 +21,6 @@ use Rattle.held.specs.Lies.{Other, FirstReply, FindsReply}
 use Rattle.held.specs.Theorems as Held
 use Rattle.held.specs.declared.Spot.{Spot}
 use Rattle.held.specs.declared.Found.{Found}
-use Rattle.held.specs.declared.Found.TheVariants as Found
 use Rattle.held.specs.Tally.{own, lower, higher}
 use Rattle.descriptors.specs.Room as Slots
 use Rattle.descriptors.specs.Theorems as Fds
@@ -31,7 +30,6 @@ use Rattle.packet.specs.Packet.{class_of, is_error}
 use Rattle.model.specs.Reading.{held_with, with_descriptors}
 use Rattle.model.specs.ReadingLaws.{descriptors_with}
 use Rattle.model.specs.declared.DiscardMode.{DiscardMode}
-use Rattle.model.specs.declared.DiscardMode.TheVariants as DiscardMode
 use Rattle.discarding.specs.Runs.{own_is, own_not, lower_not, higher_not, rising_split}
 use Rattle.discarding.specs.Exact.{closed_round, cleared_at, cleared_from, cleared}
 

@@ -22,14 +22,12 @@ use Rattle.held.specs.Theorems as Held
 use Rattle.held.specs.declared.Window.{Window}
 use Rattle.held.specs.declared.Spot.{Spot}
 use Rattle.held.specs.declared.Found.{Found}
-use Rattle.held.specs.declared.Found.TheVariants as Found
 use Rattle.held.specs.Tally.{own}
 use Rattle.descriptors.specs.Room as Slots
 use Rattle.packet.specs.Packet.{PacketClass, class_of, is_error}
 use Rattle.model.specs.Model.{mode_of}
 use Rattle.model.specs.declared.Connection.{Connection}
 use Rattle.model.specs.declared.DiscardMode.{DiscardMode}
-use Rattle.model.specs.declared.DiscardMode.TheVariants as DiscardMode
 use Rattle.discarding.specs.Exact.{mode_set, turn_of, cleared_at, cleared_from, cleared, fds_found, Sweepable, SweepsOne, Sweeps}
 use Rattle.discarding.specs.Rows.{one_step, own_none, own_found}
 

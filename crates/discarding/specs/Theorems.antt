@@ -33,7 +33,6 @@ use Rattle.model.specs.Sound.{Sound, ready}
 use Rattle.model.specs.declared.Connection.{Connection}
 use Rattle.model.specs.declared.ReplyFdKind.TheVariants as ReplyFdKind
 use Rattle.model.specs.declared.DiscardMode.{DiscardMode}
-use Rattle.model.specs.declared.DiscardMode.TheVariants as DiscardMode
 use Rattle.discarding.specs.Runs.{rising_split, of_read, not_read, above_read, length_with}
 use Rattle.discarding.specs.Exact.{mode_set, turn_at, fds_below, fds_before, fds_from, discard_slots, replies_of, discard_left, discard_exact}
 use Rattle.discarding.specs.Rows.{descriptors_round, round_lists, round_sound, round_held, errors_in, becoming, Cleared, cleared_law}

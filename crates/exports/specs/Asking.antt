@@ -11,7 +11,6 @@ use Rattle.model.specs.Reading.{Rooms, rooms, reads}
 use Rattle.model.specs.SendRequests.{kind_of, ShownSendings}
 use Rattle.model.specs.declared.Connection.{Connection}
 use Rattle.model.specs.declared.Place.{Place}
-use Rattle.model.specs.declared.Place.TheVariants as Place
 use Rattle.honest.specs.Run.{Entry, sent, note_sent, note_took}
 use Rattle.honest.specs.Public.{state_of}
 use Rattle.session.specs.Ask.{Ask, send_request_ask, enqueue_fds_ask, enqueue_packet_ask, discard_reply_ask, poll_for_reply_or_error_ask, poll_check_for_reply_or_error, poll_for_reply_ask, poll_for_event_with_sequence, take_closed_fds, prepare_check_for_reply_or_error, send_requests_ask, enqueue_packets_ask, poll_for_events_ask, Value, Outputs, told, Answers, OfBytes}

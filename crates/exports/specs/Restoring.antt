@@ -1,22 +1,19 @@
 -- What `xm_save` wrote and `xm_restore` read goes on as a session. Assumes nothing.
-use Rattle.std.specs.Prelude.{Bool, true, false, not, List, [], ◌∷◌, ◌≡◌, refl, ℕ, eqb, length, take}
+use Rattle.std.specs.Prelude.{Bool, true, false, not, List, [], ◌∷◌, ◌≡◌, refl, ℕ, length, take}
 use Rattle.std.proofs.Math.Option.{Option, none, some}
 use Rattle.std.proofs.Math.Path.{sym}
 use Rattle.std.proofs.Common.{ap, ◌∙◌, subst, arith}
 use borrow.Author.Tests.{eqb-true}
 use Rattle.octets.specs.Logic.{both, both_left}
 use Rattle.refusal.specs.Answer.{Answer, gives, refuses, refuse, pass, gives_past, gives_rest}
-use Rattle.packet_reader.specs.declared.PacketReader.{PacketReader}
-use Rattle.id_allocator.specs.declared.IdAllocator.{IdAllocator}
 use Rattle.model.specs.Reading.{Rooms, rooms}
 use Rattle.model.specs.declared.Connection.{Connection}
 use Rattle.savepoint.specs.Saved.{Saved, Sections, taken, decode}
-use Rattle.savepoint.specs.Calls.{Laid, laid, Values, length_of, bytes_of, count_of, Saves, fitting, placed, restored, values_of, rooms_after, buffer_after, Restores}
+use Rattle.savepoint.specs.Calls.{Laid, length_of, bytes_of, count_of, Saves, fitting, placed, restored, values_of, rooms_after, buffer_after, Restores}
 use Rattle.honest.specs.Run.{Entry}
-use Rattle.session.specs.Session as Session
 use Rattle.session.specs.Session.{Session}
 use Rattle.session.specs.Theorems.{session_sound}
-use Rattle.rows.specs.State.{connection_slots, connection_of, connection_row, reader_of, ids_of}
+use Rattle.rows.specs.State.{connection_slots, connection_of, reader_of, ids_of}
 use Rattle.rows.specs.Theorems.{connection_back}
 use Rattle.answers.specs.Exported.{returned, shown_of, shown_at}
 use Rattle.answers.specs.Shown.{number}

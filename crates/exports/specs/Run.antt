@@ -8,7 +8,6 @@ use Rattle.model.specs.Model.{has_reply, Filing}
 use Rattle.model.specs.Reading.{rooms, reads}
 use Rattle.model.specs.SendRequests.{kind_of}
 use Rattle.model.specs.declared.Place.{Place}
-use Rattle.model.specs.declared.Place.TheVariants as Place
 use Rattle.honest.specs.Run.{Entry, sent, note_took}
 use Rattle.session.specs.Noting.{note_fed}
 use Rattle.session.specs.Session.{sent_all}

@@ -13,9 +13,7 @@ use Rattle.model.specs.Model as Model
 use Rattle.model.specs.declared.Connection.{Connection}
 use Rattle.model.specs.declared.Place.{Place}
 use Rattle.filing.specs.declared.Asked.{Asked}
-use Rattle.filing.specs.declared.Asked.TheVariants as Asked
 use Rattle.filing.specs.declared.Plan.{Plan}
-use Rattle.filing.specs.declared.Plan.TheVariants as Plan
 
 -- ---- what the enums say
 

@@ -9,7 +9,6 @@ use Rattle.refusal.specs.Answer.{Answer, gives, refuses, refuse, pass, gives_pas
 use Rattle.refusal.specs.Numbers.{number_of}
 use Rattle.sequence.specs.Numbering.{says_full}
 use Rattle.sequence.specs.declared.Full.{Full}
-use Rattle.sequence.specs.declared.Full.TheVariants as Full
 use Rattle.sequence.specs.declared.SequenceNumber.{SequenceNumber}
 use Rattle.refusal.specs.declared.Refusal.{Refusal}
 use Rattle.requests.specs.declared.Request.{Request}
@@ -21,7 +20,6 @@ use Rattle.model.specs.Model as Model
 use Rattle.model.specs.declared.Connection.{Connection}
 use Rattle.model.specs.declared.Place.{Place}
 use Rattle.filing.specs.declared.Asked.{Asked}
-use Rattle.filing.specs.declared.Asked.TheVariants as Asked
 use Rattle.filing.specs.Plan.{says_asked, task, packet_number_in, asked_in, over_room, plan_by, plan_of}
 
 -- ---- what a packet claims

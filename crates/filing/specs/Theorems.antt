@@ -19,7 +19,6 @@ use Rattle.model.specs.Sound.{Sound}
 use Rattle.model.specs.declared.Connection.{Connection}
 use Rattle.model.specs.declared.Place.TheVariants as Place
 use Rattle.requests.specs.declared.Mode.{Mode}
-use Rattle.requests.specs.declared.Mode.TheVariants as Mode
 use Rattle.filing.specs.Plan.{task, packet_number_in, asked_in, over_room, plan_by, plan_of}
 use Rattle.filing.specs.Planned.{plan_ahead}
 use Rattle.filing.specs.Numbered.{asked_read}

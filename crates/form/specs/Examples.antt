@@ -3,7 +3,7 @@ use Rattle.std.specs.Prelude.{◌≡◌, refl, [], ◌∷◌}
 use Rattle.std.proofs.Math.Option.{none, some}
 use Rattle.octets.specs.Logic.{choose}
 use Rattle.octets.specs.Bytes.{low_bytes, low_number, turned, bytes_of, number_in}
-use Rattle.form.specs.Form.{when, and_then, number, byte, read_byte, pair, each, writes, read_some, counted}
+use Rattle.form.specs.Form.{when, and_then, number, byte, read_byte, pair, writes, read_some, counted}
 
 -- a number's least significant byte is first, and what stands behind it is left
 pub number_written : (number 4).write 67305985 ≡ 1 ∷ 2 ∷ 3 ∷ 4 ∷ []

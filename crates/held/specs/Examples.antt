@@ -1,16 +1,16 @@
 -- Held records in their store, computed: rows that the nearest other readings fail. Assumes nothing.
 use Rattle.std.specs.Prelude.{◌≡◌, refl, true, false, List, [], ◌∷◌, ◌++◌, ℕ, zero, suc, leb, length, replicate, set}
 use Rattle.octets.specs.Logic.{choose, both, either}
-use Rattle.octets.specs.Bytes.{word, bytes_of, number_in, low_bytes, low_number, turned}
+use Rattle.octets.specs.Bytes.{bytes_of, number_in, low_bytes, low_number, turned}
 use Rattle.octets.specs.Put.{put, cut}
 use Rattle.octets.specs.Field.{field}
 use Rattle.held.specs.General.{same}
-use Rattle.held.specs.Head.{Record, held, labelled, cost, reply, event, encoded, most_fds, fits, num_of, len_of, fds_of, kind_of, zero_of, decoded, as_event}
+use Rattle.held.specs.Head.{Record, held, labelled, cost, encoded, most_fds, fits, num_of, len_of, fds_of, kind_of, zero_of, decoded, as_event}
 use Rattle.held.specs.Reading.{inside, used, flat, read_up_to, read_all, records, only, replies, events, fds_in, costs, all, rising, known, fine, soundb}
 use Rattle.held.specs.Walk.{walked}
 use Rattle.held.specs.Find.{sought, suits, found_reply, found_event}
 use Rattle.held.specs.Moves.{window, left, behind, slid, stays, appended, removed, handed, demoted}
-use Rattle.held.specs.Tally.{own, lower, higher, tally_of, tallied, tally_one}
+use Rattle.held.specs.Tally.{own, lower, higher, tallied, tally_one}
 use Rattle.held.specs.declared.Spot.{Spot}
 use Rattle.held.specs.declared.Found.TheVariants as Found
 use Rattle.held.specs.declared.Walked.TheVariants as Walked

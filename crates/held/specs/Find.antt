@@ -7,7 +7,6 @@ use Rattle.held.specs.Reading.{records}
 use Rattle.held.specs.declared.Window.{Window}
 use Rattle.held.specs.declared.Spot.{Spot}
 use Rattle.held.specs.declared.Found.{Found}
-use Rattle.held.specs.declared.Found.TheVariants as Found
 
 -- the place of a record that starts at an index, with so many descriptors before it
 abbrev pub place_of : ℕ → ℕ → Record → Spot

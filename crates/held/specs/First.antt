@@ -14,7 +14,6 @@ use Rattle.held.specs.Moves.{window, left, size, next, removed}
 use Rattle.held.specs.declared.Window.{Window}
 use Rattle.held.specs.declared.Spot.{Spot}
 use Rattle.held.specs.declared.Found.{Found}
-use Rattle.held.specs.declared.Found.TheVariants as Found
 
 -- the place of the record at the start of the window
 abbrev pub first_place : Window → List ℕ → Spot

@@ -1,6 +1,6 @@
 -- Laws of tests, of lists and of bytes that know nothing of a record. Assumes nothing.
-use Rattle.std.specs.Prelude.{◌≡◌, refl, Bool, true, false, List, [], ◌∷◌, ◌++◌, ℕ, suc, ◌+◌, ◌-◌, ◌*◌, ◌≤◌, ◌<◌, ◌^◌, eqb, length, take, drop, get_or}
-use Rattle.std.proofs.Common.{sym, ap, ◌∙◌, subst, arith, take_at, drop_at, drop-drop, eq-eqb, eqb-true}
+use Rattle.std.specs.Prelude.{◌≡◌, refl, Bool, true, false, List, [], ◌∷◌, ◌++◌, ℕ, ◌+◌, ◌-◌, ◌≤◌, ◌<◌, eqb, length, take, drop, get_or}
+use Rattle.std.proofs.Common.{sym, ap, ◌∙◌, arith, take_at, drop_at, eq-eqb, eqb-true}
 use Rattle.octets.specs.Logic.{choose, both, both_left, both_right, both_yes, apart}
 use Rattle.octets.specs.Bytes.{number_in}
 use Rattle.octets.specs.Put.{put, cut, cut_add, cut_cut, take_cut, drop_cut, cut_put, cut_put_before}

@@ -10,7 +10,6 @@ use Rattle.held.specs.Find.{place_of, sought, suits, wanted, found_reply, found_
 use Rattle.held.specs.declared.Window.{Window}
 use Rattle.held.specs.declared.Spot.{Spot}
 use Rattle.held.specs.declared.Found.{Found}
-use Rattle.held.specs.declared.Found.TheVariants as Found
 
 -- ---- the first that passes a test
 

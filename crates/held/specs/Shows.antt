@@ -9,7 +9,7 @@ use Rattle.octets.specs.Put.{put, cut, cut_add, length_cut, length_put, cut_put,
 use Rattle.held.specs.General.{choose_either, cut_left, cut_right, cut_put_last}
 use Rattle.held.specs.Head.{Record, cost, encoded, as_event, length_encoded, encoded_event, header_size, count_at, event}
 use Rattle.held.specs.Reading.{inside, used}
-use Rattle.held.specs.Moves.{window, Left, left, behind, slid, stays, stays_room, appended, size, next, Within, removed, demoted}
+use Rattle.held.specs.Moves.{Left, left, behind, slid, stays, stays_room, appended, size, next, Within, removed, demoted}
 use Rattle.held.specs.declared.Window.{Window}
 use Rattle.held.specs.declared.Spot.{Spot}
 

@@ -6,7 +6,7 @@ use Rattle.octets.specs.Logic.{both_left, both_right, both_yes}
 use Rattle.octets.specs.Put.{length_cut}
 use Rattle.held.specs.General.{same_is, same_yes}
 use Rattle.held.specs.Head.{Record, Fits, fits_is, fits_so, reply, most_store}
-use Rattle.held.specs.Reading.{inside, used, flat, read_all, records, replies, only, costs, All, Rising, Known, Readable, Sound, rising, known, fine, soundb}
+use Rattle.held.specs.Reading.{inside, used, flat, read_all, records, replies, only, costs, All, Rising, Known, Readable, Sound, known, fine, soundb}
 use Rattle.held.specs.Rows.{length_flat, read_flat, only_append, only_is, only_other, all_is, all_so, all_map, all_append, all_without, rising_is, rising_so, rising_without, rising_last}
 use Rattle.held.specs.declared.Window.{Window}
 

@@ -20,7 +20,6 @@ use Rattle.held.specs.Keeps.{Kept, kept_appended, between, fits_it, stands_it, k
 use Rattle.held.specs.declared.Window.{Window}
 use Rattle.held.specs.declared.Spot.{Spot}
 use Rattle.held.specs.declared.Walked.{Walked}
-use Rattle.held.specs.declared.Walked.TheVariants as Walked
 
 -- ---- soundness
 

@@ -18,7 +18,6 @@ use Rattle.held.specs.Rows.{read_step, fds_step}
 use Rattle.held.specs.Soundness.{sound_is}
 use Rattle.held.specs.declared.Window.{Window}
 use Rattle.held.specs.declared.Walked.{Walked}
-use Rattle.held.specs.declared.Walked.TheVariants as Walked
 
 -- Sound with the descriptors of the replies in all, or unsound.
 unfoldable pub walked : ℕ → Window → List ℕ → Walked

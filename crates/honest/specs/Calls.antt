@@ -14,9 +14,7 @@ use Rattle.model.specs.Model.{has_reply, send_request, enqueue_fds, take_closed,
 use Rattle.model.specs.Calls.{send, enqueue_fds_ask, enqueue, discard, poll, check, poll_reply, prepare, poll_event, take_closed_ask, Said, step, outcome}
 use Rattle.model.specs.declared.ReplyFdKind.{ReplyFdKind}
 use Rattle.model.specs.declared.DiscardMode.{DiscardMode}
-use Rattle.model.specs.declared.DiscardMode.TheVariants as DiscardMode
 use Rattle.model.specs.declared.Place.{Place}
-use Rattle.model.specs.declared.Place.TheVariants as Place
 use Rattle.honest.specs.Run.{Entry, took, note_sent, note_took, noted, Runs, start, call, Ordinary, Lands, held_as}
 use Rattle.honest.specs.Rules.{Ruled, none, sends_one, takes_one}
 

@@ -7,8 +7,6 @@ use Rattle.refusal.specs.Answer.{Answer, gives, refuses, refuse}
 use Rattle.model.specs.Client.{Held, Client}
 use Rattle.model.specs.Model.{send_request, enqueue_fds, take_closed, enqueue_packet, is_error, discard_reply, Found, nothing, at, behind, find, Taken, none, packet, PollReply, try_again, no_reply, reply, taken_by, poll_for_reply_or_error, checked_by, poll_check, replied_by, poll_for_reply, event_by, poll_for_event}
 use Rattle.model.specs.Calls.{Call, send, enqueue_fds_ask, enqueue, discard, poll, check, poll_reply, prepare, poll_event, take_closed_ask, Said, step, outcome}
-use Rattle.model.specs.declared.DiscardMode.TheVariants as DiscardMode
-use Rattle.model.specs.declared.Place.TheVariants as Place
 use Rattle.model.specs.Batch.{Each}
 use Rattle.honest.specs.Run.{Holds, Hands}
 

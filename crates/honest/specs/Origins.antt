@@ -6,7 +6,6 @@ use Rattle.model.specs.Client.{Held, Client}
 use Rattle.model.specs.Model.{fresh, Filing, enqueue_packet, as_event}
 use Rattle.model.specs.Calls.{Call, enqueue, step}
 use Rattle.model.specs.declared.Place.{Place}
-use Rattle.model.specs.declared.Place.TheVariants as Place
 use Rattle.model.specs.Batch.{Each}
 use Rattle.honest.specs.Run.{Entry, noted, Runs, start, call, held_as}
 use Rattle.honest.specs.Server.{Packet, Own, packets_in}

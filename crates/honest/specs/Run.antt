@@ -9,7 +9,6 @@ use Rattle.model.specs.Model.{fresh, has_reply, send_request, asked_of, claimed,
 use Rattle.model.specs.Calls.{Call, send, enqueue_fds_ask, enqueue, discard, poll, check, poll_reply, prepare, poll_event, take_closed_ask, Said, step}
 use Rattle.model.specs.Calls as Calls
 use Rattle.model.specs.declared.Place.{Place}
-use Rattle.model.specs.declared.Place.TheVariants as Place
 use Rattle.model.specs.Batch.{Each}
 
 -- ---- A run

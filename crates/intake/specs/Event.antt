@@ -9,7 +9,6 @@ use Rattle.refusal.specs.Answer.{Answer, gives, refuse, pass}
 use Rattle.sequence.specs.Numbering.{last_number, says_full}
 use Rattle.sequence.specs.declared.SequenceNumber.{SequenceNumber}
 use Rattle.sequence.specs.declared.Full.{Full}
-use Rattle.sequence.specs.declared.Full.TheVariants as Full
 use Rattle.packet.specs.Packet.{least_packet, most_packet, code_of, packet_class, is_event}
 use Rattle.held.specs.Head.{header_size, held, event}
 use Rattle.held.specs.Reading.{used}
@@ -21,7 +20,6 @@ use Rattle.model.specs.Reading.{rooms}
 use Rattle.model.specs.declared.Connection.{Connection}
 use Rattle.model.specs.declared.Place.TheVariants as Place
 use Rattle.intake.specs.declared.event.Plain.{Plain}
-use Rattle.intake.specs.declared.event.Plain.TheVariants as Plain
 use Rattle.filing.specs.Plan.{task, packet_number_in, asked_in, over_room, plan_by, plan_of, numbered_state}
 use Rattle.filing.specs.Planned.{plan_file}
 use Rattle.filing.specs.Theorems.{event_place, event_claims}

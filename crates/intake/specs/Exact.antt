@@ -15,7 +15,6 @@ use Rattle.model.specs.Says.{says_enqueued}
 use Rattle.model.specs.declared.Connection.{Connection}
 use Rattle.model.specs.declared.Enqueued.{Enqueued}
 use Rattle.model.specs.declared.Place.{Place}
-use Rattle.model.specs.declared.Place.TheVariants as Place
 use Rattle.filing.specs.Plan.{plan_of, numbered_state}
 
 -- ---- the state

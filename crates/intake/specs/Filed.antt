@@ -20,7 +20,6 @@ use Rattle.model.specs.ReadingLaws.{with_append, with_more}
 use Rattle.model.specs.Sound.{Sound, slots_there}
 use Rattle.model.specs.declared.Connection.{Connection}
 use Rattle.model.specs.declared.Place.{Place}
-use Rattle.model.specs.declared.Place.TheVariants as Place
 use Rattle.model.specs.Moved.{moved_read, moved_sound}
 use Rattle.packet.specs.Packet.{least_packet, most_packet}
 use Rattle.intake.specs.Exact.{filed_as}

@@ -20,9 +20,7 @@ use Rattle.model.specs.Promise.{exact_refused, exact_given, same}
 use Rattle.model.specs.declared.Connection.{Connection}
 use Rattle.model.specs.declared.Enqueued.TheVariants as Enqueued
 use Rattle.model.specs.declared.Place.{Place}
-use Rattle.model.specs.declared.Place.TheVariants as Place
 use Rattle.filing.specs.declared.Plan.{Plan}
-use Rattle.filing.specs.declared.Plan.TheVariants as Plan
 use Rattle.filing.specs.Plan.{says_plan, plan_of, numbered_state}
 use Rattle.filing.specs.Planned.{Planned, planned}
 use Rattle.model.specs.Moved.{moved_state}

@@ -1,5 +1,5 @@
 -- What the floors above may count on: the step is the model's, and the state that it leaves is sound. Assumes nothing.
-use Rattle.std.specs.Prelude.{◌≡◌, refl, List, ℕ, ◌<◌, length, take, drop, get_or}
+use Rattle.std.specs.Prelude.{◌≡◌, refl, List, ℕ, ◌<◌, length, drop, get_or}
 use Rattle.std.proofs.Math.Path.{sym, ap, subst}
 use Rattle.std.proofs.Common.{◌∙◌, arith}
 use Rattle.refusal.specs.Answer.{Answer, gives, pass, gives_same, pass_given, pass_agree}
@@ -16,7 +16,6 @@ use Rattle.model.specs.Promise.{Done, model_of, model_pass}
 use Rattle.model.specs.Sound.{Sound}
 use Rattle.model.specs.declared.Connection.{Connection}
 use Rattle.model.specs.declared.Place.{Place}
-use Rattle.model.specs.declared.Place.TheVariants as Place
 use Rattle.filing.specs.Plan.{packet_number_in, asked_in, plan_of, numbered_state}
 use Rattle.filing.specs.Planned.{Planned, planned}
 use Rattle.filing.specs.Numbered.{numbered_sound, numbered_read}

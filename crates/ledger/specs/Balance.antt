@@ -16,9 +16,7 @@ use Rattle.model.specs.Model.{fresh, send_request, enqueue_fds, take_closed, clo
 use Rattle.model.specs.Calls.{Call, send, enqueue_fds_ask, enqueue, discard, poll, check, poll_reply, prepare, poll_event, take_closed_ask, Said, done, closed, refused, step, outcome, run, says_taken, says_poll}
 use Rattle.model.specs.declared.ReplyFdKind.{ReplyFdKind}
 use Rattle.model.specs.declared.DiscardMode.{DiscardMode}
-use Rattle.model.specs.declared.DiscardMode.TheVariants as DiscardMode
 use Rattle.model.specs.declared.Place.{Place}
-use Rattle.model.specs.declared.Place.TheVariants as Place
 use Rattle.filing.specs.Theorems.{event_claims}
 use Rattle.ledger.specs.Sums.{Adds, sum_append, sum_number, sum_find}
 use Rattle.ledger.specs.Saying.{by_refuse, by_choose, by_pass}

@@ -15,7 +15,6 @@ use Rattle.model.specs.ReadingLaws.{used_read}
 use Rattle.model.specs.Says.{ShownPoll}
 use Rattle.model.specs.declared.Connection.{Connection}
 use Rattle.model.specs.declared.DiscardMode.{DiscardMode}
-use Rattle.model.specs.declared.DiscardMode.TheVariants as DiscardMode
 use Rattle.connection.specs.Calls.{Discards, PollsReply}
 use Rattle.session.specs.Ask.{discard_reply_ask, poll_for_reply_ask}
 use Rattle.session.specs.AskLaws.{handed_sound}

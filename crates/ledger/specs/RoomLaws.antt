@@ -5,7 +5,7 @@ use Rattle.std.proofs.Math.ListN.{length}
 use borrow.Author.Tests.{leb-true, leb-false, le-leb, lt-leb, ltb-true, ltb-false, lt-ltb, le-ltb}
 use Rattle.octets.specs.Logic.{choose, both, both_left, both_right, both_yes, apart}
 use Rattle.refusal.specs.Answer.{Answer, gives, refuses, refuse, pass, pass_refuse}
-use Rattle.sequence.specs.Numbering.{last_number, full}
+use Rattle.sequence.specs.Numbering.{last_number}
 use Rattle.sequence.specs.Sending.{sync_span, must_sync, sending}
 use Rattle.packet.specs.Laws.{number_refused}
 use Rattle.packet.specs.Packet.{least_packet, most_packet}

@@ -5,7 +5,6 @@ use Rattle.model.specs.Calls.{Call, send, Said, number, refused}
 use Rattle.model.specs.Reading.{Rooms}
 use Rattle.model.specs.declared.Connection.{Connection}
 use Rattle.model.specs.declared.ReplyFdKind.{ReplyFdKind}
-use Rattle.model.specs.declared.ReplyFdKind.TheVariants as ReplyFdKind
 use Rattle.connection.specs.Calls.{Sends}
 use Rattle.honest.specs.Public.{state_of}
 

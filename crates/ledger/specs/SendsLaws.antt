@@ -19,7 +19,6 @@ use Rattle.model.specs.Reading.{Rooms, reads}
 use Rattle.model.specs.Sound.{Sound, is_sound}
 use Rattle.model.specs.declared.Connection.{Connection}
 use Rattle.model.specs.declared.ReplyFdKind.{ReplyFdKind}
-use Rattle.model.specs.declared.ReplyFdKind.TheVariants as ReplyFdKind
 use Rattle.connection.specs.Calls.{Opens, Sends}
 use Rattle.connection.specs.Opening.{opens_fresh, opens_sound}
 use Rattle.connection.specs.Theorems.{refusal_leaves}

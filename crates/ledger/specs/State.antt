@@ -2,7 +2,6 @@
 use Rattle.std.specs.Prelude.{Bool, true, false, List, [], ◌∷◌, ◌≡◌, ℕ, replicate}
 use Rattle.refusal.specs.Answer.{Answer, gives, refuses}
 use Rattle.requests.specs.declared.Mode.{Mode}
-use Rattle.requests.specs.declared.Mode.TheVariants as Mode
 use Rattle.requests.specs.declared.Request.{Request}
 use Rattle.model.specs.Client.{Numbers, Held, Client, held_packet}
 use Rattle.model.specs.Model.{mode_of}

@@ -26,7 +26,6 @@ use Rattle.model.specs.Feed.{Feeding, bytes_taken}
 use Rattle.model.specs.declared.Connection.{Connection}
 use Rattle.model.specs.declared.DiscardMode.{DiscardMode}
 use Rattle.model.specs.declared.ReplyFdKind.{ReplyFdKind}
-use Rattle.model.specs.declared.ReplyFdKind.TheVariants as ReplyFdKind
 use Rattle.model.specs.declared.Next.{Next}
 use Rattle.batch.specs.Feed.{enqueue_packets}
 use Rattle.savepoint.specs.Calls.{Laid, Values, Saves, Restores}

@@ -11,7 +11,6 @@ use Rattle.packet.specs.Packet.{packet_class}
 use Rattle.model.specs.Model.{send_request, enqueue_fds, take_closed, numbered, asked_of, place_of, claimed, is_held, Filing, take_in, enqueue_packet, as_event, Found, at, find, taken_by, poll_for_reply_or_error, checked_by, poll_check, replied_by, poll_for_reply, event_by, poll_for_event}
 use Rattle.model.specs.Calls.{Call, send, enqueue_fds_ask, enqueue, discard, poll, check, poll_reply, prepare, poll_event, take_closed_ask, Said, number, done, closed, refused, Step, step, outcome, says_filing, says_taken, says_poll}
 use Rattle.model.specs.declared.Place.{Place}
-use Rattle.model.specs.declared.Place.TheVariants as Place
 use Rattle.ledger.specs.Room.{cost_of, added, given_back, NoDiscard}
 use Rattle.ledger.specs.Saying.{by_refuse, by_choose, by_pass}
 use Rattle.ledger.specs.Moving.{costs_append, costs_one, CostsFound, costs_find}

@@ -9,9 +9,7 @@ use Rattle.model.specs.Promise.{Done}
 use Rattle.model.specs.Batch.{Turn, goes, stops, Site, site}
 use Rattle.model.specs.declared.Connection.{Connection}
 use Rattle.model.specs.declared.Halt.{Halt}
-use Rattle.model.specs.declared.Halt.TheVariants as Halt
 use Rattle.model.specs.declared.Fed.{Fed}
-use Rattle.model.specs.declared.Fed.TheVariants as Fed
 
 -- what stops it: no byte is left, part of a packet is left, or the next packet is refused
 pub data Stopped : Type 0 where

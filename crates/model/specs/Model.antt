@@ -8,18 +8,14 @@ use Rattle.sequence.specs.Sending.{sending}
 use Rattle.requests.specs.Room.{requests_most, under_mode}
 use Rattle.requests.specs.declared.Request.{Request}
 use Rattle.requests.specs.declared.Mode.{Mode}
-use Rattle.requests.specs.declared.Mode.TheVariants as Mode
 use Rattle.packet.specs.Packet as Packet
 use Rattle.packet.specs.Packet.{least_packet, most_packet, code_of, PacketClass, packet_class, is_reply, unnumbered, number_after}
 use Rattle.held.specs.Head.{header_size, most_store}
 use Rattle.descriptors.specs.Room.{most_descriptors}
 use Rattle.model.specs.Client.{Held, Client, set_numbers, set_outstanding, set_replies, set_events, set_waiting, set_closing, set_descriptors, arriving, first, used, descriptors_of, inside}
 use Rattle.model.specs.declared.ReplyFdKind.{ReplyFdKind}
-use Rattle.model.specs.declared.ReplyFdKind.TheVariants as ReplyFdKind
 use Rattle.model.specs.declared.DiscardMode.{DiscardMode}
-use Rattle.model.specs.declared.DiscardMode.TheVariants as DiscardMode
 use Rattle.model.specs.declared.Place.{Place}
-use Rattle.model.specs.declared.Place.TheVariants as Place
 
 -- ---- Rooms: the start
 

@@ -11,7 +11,6 @@ use Rattle.sequence.specs.Sending.{sending, must_sync}
 use Rattle.requests.specs.Room as Requests
 use Rattle.requests.specs.declared.Request.{Request}
 use Rattle.requests.specs.declared.Mode.{Mode}
-use Rattle.requests.specs.declared.Mode.TheVariants as Mode
 use Rattle.held.specs.General.{same}
 use Rattle.held.specs.Head as Head
 use Rattle.held.specs.Reading as Store
@@ -19,7 +18,6 @@ use Rattle.descriptors.specs.Room as Slots
 use Rattle.packet.specs.Packet as Packet
 use Rattle.packet.specs.Packet.{was_sent, class_of}
 use Rattle.packet.specs.declared.Class.{Class}
-use Rattle.packet.specs.declared.Class.TheVariants as Class
 use Rattle.model.specs.Client.{Numbers, Held, Client, set_numbers, set_outstanding, set_replies, set_events, set_waiting, set_closing, held_packet, set_descriptors, arriving, first, costs, used, descriptors_of, inside}
 use Rattle.model.specs.Model as Model
 use Rattle.model.specs.Reading.{Rooms, rooms, count, with_descriptors, reads}

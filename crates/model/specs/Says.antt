@@ -10,22 +10,14 @@ use Rattle.model.specs.Model as Model
 use Rattle.model.specs.Model.{Filing}
 use Rattle.model.specs.declared.Connection.{Connection}
 use Rattle.model.specs.declared.Next.{Next}
-use Rattle.model.specs.declared.Next.TheVariants as Next
 use Rattle.model.specs.declared.Sent.{Sent}
-use Rattle.model.specs.declared.Sent.TheVariants as Sent
 use Rattle.model.specs.declared.Enqueued.{Enqueued}
-use Rattle.model.specs.declared.Enqueued.TheVariants as Enqueued
 use Rattle.model.specs.declared.Handed.{Handed}
 use Rattle.model.specs.declared.Polled.{Polled}
-use Rattle.model.specs.declared.Polled.TheVariants as Polled
 use Rattle.model.specs.declared.PollReply.{PollReply}
-use Rattle.model.specs.declared.PollReply.TheVariants as PollReply
 use Rattle.model.specs.declared.Event.{Event}
-use Rattle.model.specs.declared.Event.TheVariants as Event
 use Rattle.model.specs.declared.Closed.{Closed}
-use Rattle.model.specs.declared.Closed.TheVariants as Closed
 use Rattle.model.specs.declared.Prepared.{Prepared}
-use Rattle.model.specs.declared.Prepared.TheVariants as Prepared
 
 -- ---- what is shown of a packet that is handed out
 

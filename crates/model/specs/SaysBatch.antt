@@ -8,11 +8,8 @@ use Rattle.model.specs.SendRequests.{ShownSendings}
 use Rattle.model.specs.PollForEvents.{ShownHandings}
 use Rattle.model.specs.declared.Connection.{Connection}
 use Rattle.model.specs.declared.Stop.{Stop}
-use Rattle.model.specs.declared.Stop.TheVariants as Stop
 use Rattle.model.specs.declared.SentMany.{SentMany}
-use Rattle.model.specs.declared.SentMany.TheVariants as SentMany
 use Rattle.model.specs.declared.Events.{Events}
-use Rattle.model.specs.declared.Events.TheVariants as Events
 
 -- ---- what stopped it: a refusal by its number
 

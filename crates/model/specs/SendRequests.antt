@@ -6,7 +6,6 @@ use Rattle.model.specs.Client.{Client}
 use Rattle.model.specs.Model.{send_request}
 use Rattle.model.specs.Batch.{Turn, stops, many, Stop, ended, meaningless, model_turn, model_many}
 use Rattle.model.specs.declared.ReplyFdKind.{ReplyFdKind}
-use Rattle.model.specs.declared.ReplyFdKind.TheVariants as ReplyFdKind
 
 -- the bytes 0, 1 and 2 mean the three kinds, and others none
 abbrev pub kinds : ℕ

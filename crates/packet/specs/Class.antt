@@ -6,7 +6,6 @@ use borrow.Author.Tests.{eq-eqb, ne_eqb}
 use Rattle.octets.specs.Logic.{choose, either}
 use Rattle.packet.specs.Packet.{error_code, reply_code, sent_bit, was_sent, generic_event, PacketClass, error, reply, event, generic, class_of, class_number, keymap_notify, unnumbered, packet_class, has_length, is_plain, is_event}
 use Rattle.packet.specs.declared.Class.{Class}
-use Rattle.packet.specs.declared.Class.TheVariants as Class
 
 -- what the enum says
 abbrev pub says_class : Class → PacketClass

@@ -8,7 +8,6 @@ use Rattle.held.specs.Find.{found_reply, found_event}
 use Rattle.held.specs.Moves.{Left, left, removed, demoted}
 use Rattle.held.specs.declared.Spot.{Spot}
 use Rattle.held.specs.declared.Found.{Found}
-use Rattle.held.specs.declared.Found.TheVariants as Found
 use Rattle.descriptors.specs.Room as Slots
 use Rattle.model.specs.Client.{Held, held_packet}
 use Rattle.model.specs.Model as Model

@@ -11,7 +11,6 @@ use Rattle.held.specs.Moves.{demoted}
 use Rattle.held.specs.Lies.{Other, FindsReply, FindsEvent}
 use Rattle.held.specs.Theorems as Held
 use Rattle.held.specs.declared.Found.{Found}
-use Rattle.held.specs.declared.Found.TheVariants as Found
 use Rattle.descriptors.specs.Room as Slots
 use Rattle.model.specs.Model as Model
 use Rattle.model.specs.Model.{find, taken_by, poll_for_reply_or_error, checked_by, poll_check, replied_by, poll_for_reply, event_by, poll_for_event}

@@ -6,6 +6,7 @@
 // call beside it the number. In `specs/`, `Answer` is what every such enum says in the rules' own
 // terms, the values given or the number of the refusal, and `refuse` puts refusals in order.
 #![tactic(auto)]
+
 ghost use Rattle.std.specs.Prelude.{◌≡◌};
 ghost use Rattle.refusal.specs.Numbers.{number_of};
 

@@ -2,7 +2,6 @@
 use Rattle.std.specs.Prelude.{◌≡◌, refl, true, false, [], ◌∷◌, map, ℕ, replicate}
 use Rattle.octets.specs.Logic.{both, either, choose}
 use Rattle.octets.specs.Bytes.{legal, low_bytes, turned, bytes_of}
-use Rattle.octets.specs.Field.{field}
 use Rattle.packet.specs.Packet.{was_sent, class_of}
 use Rattle.packet_reader.specs.Frame.{length_as, total_of, aim}
 use Rattle.packet_reader.specs.Reader as Reader

@@ -15,7 +15,7 @@ use Rattle.held.specs.Head as Head
 use Rattle.model.specs.Client.{Held, costs, inside}
 use Rattle.model.specs.Batch.{Each}
 use Rattle.model.specs.Encoding.{InRange}
-use Rattle.form.specs.Form.{number, byte, each, counted}
+use Rattle.form.specs.Form.{number, each, counted}
 use Rattle.form.specs.FormLaws.{Exact, number_exact, byte_exact, pair_exact, counted_exact, each_so, bytes_fit}
 use Rattle.savepoint.specs.Saved.{Saved, in_range, held_fits, sound, request, row_of, held, Sections, file, lay, encode, build, shaped, accepted, taken, decode}
 use Rattle.savepoint.specs.Items.{request_exact, empty, held_exact}

@@ -7,9 +7,7 @@ use Rattle.model.specs.Reading.{Rooms}
 use Rattle.savepoint.specs.Calls.{Laid, laid, Values}
 use Rattle.saving.specs.declared.Client.{Client}
 use Rattle.saving.specs.declared.Saved.{Saved}
-use Rattle.saving.specs.declared.Saved.TheVariants as Saved
 use Rattle.saving.specs.declared.Restored.{Restored}
-use Rattle.saving.specs.declared.Restored.TheVariants as Restored
 
 -- a client with what is lent with it
 abbrev pub laid_of : Client → Rooms → List ℕ → Laid

@@ -1,5 +1,5 @@
 -- The whole file: what a sound client has in its rooms, written section by section, is its savepoint. Assumes nothing.
-use Rattle.std.specs.Prelude.{◌≡◌, refl, Bool, true, false, List, [], ◌∷◌, ◌++◌, map, ℕ, ◌+◌, ◌-◌, ◌≤◌, ◌<◌, ◌^◌, eqb}
+use Rattle.std.specs.Prelude.{◌≡◌, refl, Bool, true, false, List, [], ◌∷◌, ◌++◌, map, ℕ, ◌+◌, ◌≤◌, ◌<◌, ◌^◌, eqb}
 use Rattle.std.proofs.Common.{sym, ap, ◌∙◌, subst, append_assoc, arith, length-take-le, eqb-true}
 use lib.ListN.{length, take, length-append}
 use Rattle.std.proofs.lemmas.Bool.{not-false}

@@ -14,7 +14,6 @@ use Rattle.model.specs.declared.ReplyFdKind.{ReplyFdKind}
 use Rattle.model.specs.declared.Sent.{Sent}
 use Rattle.model.specs.Moved.{sent_state}
 use Rattle.sending.specs.declared.Going.{Going}
-use Rattle.sending.specs.declared.Going.TheVariants as Going
 
 -- WHAT WOULD BE SENT: 3 and 6 by the rule of sending, 5 where as many requests are outstanding as the room has places; otherwise the request's number and the next reply expected.
 unfoldable pub sendable : Connection → ReplyFdKind → Answer Numbers

@@ -8,7 +8,7 @@ use Rattle.octets.specs.Logic.{choose}
 use Rattle.refusal.specs.Answer.{gives, refuse, pass, gives_past, gives_rest, gives_same, pass_given, pass_agree, pass_refuse, pass_pass}
 use Rattle.sequence.specs.Numbering.{last_number}
 use Rattle.sequence.specs.Sending.{Numbers, sending}
-use Rattle.requests.specs.Room.{put_request, outstanding, capacity, legals}
+use Rattle.requests.specs.Room.{put_request, outstanding, legals}
 use Rattle.requests.specs.Theorems.{outstanding_send, legals_send, sized_is, sized_put}
 use Rattle.descriptors.specs.Room as Slots
 use Rattle.descriptors.specs.Theorems as Fds

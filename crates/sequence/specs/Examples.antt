@@ -1,5 +1,5 @@
 -- Numbers and sending, computed: rows that the nearest other readings fail. Assumes nothing.
-use Rattle.std.specs.Prelude.{◌≡◌, ℕ, true, false, refl}
+use Rattle.std.specs.Prelude.{◌≡◌, true, false, refl}
 use Rattle.octets.specs.Logic.{choose, both}
 use Rattle.refusal.specs.Answer.{gives, refuses, refuse}
 use Rattle.sequence.specs.Numbering.{last_number, in_range, full}

@@ -4,7 +4,6 @@ use Rattle.std.proofs.Common.{sym, ap, ◌∙◌, arith, lt-ltb, le-ltb}
 use Rattle.refusal.specs.Answer.{Answer, gives, refuses, refuse, decides}
 use Rattle.refusal.specs.Numbers.{number_of, refusal_of, listed}
 use Rattle.sequence.specs.declared.Full.{Full}
-use Rattle.sequence.specs.declared.Full.TheVariants as Full
 
 -- 01, Rooms: full numbers run from 0 to 2^63 - 1
 abbrev pub last_number : ℕ

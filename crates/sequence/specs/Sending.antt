@@ -7,7 +7,6 @@ use Rattle.refusal.specs.Answer.{Answer, gives, refuses, refuse, decides}
 use Rattle.refusal.specs.Numbers.{number_of, refusal_of, listed}
 use Rattle.sequence.specs.Numbering.{last_number}
 use Rattle.sequence.specs.declared.Sent.{Sent}
-use Rattle.sequence.specs.declared.Sent.TheVariants as Sent
 
 -- next reply expected + 65,534 <= last written
 abbrev pub sync_span : ℕ

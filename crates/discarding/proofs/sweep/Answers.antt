@@ -1,4 +1,4 @@
-use Rattle.std.proofs.Common.{arith, ◌-◌}
+use Rattle.std.proofs.Common.{arith}
 use Rattle.discarding.specs.Steps.{sweeping_start, sweeping_ready, sweeping_ends, sweeping_sum, sweeping_next}
 use Rattle.discarding.proofs.sweep.Goals as goal
 

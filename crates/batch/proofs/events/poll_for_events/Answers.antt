@@ -1,4 +1,4 @@
-use Rattle.std.proofs.Common.{◌-◌, arith, refl}
+use Rattle.std.proofs.Common.{arith, refl}
 use Rattle.batch.specs.EventsLoop.{inv_start, inv_asks, inv_end, inv_stop, inv_next}
 use Rattle.batch.specs.First.{first_told, first_turns}
 use Rattle.batch.proofs.events.poll_for_events.Goals as goal

@@ -1,4 +1,4 @@
-use Rattle.std.proofs.Common.{◌-◌, arith, refl}
+use Rattle.std.proofs.Common.{arith, refl}
 use Rattle.intake.specs.Theorems.{takeable}
 use Rattle.batch.specs.FeedLoop.{inv_start, inv_end, inv_stop, inv_least, inv_next}
 use Rattle.batch.specs.Plain.{ahead_event, sound_writable}

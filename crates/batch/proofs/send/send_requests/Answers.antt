@@ -1,4 +1,4 @@
-use Rattle.std.proofs.Common.{◌-◌, refl}
+use Rattle.std.proofs.Common.{refl}
 use Rattle.batch.specs.SendLaws.{inv_start, inv_asks, inv_end, inv_none, inv_stop, inv_next, told}
 use Rattle.batch.proofs.send.send_requests.Goals as goal
 

@@ -1,4 +1,4 @@
-use Rattle.std.proofs.Common.{◌≡◌, ap, ◌∙◌, List, [], ℕ, ◌+◌, ◌-◌, ◌≤◌, ◌<◌, arith, length, drop}
+use Rattle.std.proofs.Common.{◌≡◌, ap, ◌∙◌, List, [], ℕ, ◌+◌, ◌≤◌, ◌<◌, arith, length, drop}
 use Rattle.held.specs.Head.{Record, header_size, num_of, len_of, kind_of, reply}
 use Rattle.held.specs.Reading.{records, only}
 use Rattle.held.specs.Rest.{Turn, rest_all, rest_none, turn, turn_room, turn_behind}

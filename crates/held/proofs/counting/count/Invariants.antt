@@ -1,7 +1,7 @@
 use Rattle.std.proofs.Common.{◌≡◌, List, ℕ, ◌+◌, ◌-◌, ◌≤◌, length}
 use Rattle.octets.specs.Put.{cut}
 use Rattle.held.specs.Head.{Record, reply}
-use Rattle.held.specs.Reading.{read_all, records, only}
+use Rattle.held.specs.Reading.{read_all, only}
 use Rattle.held.specs.Rest.{Rest}
 use Rattle.held.specs.Tally.{own, higher}
 use Rattle.held.proofs.counting.count.Given as goal

@@ -6,7 +6,6 @@ use Rattle.held.specs.Reading.{read_all, records}
 use Rattle.held.specs.Rest.{Turn, rest_all, rest_none, turn, turn_room, turn_behind}
 use Rattle.held.specs.Find.{sought, suits, wanted}
 use Rattle.held.specs.declared.Found.{Found}
-use Rattle.held.specs.declared.Found.TheVariants as Found
 use Rattle.held.proofs.find.find.Goals as goal
 use Rattle.held.proofs.find.find.Invariants.{Inv}
 

@@ -1,7 +1,7 @@
 use Rattle.std.proofs.Common.{◌≡◌, Bool, List, ℕ, ◌-◌, ◌*◌, ◌≤◌}
 use Rattle.octets.specs.Put.{cut}
 use Rattle.held.specs.Head.{Record}
-use Rattle.held.specs.Reading.{read_all, records}
+use Rattle.held.specs.Reading.{read_all}
 use Rattle.held.specs.Rest.{Rest}
 use Rattle.held.specs.Find.{sought, wanted}
 use Rattle.held.proofs.find.find.Given as goal

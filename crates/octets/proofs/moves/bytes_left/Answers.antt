@@ -1,4 +1,4 @@
-use Rattle.std.proofs.Common.{refl, ◌-◌, arith, length-set}
+use Rattle.std.proofs.Common.{refl, arith, length-set}
 use Rattle.octets.specs.Moves.{copy_none, copy_turn, copy_done, left_ahead}
 use Rattle.octets.proofs.moves.bytes_left.Goals as goal
 

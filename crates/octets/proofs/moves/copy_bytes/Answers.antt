@@ -1,4 +1,4 @@
-use Rattle.std.proofs.Common.{◌≡◌, refl, sym, ap, ◌∙◌, ℕ, ◌+◌, ◌-◌, ◌≤◌, ◌<◌, List, arith, zero-add, length, set, get_or, length-set}
+use Rattle.std.proofs.Common.{◌≡◌, refl, sym, ap, ◌∙◌, ℕ, ◌+◌, ◌≤◌, ◌<◌, List, arith, zero-add, length, set, get_or, length-set}
 use Rattle.octets.specs.Put.{put, cut, cut_all}
 use Rattle.octets.specs.Moves.{copy_none, copy_turn, copy_done}
 use Rattle.octets.proofs.moves.copy_bytes.Goals as goal

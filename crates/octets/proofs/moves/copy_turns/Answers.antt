@@ -1,4 +1,4 @@
-use Rattle.std.proofs.Common.{◌≡◌, refl, sym, ap, ℕ, ◌+◌, ◌-◌, List, arith, zero-add}
+use Rattle.std.proofs.Common.{◌≡◌, refl, sym, ap, ℕ, ◌+◌, List, arith, zero-add}
 use Rattle.octets.specs.Put.{cut}
 use Rattle.octets.specs.Moves.{copy_none, copy_on}
 use Rattle.octets.proofs.moves.copy_turns.Goals as goal

@@ -1,4 +1,4 @@
-use Rattle.std.proofs.Common.{◌≡◌, ℕ, ◌+◌, ◌-◌, ◌≤◌, List, ◌++◌, take, drop, length, reverse, ap, sym, ◌∙◌, drop-drop, arith}
+use Rattle.std.proofs.Common.{◌≡◌, ℕ, ◌+◌, ◌-◌, ◌≤◌, List, ◌++◌, take, drop, reverse, ap, ◌∙◌, drop-drop, arith}
 use borrow.Rule.Slice.PartMut.{put_mid}
 use Rattle.octets.specs.Put.{take_drop}
 use Rattle.octets.specs.Turn.{rev, slice, exchanged}

@@ -1,4 +1,4 @@
-use Rattle.std.proofs.Common.{refl, ◌-◌, arith}
+use Rattle.std.proofs.Common.{refl, arith}
 use Rattle.octets.specs.Moves.{copy_none, left_on}
 use Rattle.octets.proofs.moves.turns_left.Goals as goal
 

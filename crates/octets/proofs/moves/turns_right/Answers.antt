@@ -1,4 +1,4 @@
-use Rattle.std.proofs.Common.{refl, ◌-◌, arith}
+use Rattle.std.proofs.Common.{refl, arith}
 use Rattle.octets.specs.Moves.{right_none, right_on}
 use Rattle.octets.proofs.moves.turns_right.Goals as goal
 

@@ -31,7 +31,7 @@ loop-i-init c = record { most = omega arith; is = refl }
 pub loop-i-preserved : goal.loop-i-preserved
 loop-i-preserved c =
     elim c.if-bytes-i-gt-LAST_CODE.branch [
-      then-bytes-i-gt-LAST_CODE w ↦ record { most = omega arith; is = bad _ _ _ _ _ _ (omega arith) (omega arith) w.if-bytes-i-gt-LAST_CODE.true w.good-is c.loop-i.invariant.is }
+      | then-bytes-i-gt-LAST_CODE w ↦ record { most = omega arith; is = bad _ _ _ _ _ _ (omega arith) (omega arith) w.if-bytes-i-gt-LAST_CODE.true w.good-is c.loop-i.invariant.is }
       | else-bytes-i-gt-LAST_CODE w ↦ record { most = omega arith; is = good _ _ _ _ _ _ (omega arith) (omega arith) w.if-bytes-i-gt-LAST_CODE.false w.good-is c.loop-i.invariant.is }
     ]
 

@@ -1,4 +1,4 @@
-use Rattle.std.proofs.Common.{◌≡◌, sym, ap, ◌∙◌, Bool, List, ℕ, ◌+◌, ◌-◌, ◌≤◌, ◌<◌, arith, le-leb, length, get_or, not}
+use Rattle.std.proofs.Common.{◌≡◌, sym, ap, ◌∙◌, Bool, List, ℕ, ◌+◌, ◌-◌, ◌≤◌, ◌<◌, arith, le-leb, length, get_or}
 use Rattle.octets.specs.Logic.{both}
 use Rattle.octets.specs.Put.{cut, cut_ahead}
 use Rattle.form.specs.Form.{each}

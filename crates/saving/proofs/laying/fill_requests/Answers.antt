@@ -1,4 +1,4 @@
-use Rattle.std.proofs.Common.{◌-◌, arith}
+use Rattle.std.proofs.Common.{arith}
 use Rattle.saving.specs.Laying.{fill_start, fill_done, fill_again}
 use Rattle.saving.proofs.laying.fill_requests.Goals as goal
 

@@ -1,4 +1,4 @@
-use Rattle.std.proofs.Common.{refl, sym, [], ◌-◌, arith}
+use Rattle.std.proofs.Common.{refl, sym, [], arith}
 use Rattle.octets.specs.Put.{put_none}
 use Rattle.held.specs.Reading.{records}
 use Rattle.held.specs.Rest.{rest_all, turn_room}

@@ -1,5 +1,5 @@
 use Rattle.saving.specs.Writing.{codes_none, codes_long, codes_done, codes_again}
-use Rattle.std.proofs.Common.{◌-◌, arith}
+use Rattle.std.proofs.Common.{arith}
 use Rattle.saving.proofs.writing.put_codes.Goals as goal
 
 pub loop-i-init : goal.loop-i-init
