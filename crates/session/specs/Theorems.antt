@@ -24,7 +24,7 @@ use Rattle.connection.specs.Opening.{opens_fresh, opens_sound}
 use Rattle.honest.specs.Run as Run
 use Rattle.honest.specs.Run.{Entry, sent, note_sent, note_took, Wire, Fair, Honest, Right, Ordinary, Filed}
 use Rattle.honest.specs.Public.{state_of, Public, opens, sends, takes, others, again, public_runs, refused_so}
-use Rattle.honest.specs.Theorems as Any
+use Rattle.honest.specs.Theorems as AnyRun
 use Rattle.honest.specs.Span.{further, Misreckoned, run_one_too_many}
 use Rattle.session.specs.Ask.{Ask, send_request_ask, enqueue_fds_ask, enqueue_packet_ask, discard_reply_ask, poll_for_reply_or_error_ask, poll_check_for_reply_or_error, poll_for_reply_ask, poll_for_event_with_sequence, take_closed_fds, prepare_check_for_reply_or_error, send_requests_ask, enqueue_packets_ask, poll_for_events_ask, Value, Outputs, Answers, OfBytes}
 use Rattle.session.specs.AskLaws.{has_form, goes_sound}
@@ -82,22 +82,22 @@ session_public (restored {c = c} {r = r} reader buffer ids out n out' s q b v q'
 
 -- NEVER PAST: whatever the server sends, honest or not, the last read does not pass next reply expected, nor that the last written.
 pub session_never_past : {c : Connection} {r : Rooms} {l : List Entry} → Session c r l → (c.read ≤ c.expected) × (c.expected ≤ c.written)
-session_never_past k = Any.public_never_past (session_public k)
+session_never_past k = AnyRun.public_never_past (session_public k)
 
 -- TRUE NUMBERS: with an honest server the number of each packet taken in is its true one, however long the session is.
 pub session_true : {c : Connection} {r : Rooms} {l : List Entry} → Session c r l → Honest c.order l → Right l
-session_true k h = Any.public_true (session_public k) h
+session_true k h = AnyRun.public_true (session_public k) h
 
 -- A session with an honest server, and the call that brings its next packet.
 module _ {c : Connection} {r : Rooms} {l : List Entry} (k : Session c r l) (h : Honest c.order l) (t : ℕ) (p : List ℕ) (carries : unnumbered (code_of p) ≡ false) (fair : Fair c.order l t p)
     (a : Answer (Filing × Connection)) (r' : Rooms) (enqueues : Enqueues c r p a r') where
   -- FILED: where it is taken in, it is the last of its list under its true number, or if dropped was reckoned by it.
   pub session_filed : (f : Filing) (s : Connection) → a ≡ gives (f, s) → Filed (reads c r) p t (f, reads s r')
-  session_filed = Any.public_filed (session_public k) h t p carries fair (enqueue_exact c r p) a r' enqueues
+  session_filed = AnyRun.public_filed (session_public k) h t p carries fair (enqueue_exact c r p) a r' enqueues
 
   -- NEVER ENDED, NEVER AHEAD: it is refused by 1, 2, 4 and 5 alone.
   pub session_never_ended : (n : ℕ) → a ≡ refuses n → Ordinary n
-  session_never_ended = Any.public_never_ended (session_public k) h t p carries fair (enqueue_exact c r p) a r' enqueues (is_sound c r (session_sound k))
+  session_never_ended = AnyRun.public_never_ended (session_public k) h t p carries fair (enqueue_exact c r p) a r' enqueues (is_sound c r (session_sound k))
 
 -- ONE TOO MANY (02, M-111): a session with an honest server in which `send_request` answers 6 and the last read equals next reply expected. With one request more let through, a run that meets every premise misreckons a packet.
 pub session_one_too_many : {c : Connection} {r : Rooms} {l : List Entry} → Session c r l → Honest c.order l → (r' : Rooms) → Sends c r NoReply (refuses 6) r' → c.read ≡ c.expected → c.read ≤ last_number - wire_values
