@@ -4,7 +4,7 @@
 // room are wanted, is decided there.
 #![tactic(auto)]
 
-ghost use Rattle.std.specs.Prelude.{◌≤◌, length, IfOk};
+ghost use Rattle.std.specs.Prelude.{◌≤◌, length};
 
 use listing::{Stage, Wants};
 use std::io;
@@ -20,15 +20,17 @@ fn main(rt: HostRuntime) -> io::Result<()> {
     run(&rt, &mut rt.stdin(), buf, out)
 }
 
-// More bytes behind those held; how many are held then.
-fn more(input: &mut impl Read, buf: &mut [u8], held: usize) -> io::Result<usize>
+// More bytes behind those held; how many are held then. None come where the input can't be read.
+fn more(input: &mut impl Read, buf: &mut [u8], held: usize) -> usize
     requires { held ≤ length buf.old }
-    ensures { IfOk result (λ n. (held ≤ n) × (n ≤ length buf.new)) }
+    ensures { (held ≤ result) × (result ≤ length buf.new) }
 {
     let end = buf.len();
     let part = &mut buf[held..end];
-    let n = input.read(part)?;
-    Ok(held + n)
+    match input.read(part) {
+        Ok(n) => held + n,
+        Err(_) => held,
+    }
 }
 
 // A proved loop has to end, so it counts turns down from a number that no run uses up.
@@ -47,7 +49,7 @@ fn run(rt: &impl Print, input: &mut impl Read, buf: &mut [u8], out: &mut [u8]) -
         let wants = turn.wants;
         match wants {
             Wants::Bytes => {
-                let filled = more(input, buf, held)?;
+                let filled = more(input, buf, held);
                 over = filled == held;
                 held = filled;
             }
