@@ -4,7 +4,6 @@ pub mod AimLaws
 pub mod Setup
 pub mod SetupLaws
 pub mod Feeding
-pub mod FedLaws
 pub mod Theorems
 pub mod Promises
 pub mod Examples

@@ -12,7 +12,7 @@ use Rattle.savepoint.specs.Saved.{Saved, Sections, taken, decode}
 use Rattle.savepoint.specs.Calls.{Laid, length_of, bytes_of, count_of, Saves, fitting, placed, restored, values_of, rooms_after, buffer_after, Restores}
 use Rattle.honest.specs.Run.{Entry}
 use Rattle.session.specs.Session.{Session}
-use Rattle.session.specs.Theorems.{session_sound}
+use Rattle.session.proofs.Theorems.{session_sound}
 use Rattle.rows.specs.State.{connection_slots, connection_of, reader_of, ids_of}
 use Rattle.rows.specs.Theorems.{connection_back}
 use Rattle.answers.specs.Exported.{returned, shown_of, shown_at}

@@ -13,7 +13,7 @@ use Rattle.honest.specs.Public.{state_of}
 use Rattle.session.specs.Ask.{Ask, form, Value, Outputs, Answers}
 use Rattle.session.specs.AskLaws.{has_form}
 use Rattle.session.specs.Session.{Session, new, call}
-use Rattle.session.specs.Theorems.{session_sound}
+use Rattle.session.proofs.Theorems.{session_sound}
 use Rattle.rows.specs.State.{connection_slots, connection_of}
 use Rattle.rows.specs.Theorems.{connection_back}
 use Rattle.answers.specs.Exported.{returned, shown_of, When, on, off}

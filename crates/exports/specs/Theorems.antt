@@ -18,9 +18,9 @@ use Rattle.honest.specs.Origins.{Lists, Traced, AllTied}
 use Rattle.session.specs.Ask.{enqueue_packet_ask, enqueue_packets_ask}
 use Rattle.session.specs.Noting.{note_fed}
 use Rattle.session.specs.Session.{Session, call}
-use Rattle.session.specs.Theorems.{session_sound, session_true, session_filed, session_never_ended, session_never_past}
+use Rattle.session.proofs.Theorems.{session_sound, session_true, session_filed, session_never_ended, session_never_past}
 use Rattle.session.specs.Serving.{bytes_in, numbers_in, FiledAll}
-use Rattle.session.specs.Served.{session_runs, session_tied, session_fed}
+use Rattle.session.proofs.Served.{session_runs, session_tied, session_fed}
 use Rattle.rows.specs.State.{connection_slots, connection_of}
 use Rattle.answers.specs.Exported.{returned, shown_of, shown_at}
 use Rattle.answers.specs.Shown.{state_row, filing, fed}

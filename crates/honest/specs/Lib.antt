@@ -6,7 +6,6 @@ pub mod Server
 pub mod Origins
 pub mod OriginsLaws
 pub mod Public
-pub mod Theorems
 pub mod Span
 pub mod Computing
 pub mod Needed

@@ -13,7 +13,7 @@ use Rattle.model.specs.Batch.{Many, onward, on_turn, many}
 use Rattle.model.specs.Feed.{Stopped, ended, partial, refused, Took, Feeding, bytes_taken, model_took}
 use Rattle.batch.specs.Feed.{stop_at, enqueue_packets}
 use Rattle.batch.specs.FeedTheorems.{feed_bytes}
-use Rattle.session.specs.FeedFiled.{order_kept}
+use Rattle.session.proofs.FeedFiled.{order_kept}
 
 -- it stopped for want of bytes, not for a refusal
 abbrev pub Waits : Stopped → Type 0

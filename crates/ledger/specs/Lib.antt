@@ -5,15 +5,11 @@ pub mod State
 pub mod Sums
 pub mod Saying
 pub mod Promised
-pub mod Balance
 pub mod RoomLaws
 pub mod Moving
-pub mod Used
 pub mod SendsLaws
 pub mod Outcomes
 pub mod Many
-pub mod Sessions
 pub mod Again
 pub mod StateLaws
 pub mod Needed
-pub mod Theorems

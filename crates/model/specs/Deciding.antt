@@ -1,21 +1,11 @@
 -- A packet taken in, refusal by refusal. Assumes nothing.
-use Rattle.std.specs.Prelude.{◌≡◌, refl, Bool, true, false, not, List, ℕ, ◌+◌, ◌≤◌, ltb, length}
-use Rattle.std.proofs.Common.{ap, ◌∙◌, ltb-false}
-use Rattle.octets.specs.Logic.{both, apart, both_yes}
-use Rattle.refusal.specs.Answer.{Answer, gives, refuse, pass, pass_agree, pass_refuse, pass_pass}
-use Rattle.packet.specs.Packet.{least_packet, most_packet, code_of, packet_class, unnumbered}
+use Rattle.std.specs.Prelude.{List, ℕ, ◌+◌, ltb, length}
+use Rattle.octets.specs.Logic.{both}
+use Rattle.refusal.specs.Answer.{Answer, gives, refuse}
+use Rattle.packet.specs.Packet.{code_of, packet_class}
 use Rattle.held.specs.Head.{header_size}
 use Rattle.model.specs.Client.{Client, used}
-use Rattle.model.specs.Model.{packet_number, Asked, asked_of, place_of, claimed, is_held, Filing, task_by, ahead, decide_by, decide, take_in, enqueue_packet}
-
--- A numbered packet that is not ahead is of a request that was sent.
-pub ahead_not : (code n written : ℕ) → unnumbered code ≡ false → ahead code n written ≡ false → n ≤ written
-unfolding ahead
-ahead_not code n written h e = go (ltb written n) refl
-  where
-    go : (b : Bool) → ltb written n ≡ b → n ≤ written
-    go true f = apart (both_yes (ltb written n) (not (unnumbered code)) f (ap not h)) e
-    go false f = ltb-false written n f
+use Rattle.model.specs.Model.{Asked, place_of, claimed, is_held, Filing, task_by, ahead, take_in}
 
 -- a packet that has its number and whose request is known: 4, 5, or it is taken in;
 abbrev pub fitted_by : Client → List ℕ → ℕ → Asked → Answer (Filing × Client)
@@ -27,19 +17,3 @@ fitted_by c p n a =
 -- 20 before that
 abbrev pub filed_by : Client → List ℕ → ℕ → Asked → Answer (Filing × Client)
 filed_by c p n a = refuse (ahead (code_of p) n c.numbers.written) 20 (fitted_by c p n a)
-
-by_filed : (c : Client) (p : List ℕ) (n : ℕ) (a : Asked) → pass (decide_by c p n a) (λ t. gives (take_in c p t)) ≡ filed_by c p n a
-unfolding decide_by pass
-by_filed c p n a =
-    pass_refuse _ 20 _ _
-    ∙ ap (refuse (ahead (code_of p) n c.numbers.written) 20) (pass_refuse _ 4 _ _ ∙ ap (refuse (ltb (length c.waiting) (claimed p a)) 4) (pass_refuse _ 5 _ _))
-
--- 1, 2, 3, 20, 4 and 5 in their order
-pub enqueue_chain : (c : Client) (p : List ℕ) → enqueue_packet c p
-    ≡ refuse (ltb (length p) least_packet) 1 (refuse (ltb most_packet (length p)) 2 (pass (packet_number c p) (λ n. filed_by c p n (asked_of c n))))
-unfolding enqueue_packet decide
-enqueue_chain c p =
-    pass_refuse _ 1 _ _
-    ∙ ap (refuse (ltb (length p) least_packet) 1)
-    (pass_refuse _ 2 _ _
-    ∙ ap (refuse (ltb most_packet (length p)) 2) (pass_pass (packet_number c p) _ _ ∙ pass_agree (packet_number c p) _ _ (λ n e. by_filed c p n (asked_of c n))))

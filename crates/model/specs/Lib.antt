@@ -1,7 +1,6 @@
 pub mod Client
 pub mod Model
 pub mod Deciding
-pub mod ByClass
 pub mod Calls
 pub mod Examples
 pub mod Reading
@@ -17,5 +16,4 @@ pub mod PollForEvents
 pub mod SaysBatch
 pub mod Feed
 pub mod Encoding
-pub mod EncodingLaws
 pub mod Parts

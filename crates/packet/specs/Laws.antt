@@ -6,7 +6,8 @@ use Rattle.std.proofs.Math.Bool.{true, false}
 use native.Mathlib.Omega.{arith}
 use Rattle.octets.specs.Logic.{choose}
 use Rattle.refusal.specs.Answer.{Answer, gives, refuses, refuse, gives_past, gives_rest, gives_same}
-use Rattle.sequence.specs.Numbering.{last_number, wire_values, FullNumber, full, in_range, number_is, full_near}
+use Rattle.sequence.specs.Numbering.{last_number, wire_values, FullNumber, full, in_range}
+use Rattle.sequence.proofs.NumberingLaws.{number_is, full_near}
 use Rattle.packet.specs.Packet.{code_of, unnumbered, wire_of, number_after}
 
 is_in_range : (n m : ℕ) → gives n ≡ in_range m → (n ≡ m) × (m ≤ last_number)

@@ -10,10 +10,11 @@ use Rattle.octets.specs.Put.{cut}
 use Rattle.octets.specs.Field.{octets_drop}
 use Rattle.requests.specs.declared.Request.{Request}
 use Rattle.form.specs.Form.{number, byte, counted, each, writes}
-use Rattle.form.specs.FormLaws.{some_same, byte_exact, counted_exact, each_so}
-use Rattle.form.specs.At.{At, Here, any, here, bytes_written}
+use Rattle.form.proofs.FormLaws.{some_same, byte_exact, counted_exact, each_so}
+use Rattle.form.specs.At.{At, Here, any}
+use Rattle.form.proofs.At.{here, bytes_written}
 use Rattle.savepoint.specs.Saved.{request_code, code_request, last_code, request}
-use Rattle.savepoint.specs.Items.{code_most, code_request_lem, request_exact}
+use Rattle.savepoint.proofs.Items.{code_most, code_request_lem, request_exact}
 
 abbrev pub is_code : ℕ → Bool
 is_code b = leb b last_code

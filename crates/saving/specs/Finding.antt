@@ -17,12 +17,14 @@ use Rattle.id_allocator.specs.Ids as Ids
 use Rattle.held.specs.Head as Head
 use Rattle.model.specs.Client.{Held, Client, used}
 use Rattle.form.specs.Form.{and_then, number, byte, each, read_some}
-use Rattle.form.specs.FormLaws.{some_same, none_some, when_yes, then_some, number_exact, byte_exact}
-use Rattle.form.specs.At.{At, Here, Not, long, any, fit2, stands, numbers_end, length_numbers, bytes_written, at_zero, not_first, not_then, not_last, counted_fields, numbers_are}
+use Rattle.form.proofs.FormLaws.{some_same, none_some, when_yes, then_some, number_exact, byte_exact}
+use Rattle.form.specs.At.{At, Here, Not, long, any, fit2}
+use Rattle.form.proofs.At.{stands, numbers_end, length_numbers, bytes_written, at_zero, not_first, not_then, not_last, counted_fields, numbers_are}
 use Rattle.savepoint.specs.Saved.{Partial, Saved, target, held_fits, never_fall, in_numbers, in_range, sound_partial, sound, Sections, request, row_of, held, file, build, shaped, decode}
-use Rattle.savepoint.specs.Items.{request_exact, held_exact}
-use Rattle.savepoint.specs.Ranges.{Numbered, numbers_are as numbers-are-in, PartialFits, partial_is}
-use Rattle.savepoint.specs.SavedLaws.{decode_none}
+use Rattle.savepoint.proofs.Items.{request_exact, held_exact}
+use Rattle.savepoint.specs.Ranges.{Numbered, PartialFits}
+use Rattle.savepoint.proofs.Ranges.{numbers_are as numbers-are-in, partial_is}
+use Rattle.savepoint.proofs.SavedLaws.{decode_none}
 use Rattle.saving.specs.declared.finding.Plan.{Plan}
 use Rattle.saving.specs.Codes.{any_requests}
 use Rattle.saving.specs.Records.{ok_rows, checked, EndSays, checked_is, is_checked}

@@ -19,11 +19,12 @@ use Rattle.descriptors.specs.Room.{counted, most_descriptors}
 use Rattle.model.specs.Client.{used, first}
 use Rattle.model.specs.Reading.{Rooms, rooms}
 use Rattle.form.specs.Form.{number, each, writes}
-use Rattle.form.specs.At.{Here, length_numbers as words, bytes_written}
+use Rattle.form.specs.At.{Here}
+use Rattle.form.proofs.At.{length_numbers as words, bytes_written}
 use Rattle.savepoint.specs.Saved.{Saved, target, request, code_request, row_of, build, decode}
-use Rattle.savepoint.specs.Items.{request_code_lem, writes_flat}
-use Rattle.savepoint.specs.SavedLaws.{client_range, partial_fits}
-use Rattle.savepoint.specs.Placed.{rows_long}
+use Rattle.savepoint.proofs.Items.{request_code_lem, writes_flat}
+use Rattle.savepoint.proofs.SavedLaws.{client_range, partial_fits}
+use Rattle.savepoint.proofs.Placed.{rows_long}
 use Rattle.savepoint.specs.Calls.{Laid, fitting, put_all, rows_of, connection_of, rooms_of, reader_of, placed, restored, values_of, rooms_after, buffer_after, Restores}
 use Rattle.saving.specs.declared.Client.{Client}
 use Rattle.saving.specs.declared.finding.Plan.{Plan}

@@ -14,10 +14,10 @@ use Rattle.model.specs.ReadingLaws.{length_out, used_read}
 use Rattle.model.specs.Sound as Connection
 use Rattle.form.specs.Form.{Form, number, byte, counted, writes}
 use Rattle.savepoint.specs.Saved.{Saved, request, row_of, held, lay, encode}
-use Rattle.savepoint.specs.Items.{writes_flat}
+use Rattle.savepoint.proofs.Items.{writes_flat}
 use Rattle.savepoint.specs.Calls.{Laid, saved_of, soundb}
-use Rattle.savepoint.specs.Placed.{costs_rows}
-use Rattle.form.specs.At.{length_numbers as words, bytes_written}
+use Rattle.savepoint.proofs.Placed.{costs_rows}
+use Rattle.form.proofs.At.{length_numbers as words, bytes_written}
 use Rattle.saving.specs.Writing.{length_codes}
 
 -- ---- sections

@@ -22,7 +22,7 @@ use Rattle.model.specs.ReadingLaws.{inside_read}
 use Rattle.model.specs.Sound as Connection
 use Rattle.model.specs.declared.Connection.{Connection}
 use Rattle.savepoint.specs.Saved.{encode}
-use Rattle.savepoint.specs.Theorems.{sound_is}
+use Rattle.savepoint.proofs.Theorems.{sound_is}
 use Rattle.savepoint.specs.Calls.{Laid, saved_of, soundb, holds, length_of, bytes_of, count_of, output_of, Measures, Saves}
 use Rattle.saving.specs.Lengths.{length_encode}
 use Rattle.saving.specs.WritingFile.{Writable, writable}

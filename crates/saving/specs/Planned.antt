@@ -13,9 +13,10 @@ use Rattle.id_allocator.specs.declared.IdAllocator.{IdAllocator}
 use Rattle.held.specs.Head as Head
 use Rattle.model.specs.Client.{Held}
 use Rattle.form.specs.Form.{Form, number, byte, pair, counted, writes}
-use Rattle.form.specs.At.{Here, pair_reads}
+use Rattle.form.specs.At.{Here}
+use Rattle.form.proofs.At.{pair_reads}
 use Rattle.savepoint.specs.Saved.{Sections, request, held, file, build, shaped, sound, decode}
-use Rattle.savepoint.specs.SavedLaws.{decode_some}
+use Rattle.savepoint.proofs.SavedLaws.{decode_some}
 use Rattle.saving.specs.declared.finding.Plan.{Plan}
 
 -- the sections by name, and what follows each

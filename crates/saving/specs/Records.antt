@@ -15,7 +15,7 @@ use Rattle.held.specs.Head.{header_size, cost, fits_is, fits_so, decoded, length
 use Rattle.held.specs.Front.{Begins, Sized}
 use Rattle.model.specs.Client.{Held}
 use Rattle.form.specs.Form.{when, and_then, read_some}
-use Rattle.form.specs.FormLaws.{some_same, when_some, when_yes, then_some}
+use Rattle.form.proofs.FormLaws.{some_same, when_some, when_yes, then_some}
 use Rattle.savepoint.specs.Saved.{held_of, begins, held}
 
 -- ---- what is asked of the numbers: from one on and up to the last, and, where they rise, each from the one before on

@@ -11,7 +11,7 @@ use Rattle.requests.specs.declared.Request.{Request}
 use Rattle.requests.specs.Room.{request_at, upto, outstanding}
 use Rattle.requests.specs.Upto.{length_upto, upto_behind}
 use Rattle.form.specs.Form.{Form, number, byte, counted, writes}
-use Rattle.form.specs.At.{bytes_written}
+use Rattle.form.proofs.At.{bytes_written}
 use Rattle.savepoint.specs.Saved.{mode_code, request_code, request}
 
 -- ---- numbers

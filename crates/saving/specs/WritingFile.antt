@@ -26,7 +26,7 @@ use Rattle.model.specs.Sound as Connection
 use Rattle.model.specs.declared.Connection.{Connection}
 use Rattle.form.specs.Form.{number, byte, counted, writes}
 use Rattle.savepoint.specs.Saved.{request, row_of, held, lay, encode}
-use Rattle.savepoint.specs.Items.{writes_flat}
+use Rattle.savepoint.proofs.Items.{writes_flat}
 use Rattle.savepoint.specs.Calls.{Laid, laid, saved_of, soundb, holds}
 use Rattle.saving.specs.Lengths.{length_numbers, length_requests, length_bytes, length_encode}
 

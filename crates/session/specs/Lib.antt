@@ -5,10 +5,6 @@ pub mod Session
 pub mod Serving
 pub mod Rows
 pub mod FeedRow
-pub mod Theorems
 pub mod Engines
-pub mod FeedFiled
-pub mod ServingLaws
-pub mod Served
 pub mod Witness
 pub mod Examples

@@ -3,7 +3,8 @@ use Rattle.std.specs.Prelude.{◌≡◌, refl, List, [], ◌∷◌, ℕ, zero, s
 use Rattle.std.proofs.Common.{arith}
 use Rattle.refusal.specs.Answer.{Answer, gives, refuses, refuse}
 use Rattle.octets.specs.Logic.{choose, both, either}
-use Rattle.sequence.specs.Numbering.{wire_values, FullNumber, full, in_range, full_least}
+use Rattle.sequence.specs.Numbering.{wire_values, FullNumber, full, in_range}
+use Rattle.sequence.proofs.NumberingLaws.{full_least}
 use Rattle.packet.specs.Packet.{was_sent, class_of}
 use Rattle.packet_reader.specs.Frame.{length_as, total}
 use Rattle.id_allocator.specs.Ids.{power_below, sound, no_ids, generated, updated}

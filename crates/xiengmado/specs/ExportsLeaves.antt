@@ -3,7 +3,8 @@ use Rattle.std.specs.Prelude.{◌≡◌, Bool, List, [], ◌∷◌, ℕ, ◌+◌
 use Rattle.std.proofs.Common.{sym, ap, ◌∙◌}
 use Rattle.octets.specs.Lent.{leaves}
 use Rattle.refusal.specs.Answer.{Answer}
-use Rattle.sequence.specs.Numbering.{FullNumber, in_range, least_one}
+use Rattle.sequence.specs.Numbering.{FullNumber, in_range}
+use Rattle.sequence.proofs.NumberingLaws.{least_one}
 use Rattle.sequence.specs.Sending.{sending}
 use Rattle.x11_utils.specs.Packet.{checked}
 use Rattle.x11_utils.specs.Error.{parsed}

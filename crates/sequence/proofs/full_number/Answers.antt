@@ -1,4 +1,4 @@
-use Rattle.sequence.specs.Numbering.{full_least, least_past, least_within}
+use Rattle.sequence.proofs.NumberingLaws.{full_least, least_past, least_within}
 use Rattle.std.proofs.Common.{arith}
 use Rattle.sequence.proofs.full_number.Goals as goal
 

@@ -1,5 +1,5 @@
 use Rattle.std.proofs.Common.{sym, ◌∙◌, arith}
-use Rattle.form.specs.At.{numbers_none, numbers_some}
+use Rattle.form.proofs.At.{numbers_none, numbers_some}
 use Rattle.saving.proofs.finding.numbers_at.Goals as goal
 
 pub returns-then-room-k : goal.returns-then-room-k

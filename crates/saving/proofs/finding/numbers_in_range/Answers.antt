@@ -1,7 +1,7 @@
 use Rattle.std.proofs.Common.{sym, ap, ◌∙◌, arith}
 use Rattle.octets.specs.Logic.{apart}
 use Rattle.octets.specs.Bytes.{legal}
-use Rattle.savepoint.specs.Ranges.{are_numbers}
+use Rattle.savepoint.proofs.Ranges.{are_numbers}
 use Rattle.saving.specs.Finding.{not_numbers}
 use Rattle.saving.proofs.finding.numbers_in_range.Goals as goal
 

@@ -1,7 +1,7 @@
 use Rattle.std.proofs.Common.{sym, ap, ◌∙◌, arith}
 use Rattle.octets.specs.Logic.{apart}
 use Rattle.octets.specs.Bytes.{legal}
-use Rattle.savepoint.specs.Ranges.{is_partial}
+use Rattle.savepoint.proofs.Ranges.{is_partial}
 use Rattle.saving.specs.Finding.{not_partial, target_is, filled_long, order_byte}
 use Rattle.saving.proofs.finding.partial_in_range.Goals as goal
 

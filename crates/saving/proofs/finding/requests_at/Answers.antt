@@ -1,4 +1,4 @@
-use Rattle.form.specs.At.{at_zero}
+use Rattle.form.proofs.At.{at_zero}
 use Rattle.saving.specs.Codes.{requests_none, run_order, requests_wrong, requests_good}
 use Rattle.std.proofs.Common.{ap, not}
 use Rattle.saving.proofs.finding.requests_at.Goals as goal

@@ -1,5 +1,5 @@
 use Rattle.std.proofs.Common.{arith}
-use Rattle.form.specs.At.{run_none, run_some}
+use Rattle.form.proofs.At.{run_none, run_some}
 use Rattle.saving.proofs.finding.run_at.Goals as goal
 
 pub returns-then-room-lt-COUNT : goal.returns-then-room-lt-COUNT

@@ -13,9 +13,9 @@ use Rattle.model.specs.Batch.{onward, on_turn, Many, many, notes}
 use Rattle.model.specs.Feed.{Stopped, ended, partial, refused, Took, Feeding, model_took}
 use Rattle.batch.specs.Feed.{stop_at, enqueue_packets}
 use Rattle.honest.specs.Run.{Entry, took, note_took, noted, Runs, call, Fair, Honest, Ordinary}
-use Rattle.honest.specs.Calls.{taking, counted, uncounted}
+use Rattle.honest.proofs.Calls.{taking, counted, uncounted}
 use Rattle.honest.specs.Server.{Packet}
-use Rattle.honest.specs.Theorems.{unnumbered_refused, never_ended, next_filed}
+use Rattle.honest.proofs.Theorems.{unnumbered_refused, never_ended, next_filed}
 use Rattle.session.specs.Noting.{Noting, noting, next, note_packet}
 use Rattle.session.specs.Serving.{bytes_in, numbers_in, FiledAll, NextFair}
 

@@ -9,18 +9,21 @@ use Rattle.packet.specs.Packet.{least_packet, most_packet, code_of, unnumbered}
 use Rattle.model.specs.Client.{Client}
 use Rattle.packet.specs.Laws.{number_last, number_full}
 use Rattle.model.specs.Model.{packet_number, asked_of, Filing, ahead, enqueue_packet}
-use Rattle.model.specs.Deciding.{fitted_by, enqueue_chain}
+use Rattle.model.specs.Deciding.{fitted_by}
+use Rattle.model.proofs.Deciding.{enqueue_chain}
 use Rattle.model.specs.Calls.{Call, step}
 use Rattle.model.specs.Promise.{Done, Promise}
 use Rattle.model.specs.Reading.{Rooms, reads}
 use Rattle.model.specs.Sound.{soundb}
 use Rattle.model.specs.declared.Connection.{Connection}
 use Rattle.honest.specs.Run.{Entry, Runs, Fair, Honest, Right, Ordered, Ordinary, Filed, Hands}
-use Rattle.honest.specs.Rules.{Inv, ruled_inv, ruled_ordered, true_range}
-use Rattle.honest.specs.Calls.{Taking, taking, lands, counted, runs_ruled, one_of}
+use Rattle.honest.specs.Rules.{Inv}
+use Rattle.honest.proofs.RulesLaws.{ruled_inv, ruled_ordered, true_range}
+use Rattle.honest.specs.Calls.{Taking}
+use Rattle.honest.proofs.Calls.{taking, lands, counted, runs_ruled, one_of}
 use Rattle.honest.specs.Server.{packets_in}
 use Rattle.honest.specs.Origins.{Lists, Traced, AllTied, OneOf}
-use Rattle.honest.specs.OriginsLaws.{traced_client, traced_tied, holds_one}
+use Rattle.honest.proofs.OriginsLaws.{traced_client, traced_tied, holds_one}
 use Rattle.honest.specs.Public.{Public, public_runs, came, given_so, refused_so}
 use Rattle.honest.specs.Handing.{hands}
 

@@ -9,7 +9,7 @@ use Rattle.refusal.specs.Answer.{Answer, refuse, pass}
 use Rattle.descriptors.specs.Room.{count}
 use Rattle.descriptors.specs.Counting.{count_append, count_split}
 use Rattle.model.specs.Client.{Held, Client, set_replies, set_events, set_waiting, set_closing, descriptors_of, arriving}
-use Rattle.model.specs.Deciding.{enqueue_chain}
+use Rattle.model.proofs.Deciding.{enqueue_chain}
 use Rattle.model.specs.Model as Model
 use Rattle.packet.specs.Packet.{packet_class}
 use Rattle.model.specs.Model.{fresh, send_request, enqueue_fds, take_closed, close, as_event, numbered, asked_of, place_of, claimed, Filing, take_in, enqueue_packet, with_mode, of_number, not_of, above, closing_order, discarding, discard_reply, Found, at, find, Taken, taken_by, poll_for_reply_or_error, checked_by, poll_check, replied_by, poll_for_reply, event_by, poll_for_event}

@@ -18,14 +18,15 @@ use Rattle.model.specs.declared.ReplyFdKind.TheVariants.{NoReply}
 use Rattle.intake.specs.Exact.{enqueue_exact}
 use Rattle.polling.specs.Exact.{event_exact}
 use Rattle.savepoint.specs.Calls.{laid}
-use Rattle.savepoint.specs.Theorems.{again_sound, again_alike}
+use Rattle.savepoint.proofs.Theorems.{again_sound, again_alike}
 use Rattle.connection.specs.Calls.{Sends, Enqueues}
 use Rattle.connection.specs.Opening.{opens_fresh, opens_sound}
 use Rattle.honest.specs.Run as Run
 use Rattle.honest.specs.Run.{Entry, sent, note_sent, note_took, Wire, Fair, Honest, Right, Ordinary, Filed}
 use Rattle.honest.specs.Public.{state_of, Public, opens, sends, takes, others, again, public_runs, refused_so}
-use Rattle.honest.specs.Theorems as AnyRun
-use Rattle.honest.specs.Span.{further, Misreckoned, run_one_too_many}
+use Rattle.honest.proofs.Theorems as AnyRun
+use Rattle.honest.specs.Span.{further, Misreckoned}
+use Rattle.honest.proofs.SpanRuns.{run_one_too_many}
 use Rattle.session.specs.Ask.{Ask, send_request_ask, enqueue_fds_ask, enqueue_packet_ask, discard_reply_ask, poll_for_reply_or_error_ask, poll_check_for_reply_or_error, poll_for_reply_ask, poll_for_event_with_sequence, take_closed_fds, prepare_check_for_reply_or_error, send_requests_ask, enqueue_packets_ask, poll_for_events_ask, Value, Outputs, Answers, OfBytes}
 use Rattle.session.specs.AskLaws.{has_form, goes_sound}
 use Rattle.session.specs.Noting.{next}

@@ -5,7 +5,7 @@ use Rattle.octets.specs.Logic.{choose}
 use Rattle.refusal.specs.Answer.{Answer, refuse}
 use Rattle.held.specs.Head.{header_size}
 use Rattle.model.specs.Client.{Held, Client, set_waiting, costs, used, arriving}
-use Rattle.model.specs.Deciding.{enqueue_chain}
+use Rattle.model.proofs.Deciding.{enqueue_chain}
 use Rattle.model.specs.Model as Model
 use Rattle.packet.specs.Packet.{packet_class}
 use Rattle.model.specs.Model.{send_request, enqueue_fds, take_closed, numbered, asked_of, place_of, claimed, is_held, Filing, take_in, enqueue_packet, as_event, Found, at, find, taken_by, poll_for_reply_or_error, checked_by, poll_check, replied_by, poll_for_reply, event_by, poll_for_event}

@@ -15,7 +15,7 @@ use Rattle.model.specs.Client.{Held, Client, used, costs}
 use Rattle.model.specs.Model.{fresh, has_reply, is_error, at, find}
 use Rattle.model.specs.Calls.{Call, send, discard, poll_reply, Said, number, done, absent, refused, step, run}
 use Rattle.model.specs.Encoding.{InRange, Encodes, Alike}
-use Rattle.model.specs.EncodingLaws as EncodingLaws
+use Rattle.model.proofs.EncodingLaws as EncodingLaws
 use Rattle.model.specs.Reading.{Rooms, slots_of, reads}
 use Rattle.model.specs.ReadingLaws.{used_read}
 use Rattle.model.specs.Says.{ShownPoll, says_next}
@@ -39,22 +39,23 @@ use Rattle.honest.specs.Public.{state_of}
 use Rattle.session.specs.Ask.{Ask, form, Value, Outputs, told, Answers, OfBytes}
 use Rattle.session.specs.AskLaws as AskLaws
 use Rattle.session.specs.Session.{Session}
-use Rattle.session.specs.Theorems as Session
+use Rattle.session.proofs.Theorems as Session
 use Rattle.ledger.specs.Descriptors.{within, accepted, handed_out, accepted_in, handed_in, brought, found, session_accepted, session_handed}
 use Rattle.ledger.specs.Room.{filled, kept, NoRoom, added, given_back, NoDiscard}
 use Rattle.ledger.specs.Sends.{most_sends, without_reply, numbers_from, sends_of, all_no_room, SendsRow}
 use Rattle.ledger.specs.State.{as_read, shown_by, written_by, Same, AllHeard, Row, Needed, with_order, with_k, with_s, with_written, with_expected, with_read, with_outstanding, with_described, with_request_mode, with_discard, with_replies, with_events, with_number, with_packet, with_held, with_turn, with_waiting, with_closing}
-use Rattle.ledger.specs.Balance as Balance
-use Rattle.ledger.specs.Sessions as Sessions
-use Rattle.ledger.specs.RoomLaws as RoomLaws
+use Rattle.ledger.proofs.Balance as Balance
+use Rattle.ledger.proofs.Sessions as Sessions
+use Rattle.ledger.proofs.RoomLaws as RoomLaws
 use Rattle.ledger.specs.Moving as Moving
-use Rattle.ledger.specs.Used as Used
-use Rattle.ledger.specs.SendsLaws as SendsLaws
+use Rattle.ledger.proofs.Used as Used
+use Rattle.ledger.proofs.SendsLaws as SendsLaws
 use Rattle.ledger.specs.Outcomes.{spoken}
 use Rattle.ledger.specs.Outcomes as Outcomes
 use Rattle.ledger.specs.Many as Many
+use Rattle.ledger.proofs.Many as ManyLaws
 use Rattle.ledger.specs.Again as Again
-use Rattle.ledger.specs.StateLaws as StateLaws
+use Rattle.ledger.proofs.StateLaws as StateLaws
 use Rattle.ledger.specs.Needed as Part
 
 -- ---- 1. SOUND EXACTLY
@@ -181,20 +182,20 @@ call_refused x c r n s o h = Outcomes.call_refused x c r n s o h
 
 -- The requests that `send_requests` sent have the numbers behind the last written, one after the other, and no others are sent.
 pub sends_next : (c : Client) (bytes : List ℕ) (x : Sendings) (c' : Client) → send_requests c bytes ≡ gives (x, c') → Many.Consecutive c x.numbers c'
-sends_next c bytes x c' e = Many.sends_next c bytes x c' e
+sends_next c bytes x c' e = ManyLaws.sends_next c bytes x c' e
 
 -- The public call: the last number is as far from the last written as requests were sent, and is that of the state handed back.
 pub send_requests_count : (c : Connection) (r : Rooms) (bytes : List ℕ) (v : ShownSendings) (c' : Connection) (r' : Rooms) → SendsMany c r bytes (gives (v, c')) r' → (v.last ≡ c.written + v.count) × (c'.written ≡ v.last)
-send_requests_count c r bytes v c' r' h = Many.sends_count c r bytes v c' r' h
+send_requests_count c r bytes v c' r' h = ManyLaws.sends_count c r bytes v c' r' h
 
 -- The events that `poll_for_events` hands out are the first of those held, in order; those behind them stay, and nothing else changes.
 pub events_first : (c : Client) (room marks : ℕ) (x : Handings) (c' : Client) → poll_for_events c room marks ≡ gives (x, c') → Many.HandsFirst c x.events c'
-events_first c room marks x c' e = Many.events_first c room marks x c' e
+events_first c room marks x c' e = ManyLaws.events_first c room marks x c' e
 
 -- The public call: so it is as state and rooms are read, and those events stand in the outputs.
 pub poll_for_events_in_order : (c : Connection) (r : Rooms) (out marks : List ℕ) (v : ShownHandings) (c' : Connection) (r' : Rooms) (out' marks' : List ℕ) → PollsEvents c r out marks (gives (v, c')) r' out' marks'
     → Many.InOrder c r out marks v c' r' out' marks'
-poll_for_events_in_order c r out marks v c' r' out' marks' h = Many.events_in_order c r out marks v c' r' out' marks' h
+poll_for_events_in_order c r out marks v c' r' out' marks' h = ManyLaws.events_in_order c r out marks v c' r' out' marks' h
 
 -- A run of bytes in two pieces is the run: where `enqueue_packets` stopped for want of bytes, what it left with more behind it brings to the same packets and the same state as all at once.
 pub feed_again : (m : Client) (a b : List ℕ) (f : Feeding) (m' : Client) → gives (f, m') ≡ enqueue_packets m a → Again.Waits f.stopped

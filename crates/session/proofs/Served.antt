@@ -23,16 +23,17 @@ use Rattle.honest.specs.Public.{Came, gave, kept, came, public_runs}
 use Rattle.honest.specs.Handing.{hands}
 use Rattle.honest.specs.Server.{Packet, packets_in, carrying, HonestServer}
 use Rattle.honest.specs.Origins.{Lists, Traced, AllTied, OneOf}
-use Rattle.honest.specs.OriginsLaws.{Trace, runs_traced, traced_client, tied_grown, holds_one}
-use Rattle.honest.specs.Theorems.{run_tied}
+use Rattle.honest.specs.OriginsLaws.{Trace}
+use Rattle.honest.proofs.OriginsLaws.{runs_traced, traced_client, tied_grown, holds_one}
+use Rattle.honest.proofs.Theorems.{run_tied}
 use Rattle.session.specs.Ask.{Ask, send_request_ask, enqueue_fds_ask, enqueue_packet_ask, discard_reply_ask, poll_for_reply_or_error_ask, poll_check_for_reply_or_error, poll_for_reply_ask, poll_for_event_with_sequence, take_closed_fds, prepare_check_for_reply_or_error, send_requests_ask, enqueue_packets_ask, poll_for_events_ask, form, Value, Outputs, Answers, OfBytes}
 use Rattle.session.specs.AskLaws.{HasForm, outputs_of, has_form}
 use Rattle.session.specs.Noting.{noting, note_packet, note_fed, took_of}
 use Rattle.session.specs.Session.{Session}
-use Rattle.session.specs.Theorems.{session_public, session_true, session_filed}
-use Rattle.session.specs.FeedFiled.{noted_honest, run_fed, run_refused}
+use Rattle.session.proofs.Theorems.{session_public, session_true, session_filed}
+use Rattle.session.proofs.FeedFiled.{noted_honest, run_fed, run_refused}
 use Rattle.session.specs.Serving.{bytes_in, numbers_in, Serves, call, FiledAll, NextFair, handed_out, HandsTied, of_taken, of_poll}
-use Rattle.session.specs.ServingLaws.{serves_session, serves_in_order, serves_honest}
+use Rattle.session.proofs.ServingLaws.{serves_session, serves_in_order, serves_honest}
 
 -- ---- The records of a session, followed
 

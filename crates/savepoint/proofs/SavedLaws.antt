@@ -16,10 +16,12 @@ use Rattle.model.specs.Client.{Held, costs, inside}
 use Rattle.model.specs.Batch.{Each}
 use Rattle.model.specs.Encoding.{InRange}
 use Rattle.form.specs.Form.{number, each, counted}
-use Rattle.form.specs.FormLaws.{Exact, number_exact, byte_exact, pair_exact, counted_exact, each_so, bytes_fit}
+use Rattle.form.specs.FormLaws.{Exact}
+use Rattle.form.proofs.FormLaws.{number_exact, byte_exact, pair_exact, counted_exact, each_so, bytes_fit}
 use Rattle.savepoint.specs.Saved.{Saved, in_range, held_fits, sound, request, row_of, held, Sections, file, lay, encode, build, shaped, accepted, taken, decode}
-use Rattle.savepoint.specs.Items.{request_exact, empty, held_exact}
-use Rattle.savepoint.specs.Ranges.{held_is, PartialFits, range_is, partial_is}
+use Rattle.savepoint.proofs.Items.{request_exact, empty, held_exact}
+use Rattle.savepoint.specs.Ranges.{PartialFits}
+use Rattle.savepoint.proofs.Ranges.{held_is, range_is, partial_is}
 
 -- THE ONE LAW, for all seven sections
 pub file_exact : Exact file

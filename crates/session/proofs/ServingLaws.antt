@@ -13,7 +13,8 @@ use Rattle.model.specs.declared.Connection.{Connection}
 use Rattle.batch.specs.Feed.{enqueue_packets, feed_exact}
 use Rattle.honest.specs.Run.{Entry, sent, note_sent, note_took, Honest}
 use Rattle.honest.specs.Public.{Came, gave, kept, came}
-use Rattle.honest.specs.Server.{Packet, packets_in, carrying, offered, HonestServer, log_honest}
+use Rattle.honest.specs.Server.{Packet, packets_in, carrying, HonestServer}
+use Rattle.honest.proofs.ServerLaws.{offered, log_honest}
 use Rattle.session.specs.Ask.{Ask, send_request_ask, enqueue_fds_ask, enqueue_packet_ask, discard_reply_ask, poll_for_reply_or_error_ask, poll_check_for_reply_or_error, poll_for_reply_ask, poll_for_event_with_sequence, take_closed_fds, prepare_check_for_reply_or_error, send_requests_ask, enqueue_packets_ask, poll_for_events_ask, Value, Outputs, Answers}
 use Rattle.session.specs.Noting.{noting, next, note_packet, took_of, note_fed}
 use Rattle.session.specs.Session.{Session, sent_all, note_sends, logged}

@@ -18,7 +18,8 @@ use Rattle.held.specs.Head as Head
 use Rattle.held.specs.Reading as Store
 use Rattle.model.specs.Client.{Held, held_packet}
 use Rattle.form.specs.Form.{writes}
-use Rattle.form.specs.FormLaws.{Exact, some_same, none_some, when_some, when_yes}
+use Rattle.form.specs.FormLaws.{Exact}
+use Rattle.form.proofs.FormLaws.{some_same, none_some, when_some, when_yes}
 use Rattle.savepoint.specs.Saved.{request_code, code_mode, code_request, last_code, read_request, request, row_of, held_of, begins, held}
 
 -- ---- requests: by the six cases

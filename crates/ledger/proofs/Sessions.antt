@@ -30,7 +30,7 @@ use Rattle.model.specs.declared.ReplyFdKind.{ReplyFdKind}
 use Rattle.batch.specs.Feed.{stop_at, enqueue_packets}
 use Rattle.batch.specs.Theorems.{Any, all_any}
 use Rattle.savepoint.specs.Calls.{laid}
-use Rattle.savepoint.specs.Theorems.{again_alike}
+use Rattle.savepoint.proofs.Theorems.{again_alike}
 use Rattle.connection.specs.Opening.{opens_fresh}
 use Rattle.honest.specs.Run.{Entry}
 use Rattle.honest.specs.Public.{state_of}
@@ -39,8 +39,8 @@ use Rattle.session.specs.Ask as Asked
 use Rattle.session.specs.AskLaws.{outputs_of, has_form}
 use Rattle.session.specs.Session.{Session, new, call, restored}
 use Rattle.ledger.specs.Descriptors.{within, accepted, unless_refused, handed_out, took_with, closed_by, brings, places_of, finds, brought, found, session_accepted, session_handed}
-use Rattle.ledger.specs.Balance.{count_within, balances}
-use Rattle.ledger.specs.Many.{send_given, took_given, event_given, handed_gives}
+use Rattle.ledger.proofs.Balance.{count_within, balances}
+use Rattle.ledger.proofs.Many.{send_given, took_given, event_given, handed_gives}
 
 -- what stands at the start of an output is found there
 start_found : (out v : List ℕ) → take (length v) (put out 0 v) ≡ v

@@ -1,0 +1,10 @@
+pub mod Theorems
+pub mod RulesLaws
+pub mod ServerLaws
+pub mod TestLaws
+pub mod SpanLaws
+pub mod SpanRuns
+pub mod Calls
+pub mod OriginsLaws
+pub mod Witness
+pub mod SpanWitness

@@ -1,0 +1,3 @@
+pub mod ByClass
+pub mod EncodingLaws
+pub mod Deciding

@@ -1,0 +1,5 @@
+pub mod Items
+pub mod SavedLaws
+pub mod Ranges
+pub mod Placed
+pub mod Theorems

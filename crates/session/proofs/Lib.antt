@@ -1,0 +1,5 @@
+pub mod Theorems
+pub mod ServingLaws
+pub mod FeedFiled
+pub mod Served
+pub mod Witness
