@@ -6,6 +6,6 @@
 // `specs/Descriptors.antt`, what is inside, what a call accepts and what it hands out;
 // `specs/Room.antt`, when a call lacks room; `specs/Sends.antt`, rows of sends; `specs/State.antt`,
 // outcomes as they are read and rows of calls; `model/specs/Encoding.antt`, when state and rooms
-// encode a state and when two are alike. `specs/Theorems.antt` says what is then certain, statements
+// encode a state and when two are alike. `proofs/Theorems.antt` says what is then certain, statements
 // alone, of every public call in one sentence.
 #![tactic(auto)]
