@@ -2,5 +2,3 @@ pub mod Run
 pub mod Refusals
 pub mod Asking
 pub mod Restoring
-pub mod Running
-pub mod Theorems

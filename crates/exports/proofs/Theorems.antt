@@ -27,7 +27,7 @@ use Rattle.answers.specs.Shown.{state_row, filing, fed}
 use Rattle.xiengmado.specs.Exports.{XmEnqueuePacket, XmEnqueuePackets}
 use Rattle.exports.specs.Refusals.{Within, of_calls, named, call_within}
 use Rattle.exports.specs.Run.{Bytes, client_of, filing_at, Export, Run, Meaningless}
-use Rattle.exports.specs.Running.{run_row, came_nine, came_found}
+use Rattle.exports.proofs.Running.{run_row, came_nine, came_found}
 use Rattle.exports.specs.Asking.{legal_small, row_left, filing_meant, export_came}
 
 -- ---- THE THEOREM
