@@ -47,6 +47,11 @@ fn written(rt: &impl Print, answer: Written, out: &[u8]) -> io::Result<()> {
 }
 
 pub(crate) fn errors(rt: &impl Print) -> io::Result<()> {
+    errors_little(rt)?;
+    errors_big(rt)
+}
+
+fn errors_little(rt: &impl Print) -> io::Result<()> {
     error(
         rt,
         octets::LITTLE,
@@ -66,7 +71,10 @@ pub(crate) fn errors(rt: &impl Print) -> io::Result<()> {
         rt,
         octets::LITTLE,
         b"\x00\x10\x0a\x00\x78\x56\x34\x12\x02\x00\x88\x00\x00\x00\x00\x00\x00\x00\x00\x00\x00\x00\x00\x00\x00\x00\x00\x00\x00\x00\x00\x00",
-    )?;
+    )
+}
+
+fn errors_big(rt: &impl Print) -> io::Result<()> {
     error(
         rt,
         octets::BIG,
@@ -106,6 +114,11 @@ fn error(rt: &impl Print, order: u8, packet: &[u8]) -> io::Result<()> {
 }
 
 pub(crate) fn replies(rt: &impl Print) -> io::Result<()> {
+    replies_little(rt)?;
+    replies_big(rt)
+}
+
+fn replies_little(rt: &impl Print) -> io::Result<()> {
     version(
         rt,
         octets::LITTLE,
@@ -125,7 +138,10 @@ pub(crate) fn replies(rt: &impl Print) -> io::Result<()> {
         rt,
         octets::LITTLE,
         b"\x01\x00\x05\x00\x00\x00\x00\x00\x00\x00\x00\x00\x00\x00\x00\x00\x00\x00\x00\x00\x00\x00\x00\x00\x00\x00\x00\x00\x00\x00\x00\x00",
-    )?;
+    )
+}
+
+fn replies_big(rt: &impl Print) -> io::Result<()> {
     version(
         rt,
         octets::BIG,
