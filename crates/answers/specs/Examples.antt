@@ -1,6 +1,7 @@
 -- What the exports show, computed: rows that the nearest other readings fail, with all numbers distinct. Assumes nothing.
-use Rattle.std.specs.Prelude.{◌≡◌, refl, true, false, [], ◌∷◌, ℕ, replicate}
+use Rattle.std.specs.Prelude.{◌≡◌, refl, true, false, [], ◌∷◌, ℕ, replicate, Ok, Err}
 use Rattle.octets.specs.Logic.{choose, either}
+use Rattle.refusal.specs.declared.Refusal.TheVariants.{OutShort, BadRoom}
 use Rattle.refusal.specs.Answer.{gives, refuses, refuse, pass}
 use Rattle.packet.specs.Packet as Packet
 use Rattle.packet.specs.declared.Class.TheVariants as Class
@@ -15,8 +16,8 @@ use Rattle.model.specs.Feed as Feed
 use Rattle.model.specs.declared.Connection.{Connection}
 use Rattle.model.specs.declared.Place.TheVariants as Place
 use Rattle.model.specs.declared.DiscardMode.TheVariants as DiscardMode
-use Rattle.answers.specs.Exported.{returned, shown_of}
-use Rattle.answers.specs.Shown.{roomed, error_fields, version_fields, range_fields, list_fields, packet_framed, packet_reader, completed, progressed, setup_roomed, status_of, setup_fields, success_row, vendor_text, reason_text, state_row, sent_in, first, filing, polled_of, poll_of, event_of, sendings, handings, fed, flag, is_mode, mode_of, mode_number, kind_number}
+use Rattle.answers.specs.Exported.{returned, returned_of, shown_of}
+use Rattle.answers.specs.Shown.{roomed, error_fields, version_fields, range_fields, list_fields, packet_framed, packet_reader, completed, progressed, setup_roomed, status_of, setup_fields, success_row, vendor_text, reason_text, state_row, sent_in, first, filing, polled_of, poll_of, event_of, sendings, handings, fed, flag, is_mode, mode_of, mode_in, mode_number, kind_number}
 use Rattle.rows.specs.State.{connection_row, sent_row}
 
 -- 0 or the number of the refusal, and after a refusal what was there; 9 for a row of another length
@@ -64,3 +65,12 @@ pub meanings : (flag true ≡ 1 ∷ []) × (flag false ≡ 0 ∷ []) × (is_mode
     × (mode_number Mode.Keep ≡ 0) × (mode_number Mode.DiscardReply ≡ 1) × (mode_number Mode.DiscardReplyAndError ≡ 2) × (kind_number 0 ≡ 0) × (kind_number 1 ≡ 1)
 unfolding is_mode mode_of kind_number choose either
 meanings = (refl, refl, refl, refl, refl, refl, refl, refl, refl, refl, refl, refl, refl)
+
+-- what C sees of a result: 0, or the number of the refusal
+pub passed : (returned_of (Ok tt) ≡ 0) × (returned_of (Err OutShort) ≡ 8)
+passed = (refl, refl)
+
+-- the mode that a number means, and 9 for a number that means none
+pub modes : (mode_in 1 ≡ Ok DiscardMode.DiscardReply) × (mode_in 2 ≡ Ok DiscardMode.DiscardReplyAndError) × (mode_in 0 ≡ Err BadRoom) × (mode_in 3 ≡ Err BadRoom)
+unfolding mode_in is_mode mode_of choose either
+modes = (refl, refl, refl, refl)

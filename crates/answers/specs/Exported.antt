@@ -1,13 +1,20 @@
 -- What an export does: what the promise of the call below it says, answered by a number. Assumes nothing.
-use Rattle.std.specs.Prelude.{◌≡◌, refl, Bool, true, false, List, ℕ, get_or}
+use Rattle.std.specs.Prelude.{◌≡◌, refl, Bool, true, false, List, ℕ, get_or, Result}
+use Rattle.std.specs.Result.{IsErrAnd}
 use Rattle.std.proofs.Common.{subst, sym, ap, ◌∙◌}
 use Rattle.octets.specs.Logic.{apart}
-use Rattle.refusal.specs.Answer.{Answer, gives, refuses}
+use Rattle.refusal.specs.declared.Refusal.{Refusal}
+use Rattle.refusal.specs.Numbers.{number_of}
+use Rattle.refusal.specs.Answer.{Answer, gives, refuses, says, passed_on}
 
 -- the number that an export answers: 0, or that of the refusal
 abbrev pub returned : {A : Type 0} → Answer A → ℕ
 returned (gives x) = 0
 returned (refuses n) = n
+
+-- the same of a result that gives nothing more: 0, or the number of its refusal
+abbrev pub returned_of : Result Unit Refusal → ℕ
+returned_of r = returned (says (λ (x : Unit). x) r)
 
 -- what is behind the lent numbers at exit: what is shown of the values given, and after a refusal what was there
 abbrev pub shown_of : {A : Type 0} → (A → List ℕ) → Answer A → List ℕ → List ℕ
@@ -44,7 +51,7 @@ pub data When {A : Type 0} (b : Bool) (same : Type 0) (P : Answer A → Type 0) 
 abbrev pub KeptWhen : {A : Type 0} (test : Bool) (same : Type 0) (P : Answer A → Type 0) (show put : A → List ℕ) (v v' s s' : List ℕ) (code : ℕ) → Type 0
 KeptWhen test same P show put v v' s s' code = Kept (λ a. When test same P a) show put v v' s s' code
 
--- An export that goes by the case of an enum.
+-- An export that goes by the case of an answer.
 pub exported_at : {E A : Type 0} {P : Answer A → Type 0} {show : A → List ℕ} {v v' : List ℕ} {code : ℕ} (says : E → Answer A) {e k : E} → e ≡ k → P (says e) → code ≡ returned (says k)
     → v' ≡ shown_of show (says k) v → Exported P show v v' code
 exported_at {P = P} says {k = k} q p c s = record { answer = says k; promise = subst (λ (x : _). P (says x)) q p; number = c; values = s }
@@ -62,6 +69,10 @@ kept_on {P = P} x p =
 
 pub exported_on : {A : Type 0} {P : Answer A → Type 0} {show : A → List ℕ} {v v' : List ℕ} {code : ℕ} {k : Answer A} → Exported (λ a. a ≡ k) show v v' code → P k → Exported P show v v' code
 exported_on {P = P} x p = record { answer = x.answer; promise = subst P (sym x.promise) p; number = x.number; values = x.values }
+
+-- A refusal that is passed on has its number.
+pub returned_passed : (r : Result Unit Refusal) (e : Refusal) → IsErrAnd r (λ y. y ≡ e) → returned_of r ≡ number_of e
+returned_passed r e p = ap returned_of (passed_on p)
 
 -- An export that refuses by 9 before its call.
 pub kept_off : {A : Type 0} {P : Answer A → Type 0} {show put : A → List ℕ} {v s : List ℕ} → P (refuses 9) → Kept P show put v v s s 9

@@ -1,7 +1,9 @@
 -- What is shown of the values that a call gives: the numbers behind the pointers of its export, in their order. Assumes nothing.
-use Rattle.std.specs.Prelude.{◌≡◌, refl, Bool, true, false, cond, not, List, [], ◌∷◌, ℕ, ◌≤◌, ◌<◌, eqb, ltb, length, get_or, set}
+use Rattle.std.specs.Prelude.{◌≡◌, refl, Bool, true, false, cond, not, List, [], ◌∷◌, ℕ, ◌≤◌, ◌<◌, eqb, ltb, length, get_or, set, Result, Ok, Err}
 use Rattle.std.proofs.Common.{sym, ap, ◌∙◌, arith, eq-eqb, eqb-true, ne_eqb, lt-ltb, le-ltb}
 use Rattle.octets.specs.Logic.{choose, either}
+use Rattle.refusal.specs.declared.Refusal.{Refusal}
+use Rattle.refusal.specs.declared.Refusal.TheVariants.{BadRoom}
 use Rattle.refusal.specs.Answer.{Answer, gives, refuses, refuse, pass}
 use Rattle.x11_utils.specs.declared.X11Error.{X11Error}
 use Rattle.xc_misc.specs.declared.reply.GetVersionReply.{GetVersionReply}
@@ -21,6 +23,7 @@ use Rattle.connect.specs.declared.reply.SetupFailed.{SetupFailed}
 use Rattle.connect.specs.declared.reply.SetupAuthenticate.{SetupAuthenticate}
 use Rattle.model.specs.Model as Model
 use Rattle.requests.specs.declared.Mode.{Mode}
+use Rattle.requests.specs.Room as Room
 use Rattle.held.specs.Head as Head
 use Rattle.model.specs.Model.{Filing}
 use Rattle.model.specs.Says.{Shown, none, packet, ShownPoll, again, no_reply, reply, IfShown, IfPolled, Under, Bare}
@@ -221,13 +224,15 @@ is_mode n = either (eqb n 1) (eqb n 2)
 unfoldable pub mode_of : ℕ → DiscardMode
 mode_of n = choose (eqb n 1) DiscardMode.DiscardReply DiscardMode.DiscardReplyAndError
 
+-- the mode that a number means, or the refusal by 9 of one that means none
+unfoldable pub mode_in : ℕ → Result DiscardMode Refusal
+mode_in n = choose (is_mode n) (Ok (mode_of n)) (Err BadRoom)
+
 -- ---- what the rooms hold
 
 -- what becomes of the answers of a request: 0 where nothing is discarded, 1 for DiscardReply, 2 for DiscardReplyAndError
 abbrev pub mode_number : Mode → ℕ
-mode_number Mode.Keep = 0
-mode_number Mode.DiscardReply = 1
-mode_number Mode.DiscardReplyAndError = 2
+mode_number mode = Room.mode_number mode
 
 -- what a held record is: 0 for a reply, 1 for an event
 unfoldable pub kind_number : ℕ → ℕ
@@ -271,6 +276,23 @@ picked false false false f s n x y z r p q u e = absurd (let w : ◌≡◌ {A = 
 pub status_first : (o : ℕ) (p : List ℕ) (r : Reading) → gives r ≡ read_reply o p → status_of r ≡ get_or p 0 0 ∷ []
 unfolding read_reply read_failed read_success
 status_first o p r e = picked _ _ _ _ _ (get_or p 0 0) _ _ _ r refl refl refl e
+
+-- A mode that was found is the one that the number means, and a refusal is by 9 of a number that means none.
+pub mode_meant : {m : DiscardMode} (n : ℕ) → Ok m ≡ mode_in n → (is_mode n ≡ true) × (m ≡ mode_of n)
+unfolding mode_in choose
+mode_meant {m} n e = go (is_mode n) refl e
+  where
+    go : (b : Bool) → is_mode n ≡ b → Ok m ≡ choose b (Ok (mode_of n)) (Err BadRoom) → (is_mode n ≡ true) × (m ≡ mode_of n)
+    go true h k = (h, cc)
+    go false h k = absurd (let z : ◌≡◌ {A = ℕ} 0 1 = cc in omega arith)
+
+pub mode_meaningless : {e : Refusal} (n : ℕ) → Err e ≡ mode_in n → (is_mode n ≡ false) × (e ≡ BadRoom)
+unfolding mode_in choose
+mode_meaningless {e} n p = go (is_mode n) refl p
+  where
+    go : (b : Bool) → is_mode n ≡ b → Err e ≡ choose b (Ok (mode_of n)) (Err BadRoom) → (is_mode n ≡ false) × (e ≡ BadRoom)
+    go true h k = absurd (let z : ◌≡◌ {A = ℕ} 0 1 = cc in omega arith)
+    go false h k = (h, cc)
 
 -- The number of a mode is the one that is kept of a request under that mode.
 pub mode_kept : (n : ℕ) → is_mode n ≡ true → mode_number (Model.mode_of (mode_of n)) ≡ n

@@ -1,12 +1,14 @@
 // The numbers that stand for kinds, modes, places and what stopped a call, and what they mean.
+// They stay functions: a `From` of two types of other crates cannot stand in this one, and the crate
+// of places and stops knows nothing of the numbers that C sees.
 ghost use Rattle.std.specs.Prelude.{◌≡◌};
 ghost use Rattle.model.specs.SaysBatch.{says_stop};
 ghost use Rattle.model.specs.Feed.{says_halt};
-ghost use Rattle.answers.specs.Shown.{place_number, stop_number, halt_number, mode_of, is_mode, mode_number, kind_number};
+ghost use Rattle.answers.specs.Shown.{place_number, stop_number, halt_number, mode_in, kind_number};
 
 use crate::code;
 use model::{DiscardMode, Halt, Place, Stop};
-use requests::Mode;
+use refusal::Refusal;
 
 // The largest number that means a kind.
 pub const MOST_KIND: u8 = 2;
@@ -17,35 +19,20 @@ const NO_KIND: u32 = 255;
 // What stops a row of packets where part of one is left.
 const PART: u32 = 254;
 
-pub fn is_mode(mode: u8) -> bool
-    ensures { result ≡ is_mode mode }
+// A number that means no mode is refused by 9.
+#[tactic(auto, unfolding(crate::specs::Shown::mode_in, crate::specs::Shown::mode_of, crate::specs::Shown::is_mode, octets::specs::Logic::choose, octets::specs::Logic::either))]
+pub fn discard_mode(number: u8) -> Result<DiscardMode, Refusal>
+    ensures { result ≡ mode_in number }
 {
-    if mode == 1 {
-        return true;
-    }
-    mode == 2
-}
-
-pub fn mode_of(mode: u8) -> DiscardMode
-    ensures { result ≡ mode_of mode }
-{
-    if mode == 1 {
-        return DiscardMode::DiscardReply;
-    }
-    DiscardMode::DiscardReplyAndError
-}
-
-pub fn mode_number(mode: Mode) -> u8
-    ensures { result ≡ mode_number mode }
-{
-    match mode {
-        Mode::Keep => 0,
-        Mode::DiscardReply => 1,
-        Mode::DiscardReplyAndError => 2,
+    match number {
+        1 => Ok(DiscardMode::DiscardReply),
+        2 => Ok(DiscardMode::DiscardReplyAndError),
+        _ => Err(Refusal::BadRoom),
     }
 }
 
 // 0 for a held reply, 1 for a held event.
+#[tactic(auto, unfolding(crate::specs::Shown::kind_number, octets::specs::Logic::choose))]
 pub fn kind_number(kind: u8) -> u8
     ensures { result ≡ kind_number kind }
 {
@@ -55,11 +42,7 @@ pub fn kind_number(kind: u8) -> u8
 pub fn place_number(place: Place) -> u8
     ensures { result ≡ place_number place }
 {
-    match place {
-        Place::Replies => 0,
-        Place::Events => 1,
-        Place::Dropped => 2,
-    }
+    place as u8
 }
 
 pub fn stop_number(stop: Stop) -> u32

@@ -1,5 +1,5 @@
 -- The loop over events: what was handed out stands in the outputs, and the rest leaves what the whole leaves. Assumes nothing.
-use Rattle.std.specs.Prelude.{◌≡◌, Bool, true, ℕ, zero, suc, ◌+◌, ◌-◌, ◌*◌, ◌≤◌, leb, eqb}
+use Rattle.std.specs.Prelude.{◌≡◌, Bool, true, ℕ, zero, suc, ◌+◌, ◌-◌, ◌*◌, ◌≤◌, leb, eqb, Result, Ok, Err, Some, None}
 use Rattle.std.proofs.Math.Path.{refl, sym, ap, subst}
 use Rattle.std.proofs.Common.{◌∙◌, le-leb, eq-eqb, ne_eqb}
 use mathlib.Core.List.{List, [], ◌∷◌, ◌++◌, append-nil, append_assoc}
@@ -22,7 +22,6 @@ use Rattle.model.specs.SaysBatch.{says_stop}
 use Rattle.model.specs.PollForEvents.{turns, lent, room_for, handing, or_refused, packets_of, marks_of, shown_handings, packets_of_handings, marks_of_handings, marks_each, marks_for}
 use Rattle.model.specs.declared.Connection.{Connection}
 use Rattle.model.specs.declared.Handed.{Handed}
-use Rattle.model.specs.declared.Event.{Event}
 use Rattle.model.specs.declared.Events.{Events}
 use Rattle.model.specs.declared.Stop.TheVariants as Stops
 use Rattle.model.specs.declared.Stop as Declared
@@ -30,6 +29,7 @@ use Rattle.polling.specs.Exact.{stays, event_exact}
 use Rattle.polling.specs.Theorems.{event_leaves}
 use Rattle.batch.specs.Events.{event_step, handed_exact, events_exact, placed, room_left, TurnStep, stopped_by, Stored, EventsStep}
 use Rattle.batch.specs.EventsLaws.{Out, out_is, none_is, room_most, marks_there}
+use Rattle.model.specs.declared.Polled.{Polled}
 
 -- ---- the turns, by the marks that are left
 
@@ -142,7 +142,7 @@ module _ (c₀ : Connection) (s₀ out₀ marks₀ : List ℕ) (c : Connection) 
   -- a row that gives what it handed out
   row_gives : (stop : Declared.Stop)
       → ((q f : List ℕ) → events_exact c₀ (rooms q s₀ f) (length out₀) (length marks₀) ≡ gives (record { value = record { events = I.events; stopped = says_stop stop }; state = c; left = rooms q s f }))
-      → EventsStep c₀ s₀ out₀ marks₀ (Events.Handed count used stop c) s out marks
+      → EventsStep c₀ s₀ out₀ marks₀ (Ok (record { count = count; bytes = used; stop = stop; connection = c })) s out marks
   unfolding answer_of rooms_of output_of
   row_gives stop E =
       record {
@@ -155,7 +155,7 @@ module _ (c₀ : Connection) (s₀ out₀ marks₀ : List ℕ) (c : Connection) 
       }
 
   -- or is refused, where that was nothing
-  row_refused : (r : Refusal) → I.events ≡ [] → ((q f : List ℕ) → events_exact c₀ (rooms q s₀ f) (length out₀) (length marks₀) ≡ refuses (number_of r)) → EventsStep c₀ s₀ out₀ marks₀ (Events.Refused r) s out marks
+  row_refused : (r : Refusal) → I.events ≡ [] → ((q f : List ℕ) → events_exact c₀ (rooms q s₀ f) (length out₀) (length marks₀) ≡ refuses (number_of r)) → EventsStep c₀ s₀ out₀ marks₀ (Err r) s out marks
   unfolding answer_of rooms_of output_of packets_of marks_of
   row_refused r n E =
       let z : count ≡ 0 = sym I.counted ∙ ap length n in
@@ -176,16 +176,16 @@ module _ (c₀ : Connection) (s₀ out₀ marks₀ : List ℕ) (c : Connection) 
   unfolding event_step handing exact_turn left_now
   none_row q f e = ap (λ y. handing (length out₀ - used) (exact_turn y)) (e ∙ ap (event_exact c (rooms q s f)) room_is)
 
-  pub inv_end : (a : Event) (c' : Connection) (s' out' marks' : List ℕ) → a ≡ Event.Nothing c' → TurnStep c s out marks used (marks_each * count) a s' out' marks'
-      → EventsStep c₀ s₀ out₀ marks₀ (Events.Handed count used Stops.End c) s' out' marks'
+  pub inv_end : (a : Result Polled Refusal) (c' : Connection) (s' out' marks' : List ℕ) → a ≡ Ok (record { packet = None; connection = c' }) → TurnStep c s out marks used (marks_each * count) a s' out' marks'
+      → EventsStep c₀ s₀ out₀ marks₀ (Ok (record { count = count; bytes = used; stop = Stops.End; connection = c })) s' out' marks'
   unfolding placed events_exact handed_exact
   inv_end a c' s' out' marks' e x =
       let y = subst (λ z. TurnStep c s out marks used (marks_each * count) z s' out' marks') e x in
       let n = none_is c s I.stored _ c' s' y.exact in
       let o : out' ≡ out = y.output [] [] ∙ ap (λ z. placed bytes_of_taken used z out) (sym (n.0 [] [])) ∙ put_none out used in
-      subst (λ z. EventsStep c₀ s₀ out₀ marks₀ (Events.Handed count used Stops.End c) z out' marks') (sym n.1)
-      (subst (λ z. EventsStep c₀ s₀ out₀ marks₀ (Events.Handed count used Stops.End c) s z marks') (sym o)
-      (subst (λ z. EventsStep c₀ s₀ out₀ marks₀ (Events.Handed count used Stops.End c) s out z) (sym y.marks_are)
+      subst (λ z. EventsStep c₀ s₀ out₀ marks₀ (Ok (record { count = count; bytes = used; stop = Stops.End; connection = c })) z out' marks') (sym n.1)
+      (subst (λ z. EventsStep c₀ s₀ out₀ marks₀ (Ok (record { count = count; bytes = used; stop = Stops.End; connection = c })) s z marks') (sym o)
+      (subst (λ z. EventsStep c₀ s₀ out₀ marks₀ (Ok (record { count = count; bytes = used; stop = Stops.End; connection = c })) s out z) (sym y.marks_are)
       (row_gives Stops.End (λ q f. ap handed_exact (stop_row ended q f (none_row q f (n.0 q f))) ∙ or_ended I.events _))))
 
   -- ---- a refusal
@@ -203,17 +203,17 @@ module _ (c₀ : Connection) (s₀ out₀ marks₀ : List ℕ) (c : Connection) 
           ≡ or_refused I.events (refused (number_of r)) (gives (record { value = record { events = I.events; stopped = refused (number_of r) }; state = c; left = rooms q s f }))
       row q f = ap handed_exact (stop_row (refused (number_of r)) q f (stayed_row (number_of r) q f (E q f)))
 
-      go : (l : List Held) → I.events ≡ l → EventsStep c₀ s₀ out₀ marks₀ (choose (eqb count 0) (Events.Refused r) (Events.Handed count used (Stops.Refused r) c)) s out marks
+      go : (l : List Held) → I.events ≡ l → EventsStep c₀ s₀ out₀ marks₀ (choose (eqb count 0) (Err r) (Ok (record { count = count; bytes = used; stop = (Stops.Refused r); connection = c }))) s out marks
       go [] e =
           let z : count ≡ 0 = sym I.counted ∙ ap length e in
-          subst (λ b. EventsStep c₀ s₀ out₀ marks₀ (choose b (Events.Refused r) (Events.Handed count used (Stops.Refused r) c)) s out marks) (sym (eq-eqb count 0 z))
+          subst (λ b. EventsStep c₀ s₀ out₀ marks₀ (choose b (Err r) (Ok (record { count = count; bytes = used; stop = (Stops.Refused r); connection = c }))) s out marks) (sym (eq-eqb count 0 z))
           (row_refused r e (λ q f. row q f ∙ ap (λ (l : List Held). or_refused l (refused (number_of r)) (gives (record { value = record { events = I.events; stopped = refused (number_of r) }; state = c; left = rooms q s f }))) e))
       go (h ∷ l) e =
           let z : count ≡ 0 → ⊥ = λ y. (let w : length (h ∷ l) ≡ 0 = ap length (sym e) ∙ I.counted ∙ y in omega arith) in
-          subst (λ b. EventsStep c₀ s₀ out₀ marks₀ (choose b (Events.Refused r) (Events.Handed count used (Stops.Refused r) c)) s out marks) (sym (ne_eqb count 0 z))
+          subst (λ b. EventsStep c₀ s₀ out₀ marks₀ (choose b (Err r) (Ok (record { count = count; bytes = used; stop = (Stops.Refused r); connection = c }))) s out marks) (sym (ne_eqb count 0 z))
           (row_gives (Stops.Refused r) (λ q f. row q f ∙ ap (λ (l : List Held). or_refused l (refused (number_of r)) (gives (record { value = record { events = I.events; stopped = refused (number_of r) }; state = c; left = rooms q s f }))) e))
 
-  pub inv_stop : (a : Event) (r : Refusal) (z : Events) (s' out' marks' : List ℕ) → a ≡ Event.Refused r → TurnStep c s out marks used (marks_each * count) a s' out' marks' → z ≡ stopped_by count used r c
+  pub inv_stop : (a : Result Polled Refusal) (r : Refusal) (z : Result Events Refusal) (s' out' marks' : List ℕ) → a ≡ Err r → TurnStep c s out marks used (marks_each * count) a s' out' marks' → z ≡ stopped_by count used r c
       → EventsStep c₀ s₀ out₀ marks₀ z s' out' marks'
   unfolding placed
   inv_stop a r z s' out' marks' e x i =
@@ -227,7 +227,7 @@ module _ (c₀ : Connection) (s₀ out₀ marks₀ : List ℕ) (c : Connection) 
 
   -- ---- an event
 
-  module _ (x : Handed) (next : Connection) (s' out' marks' : List ℕ) (y : TurnStep c s out marks used (marks_each * count) (Event.Packet x next) s' out' marks') (sl : length s' ≡ length s) where
+  module _ (x : Handed) (next : Connection) (s' out' marks' : List ℕ) (y : TurnStep c s out marks used (marks_each * count) (Ok (record { packet = Some x; connection = next })) s' out' marks') (sl : length s' ≡ length s) where
     abbrev len : ℕ
     len = x.length
 
@@ -289,9 +289,9 @@ module _ (c₀ : Connection) (s₀ out₀ marks₀ : List ℕ) (c : Connection) 
               ∙ ap (λ (l : List Bool). onward (I.events ++ (h ∷ [])) (many event_step ended (lent (site next (rooms q s' f)) (length out₀ - (used + len))) l)) (after_many (length marks₀ - marks_each * count) tw ∙ (let z : length marks₀ - marks_each * count - marks_each ≡ length marks₀ - marks_each * (count + 1) = omega arith in ap turns z));
         }
 
-  module _ (a : Event) (x : Handed) (next : Connection) (s' out' marks' : List ℕ) (e : a ≡ Event.Packet x next) (sl : length s' ≡ length s)
+  module _ (a : Result Polled Refusal) (x : Handed) (next : Connection) (s' out' marks' : List ℕ) (e : a ≡ Ok (record { packet = Some x; connection = next })) (sl : length s' ≡ length s)
       (y : TurnStep c s out marks used (marks_each * count) a s' out' marks') where
-    packet_turn_lem : TurnStep c s out marks used (marks_each * count) (Event.Packet x next) s' out' marks'
+    packet_turn_lem : TurnStep c s out marks used (marks_each * count) (Ok (record { packet = Some x; connection = next })) s' out' marks'
     packet_turn_lem = subst (λ z. TurnStep c s out marks used (marks_each * count) z s' out' marks') e y
 
     -- the invariant goes on

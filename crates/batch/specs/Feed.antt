@@ -1,5 +1,5 @@
 -- PACKETS OF A RUN OF BYTES, taken in behind one test: what that is in the model, and exactly. Assumes nothing.
-use Rattle.std.specs.Prelude.{◌≡◌, List, ℕ, ltb, eqb, length, take}
+use Rattle.std.specs.Prelude.{◌≡◌, List, ℕ, ltb, eqb, length, take, Result, Ok, Err}
 use Rattle.octets.specs.Logic.{choose}
 use Rattle.refusal.specs.Answer.{Answer, gives}
 use Rattle.packet_reader.specs.Frame.{aim, Cut, cut_packets}
@@ -13,8 +13,10 @@ use Rattle.model.specs.Promise.{Done, Exact}
 use Rattle.model.specs.Batch.{Turn, goes, stops, Many, many, Site, site, model_many, exact_many}
 use Rattle.model.specs.Feed.{Stopped, ended, partial, refused, Took, Feeding, model_took, exact_took, shown_fed, says_halt, says_fed}
 use Rattle.model.specs.declared.Connection.{Connection}
+use Rattle.model.specs.declared.Halt.{Halt}
 use Rattle.model.specs.declared.Fed.{Fed}
 use Rattle.batch.specs.declared.feed.Turned.{Turned}
+use Rattle.refusal.specs.declared.Refusal.{Refusal}
 
 -- ---- THE MODEL
 
@@ -44,7 +46,7 @@ unfoldable pub feed_exact : Connection → Rooms → List ℕ → Answer (Done F
 feed_exact c r bytes = gives (exact_many feeding (row c.order (site c r) (cut_packets c.order bytes)))
 
 -- THE STEP is exact.
-pub record FeedStep (c : Connection) (q s f bytes : List ℕ) (a : Fed) (s' f' : List ℕ) : Type 0 where
+pub record FeedStep (c : Connection) (q s f bytes : List ℕ) (a : Result Fed Refusal) (s' f' : List ℕ) : Type 0 where
   pub exact : Exact shown_fed (feed_exact c (rooms q s f) bytes) (rooms q s f) (says_fed a) (rooms q s' f')
 
 -- ---- a turn of the loop, over the bytes ahead
@@ -69,16 +71,16 @@ unfoldable pub left_by : Turn Took Stopped Site → Rooms → Rooms
 left_by (goes v s) r = s.left
 left_by (stops w) r = r
 
-abbrev pub says_turned : Turned → ShownTurn
-says_turned (Turned.On n c) = on n c
-says_turned (Turned.Halted h) = halted (says_halt h)
+abbrev pub says_turned : Result Turned Halt → ShownTurn
+says_turned (Ok t) = on t.bytes t.connection
+says_turned (Err h) = halted (says_halt h)
 
-pub record TurnIs (t : Turn Took Stopped Site) (r : Rooms) (a : Turned) (r' : Rooms) : Type 0 where
+pub record TurnIs (t : Turn Took Stopped Site) (r : Rooms) (a : Result Turned Halt) (r' : Rooms) : Type 0 where
   pub answers : says_turned a ≡ shown_turn t
   pub leaves : r' ≡ left_by t r
 
-abbrev pub PacketTurn : Connection → List ℕ → List ℕ → List ℕ → List ℕ → Turned → List ℕ → List ℕ → Type 0
+abbrev pub PacketTurn : Connection → List ℕ → List ℕ → List ℕ → List ℕ → Result Turned Halt → List ℕ → List ℕ → Type 0
 PacketTurn c q s f p a s' f' = TurnIs (packet_turn (site c (rooms q s f)) p) (rooms q s f) a (rooms q s' f')
 
-abbrev pub FrontTurn : ℕ → Connection → List ℕ → List ℕ → List ℕ → List ℕ → Turned → List ℕ → List ℕ → Type 0
+abbrev pub FrontTurn : ℕ → Connection → List ℕ → List ℕ → List ℕ → List ℕ → Result Turned Halt → List ℕ → List ℕ → Type 0
 FrontTurn o c q s f bytes a s' f' = TurnIs (turn_by (site c (rooms q s f)) bytes (front_of o bytes)) (rooms q s f) a (rooms q s' f')

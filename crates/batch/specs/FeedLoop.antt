@@ -1,5 +1,5 @@
 -- How a turn comes out, and what the loop over a run of bytes keeps. Assumes nothing.
-use Rattle.std.specs.Prelude.{◌≡◌, ℕ, ◌+◌, ◌-◌, ◌≤◌, ◌<◌, length, take, drop, get_or}
+use Rattle.std.specs.Prelude.{◌≡◌, ℕ, ◌+◌, ◌-◌, ◌≤◌, ◌<◌, length, take, drop, get_or, Result, Ok, Err}
 use Rattle.std.proofs.Math.Path.{refl, sym, ap}
 use Rattle.std.proofs.Common.{◌∙◌, subst, arith, length-append, length-drop, drop_of_length-le, get_or-take, get_or-drop, drop-drop}
 use mathlib.Core.List.{List, [], ◌∷◌, ◌++◌, append-nil}
@@ -29,29 +29,28 @@ use Rattle.model.specs.declared.Connection.{Connection}
 use Rattle.model.specs.declared.Place.{Place}
 use Rattle.model.specs.declared.Enqueued.{Enqueued}
 use Rattle.model.specs.declared.Halt.{Halt}
-use Rattle.model.specs.declared.Fed.TheVariants as Fed
 use Rattle.batch.specs.declared.feed.Turned.{Turned}
 use Rattle.batch.specs.Feed.{stop_at, feeding, packet_turn, row, feed_exact, FeedStep, turn_by, on, halted, shown_turn, left_by, says_turned, TurnIs, PacketTurn, FrontTurn}
 use Rattle.batch.specs.FeedLaws.{Goes, turn_goes, turn_stops, stop_nothing}
 
 -- ---- a packet
 
-pub took_on : (n : ℕ) (e : Answer (Done Filing)) (r r' : Rooms) (v : Filing) (c : Connection) → gives (v, c) ≡ answer_of same e → r' ≡ rooms_of e r → TurnIs (exact_took n e) r (Turned.On n c) r'
+pub took_on : (n : ℕ) (e : Answer (Done Filing)) (r r' : Rooms) (v : Filing) (c : Connection) → gives (v, c) ≡ answer_of same e → r' ≡ rooms_of e r → TurnIs (exact_took n e) r (Ok (record { bytes = n; connection = c })) r'
 unfolding answer_of rooms_of exact_took shown_turn left_by
 took_on n (gives d) r r' v c a l = record { answers = ap (λ (x : Filing × Connection). on n x.1) (gives_same a); leaves = l }
 took_on n (refuses k) r r' v c a l = absurd (let z : ◌≡◌ {A = ℕ} 0 1 = cc in omega arith)
 
-took_off : (n : ℕ) (e : Answer (Done Filing)) (r r' : Rooms) (x : Refusal) → refuses (number_of x) ≡ answer_of same e → r' ≡ rooms_of e r → TurnIs (exact_took n e) r (Turned.Halted (Halt.Refused x)) r'
+took_off : (n : ℕ) (e : Answer (Done Filing)) (r r' : Rooms) (x : Refusal) → refuses (number_of x) ≡ answer_of same e → r' ≡ rooms_of e r → TurnIs (exact_took n e) r (Err (Halt.Refused x)) r'
 unfolding answer_of rooms_of exact_took shown_turn left_by
 took_off n (gives d) r r' x a l = absurd (let z : ◌≡◌ {A = ℕ} 0 1 = cc in omega arith)
 took_off n (refuses k) r r' x a l = let z : number_of x ≡ k = cc in record { answers = ap (λ (m : ℕ). halted (refused m)) z; leaves = l }
 
-module _ (c : Connection) (q s f p : List ℕ) (x : Enqueued) (s' f' : List ℕ) (E : EnqueueStep c q s f p x s' f') where
-  pub packet_on : (place : Place) (n : SequenceNumber) (k : Class) (next : Connection) → x ≡ Enqueued.Filed place n k next → PacketTurn c q s f p (Turned.On (length p) next) s' f'
+module _ (c : Connection) (q s f p : List ℕ) (x : Result Enqueued Refusal) (s' f' : List ℕ) (E : EnqueueStep c q s f p x s' f') where
+  pub packet_on : (place : Place) (n : SequenceNumber) (k : Class) (next : Connection) → x ≡ Ok (record { place = place; number = n; class = k; connection = next }) → PacketTurn c q s f p (Ok (record { bytes = (length p); connection = next })) s' f'
   packet_on place n k next g =
       took_on (length p) (enqueue_exact c (rooms q s f) p) (rooms q s f) (rooms q s' f') _ next (ap says_enqueued (sym g) ∙ E.exact.answers) E.exact.leaves
 
-  pub packet_halted : (r : Refusal) → x ≡ Enqueued.Refused r → PacketTurn c q s f p (Turned.Halted (Halt.Refused r)) s' f'
+  pub packet_halted : (r : Refusal) → x ≡ Err r → PacketTurn c q s f p (Err (Halt.Refused r)) s' f'
   packet_halted r g =
       took_off (length p) (enqueue_exact c (rooms q s f) p) (rooms q s f) (rooms q s' f') r (ap says_enqueued (sym g) ∙ E.exact.answers) E.exact.leaves
 
@@ -59,23 +58,23 @@ module _ (c : Connection) (q s f p : List ℕ) (x : Enqueued) (s' f' : List ℕ)
 
 module _ (o : ℕ) (c : Connection) (q s f b : List ℕ) (g : Begins) (e : says_begins g ≡ front_of o b) where
   -- what they begin with decides the turn
-  front_by : (x : Begins) → g ≡ x → (a : Turned) (s' f' : List ℕ) → TurnIs (turn_by (site c (rooms q s f)) b (says_begins x)) (rooms q s f) a (rooms q s' f') → FrontTurn o c q s f b a s' f'
+  front_by : (x : Begins) → g ≡ x → (a : Result Turned Halt) (s' f' : List ℕ) → TurnIs (turn_by (site c (rooms q s f)) b (says_begins x)) (rooms q s f) a (rooms q s' f') → FrontTurn o c q s f b a s' f'
   front_by x h a s' f' t =
       subst (λ (y : Front). TurnIs (turn_by (site c (rooms q s f)) b y) (rooms q s f) a (rooms q s' f')) (ap says_begins (sym h) ∙ e) t
 
-  pub front_end : g ≡ Begins.Nothing → FrontTurn o c q s f b (Turned.Halted Halt.End) s f
+  pub front_end : g ≡ Begins.Nothing → FrontTurn o c q s f b (Err Halt.End) s f
   unfolding turn_by shown_turn left_by
-  front_end h = front_by Begins.Nothing h (Turned.Halted Halt.End) s f (record { answers = refl; leaves = refl })
+  front_end h = front_by Begins.Nothing h (Err Halt.End) s f (record { answers = refl; leaves = refl })
 
-  pub front_partial : g ≡ Begins.Part → FrontTurn o c q s f b (Turned.Halted Halt.Part) s f
+  pub front_partial : g ≡ Begins.Part → FrontTurn o c q s f b (Err Halt.Part) s f
   unfolding turn_by shown_turn left_by
-  front_partial h = front_by Begins.Part h (Turned.Halted Halt.Part) s f (record { answers = refl; leaves = refl })
+  front_partial h = front_by Begins.Part h (Err Halt.Part) s f (record { answers = refl; leaves = refl })
 
-  pub front_over : g ≡ Begins.Long → FrontTurn o c q s f b (Turned.Halted (Halt.Refused Refusal.LongPacket)) s f
+  pub front_over : g ≡ Begins.Long → FrontTurn o c q s f b (Err (Halt.Refused Refusal.LongPacket)) s f
   unfolding turn_by shown_turn left_by
-  front_over h = front_by Begins.Long h (Turned.Halted (Halt.Refused Refusal.LongPacket)) s f (record { answers = refl; leaves = refl })
+  front_over h = front_by Begins.Long h (Err (Halt.Refused Refusal.LongPacket)) s f (record { answers = refl; leaves = refl })
 
-  pub front_packet : (n : ℕ) (k : Class) → g ≡ Begins.Whole n k → (a : Turned) (s' f' : List ℕ) → PacketTurn c q s f (take n b) a s' f' → FrontTurn o c q s f b a s' f'
+  pub front_packet : (n : ℕ) (k : Class) → g ≡ Begins.Whole n k → (a : Result Turned Halt) (s' f' : List ℕ) → PacketTurn c q s f (take n b) a s' f' → FrontTurn o c q s f b a s' f'
   unfolding turn_by
   front_packet n k h a s' f' t = front_by (Begins.Whole n k) h a s' f' t
 
@@ -88,7 +87,7 @@ ahead bytes at = ap (λ (k : ℕ). take k (drop at bytes)) (sym (length-drop at 
 
 -- ---- what a turn tells
 
-on_goes : (t : Turn Took Stopped Site) (r : Rooms) (a : Turned) (r' : Rooms) → TurnIs t r a r' → (n : ℕ) (next : Connection) → a ≡ Turned.On n next → (v : Took) × (v.bytes ≡ n) × (goes v (site next r') ≡ t)
+on_goes : (t : Turn Took Stopped Site) (r : Rooms) (a : Result Turned Halt) (r' : Rooms) → TurnIs t r a r' → (n : ℕ) (next : Connection) → a ≡ Ok (record { bytes = n; connection = next }) → (v : Took) × (v.bytes ≡ n) × (goes v (site next r') ≡ t)
 unfolding shown_turn left_by
 on_goes (goes v s) r a r' T n next e =
     let z : on n next ≡ on v.bytes s.state = ap says_turned (sym e) ∙ T.answers in
@@ -99,7 +98,7 @@ on_goes (stops w) r a r' T n next e =
     let z : on n next ≡ halted w = ap says_turned (sym e) ∙ T.answers in
     absurd (let y : ◌≡◌ {A = ℕ} 0 1 = cc in omega arith)
 
-halted_stops : (t : Turn Took Stopped Site) (r : Rooms) (a : Turned) (r' : Rooms) → TurnIs t r a r' → (h : Halt) → a ≡ Turned.Halted h → (stops (says_halt h) ≡ t) × (r' ≡ r)
+halted_stops : (t : Turn Took Stopped Site) (r : Rooms) (a : Result Turned Halt) (r' : Rooms) → TurnIs t r a r' → (h : Halt) → a ≡ Err h → (stops (says_halt h) ≡ t) × (r' ≡ r)
 unfolding shown_turn left_by
 halted_stops (goes v s) r a r' T h e =
     let z : halted (says_halt h) ≡ on v.bytes s.state = ap says_turned (sym e) ∙ T.answers in
@@ -136,7 +135,7 @@ module _ (c₀ : Connection) (q s₀ f₀ bytes : List ℕ) where
   -- the row is known
   done : (vs : List Took) (h : Halt) (w : Stopped) (c : Connection) (s f : List ℕ) (at packets : ℕ) → says_halt h ≡ w → bytes_taken vs ≡ at → length vs ≡ packets
       → row c₀.order (site c₀ (rooms q s₀ f₀)) (cut_packets c₀.order bytes) ≡ onward vs (record { values = []; stopped = w; end = site c (rooms q s f) })
-      → FeedStep c₀ q s₀ f₀ bytes (Fed.Taken at packets h c) s f
+      → FeedStep c₀ q s₀ f₀ bytes (Ok (record { bytes = at; packets = packets; halt = h; connection = c })) s f
   unfolding feed_exact answer_of rooms_of
   done vs h w c s f at packets e t k z =
       let v : vs ++ [] ≡ vs = append-nil vs in
@@ -150,7 +149,7 @@ module _ (c₀ : Connection) (q s₀ f₀ bytes : List ℕ) where
       }
 
   module _ (c : Connection) (s f : List ℕ) (at packets : ℕ) (I : Inv c₀.order c₀ q s₀ f₀ bytes c s f at packets) where
-    pub inv_end : length bytes ≤ at → FeedStep c₀ q s₀ f₀ bytes (Fed.Taken at packets Halt.End c) s f
+    pub inv_end : length bytes ≤ at → FeedStep c₀ q s₀ f₀ bytes (Ok (record { bytes = at; packets = packets; halt = Halt.End; connection = c })) s f
     inv_end h =
         let o : ℕ = c₀.order in
         let e : drop at bytes ≡ [] = drop_of_length-le bytes h in
@@ -167,8 +166,8 @@ module _ (c₀ : Connection) (q s₀ f₀ bytes : List ℕ) where
     B : b ≡ drop at bytes
     B = ahead bytes at
 
-    module _ (a : Turned) (s' f' : List ℕ) (T : FrontTurn c₀.order c q s f b a s' f') where
-      pub inv_stop : (h : Halt) → a ≡ Turned.Halted h → FeedStep c₀ q s₀ f₀ bytes (Fed.Taken at packets h c) s' f'
+    module _ (a : Result Turned Halt) (s' f' : List ℕ) (T : FrontTurn c₀.order c q s f b a s' f') where
+      pub inv_stop : (h : Halt) → a ≡ Err h → FeedStep c₀ q s₀ f₀ bytes (Ok (record { bytes = at; packets = packets; halt = h; connection = c })) s' f'
       inv_stop h e =
           let o : ℕ = c₀.order in
           let z = halted_stops _ _ a _ T h e in
@@ -178,7 +177,7 @@ module _ (c₀ : Connection) (q s₀ f₀ bytes : List ℕ) where
           ∙ turn_stops o I.given (site c (rooms q s f)) b (says_halt h) z.0
           ∙ ap (λ (r : Rooms). onward I.given (record { values = []; stopped = says_halt h; end = site c r })) (sym z.1))
 
-      module _ (n : ℕ) (next : Connection) (e : a ≡ Turned.On n next) where
+      module _ (n : ℕ) (next : Connection) (e : a ≡ Ok (record { bytes = n; connection = next })) where
         went : (v : Took) × (v.bytes ≡ n) × Goes c₀.order I.given (site c (rooms q s f)) b v (site next (rooms q s' f'))
         went =
             let z = on_goes _ _ a _ T n next e in

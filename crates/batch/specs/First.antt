@@ -1,5 +1,5 @@
 -- The short way out: a turn whose event is the oldest record. Assumes nothing.
-use Rattle.std.specs.Prelude.{◌≡◌, refl, Bool, true, false, take, drop, set, get_or}
+use Rattle.std.specs.Prelude.{◌≡◌, refl, Bool, true, false, take, drop, get_or, Ok, Some}
 use Rattle.std.proofs.Math.Path.{sym, ap, subst}
 use Rattle.std.proofs.Common.{◌∙◌, le-ltb}
 use mathlib.Core.List.{List, []}
@@ -9,7 +9,7 @@ use Rattle.std.proofs.Math.ListN.{length}
 use Rattle.octets.specs.Put.{put, cut, length_cut}
 use Rattle.refusal.specs.Answer.{Answer, gives}
 use Rattle.sequence.specs.declared.SequenceNumber.{SequenceNumber}
-use Rattle.packet.specs.Packet.{least_packet, class_of, packet_class, class_number}
+use Rattle.packet.specs.Packet.{least_packet, class_of, packet_class}
 use Rattle.packet.specs.Class.{says_class, classed, class_is}
 use Rattle.packet.specs.declared.Class.{Class}
 use Rattle.held.specs.Head.{header_size, event, num_of, len_of, kind_of}
@@ -27,13 +27,12 @@ use Rattle.model.specs.Says.{Shown, shown_taken, bytes_of_taken}
 use Rattle.model.specs.Says as Says
 use Rattle.model.specs.declared.Connection.{Connection}
 use Rattle.model.specs.declared.Handed.{Handed}
-use Rattle.model.specs.declared.Event.TheVariants as Event
 use Rattle.model.specs.Moved.{moved_state}
 use Rattle.polling.specs.Exact.{event_at, moved, event_exact}
 use Rattle.polling.specs.Steps.{class_here}
 use Rattle.model.specs.Sound.{ready}
-use Rattle.batch.specs.Events.{placed, room_left, TurnStep, Stored}
-use Rattle.batch.specs.EventsLaws.{from_place, room_many, place_least, marked_as}
+use Rattle.batch.specs.Events.{placed, room_left, TurnStep, Stored, marks_shown}
+use Rattle.batch.specs.EventsLaws.{from_place, room_many, place_least}
 
 -- the oldest record is an event that has room
 pub record EventFirst (c : Connection) (s : List ℕ) (room marks : ℕ) : Type 0 where
@@ -63,7 +62,7 @@ handed_first number len class = record { number = number; length = len; descript
 pub record FirstTurn (c : Connection) (s out marks : List ℕ) (used at len : ℕ) (out' marks' : List ℕ) : Type 0 where
   pub number : SequenceNumber
   pub class : Class
-  pub turn : TurnStep c s out marks used at (Event.Packet (handed_first number len class) (passed_state c len)) s out' marks'
+  pub turn : TurnStep c s out marks used at (Ok (record { packet = Some (handed_first number len class); connection = (passed_state c len) })) s out' marks'
   pub room : c.window.start + (header_size + len) ≤ c.window.end
 
 -- ---- laws
@@ -72,8 +71,8 @@ pub first_told : (c : Connection) (s : List ℕ) (room marks : ℕ) (b : Bool) �
 first_told c s room marks b F e = subst (IsFirst c s room marks) e F
 
 pub first_turns : (c : Connection) (s out marks : List ℕ) (used at len : ℕ) (out' marks' : List ℕ) (F : FirstTurn c s out marks used at len out' marks') (next : Connection) → next ≡ passed_state c len
-    → TurnStep c s out marks used at (Event.Packet (handed_first F.number len F.class) next) s out' marks'
-first_turns c s out marks used at len out' marks' F next e = subst (λ (y : Connection). TurnStep c s out marks used at (Event.Packet (handed_first F.number len F.class) y) s out' marks') (sym e) F.turn
+    → TurnStep c s out marks used at (Ok (record { packet = Some (handed_first F.number len F.class); connection = next })) s out' marks'
+first_turns c s out marks used at len out' marks' F next e = subst (λ (y : Connection). TurnStep c s out marks used at (Ok (record { packet = Some (handed_first F.number len F.class); connection = y })) s out' marks') (sym e) F.turn
 
 module _ (c : Connection) (s : List ℕ) (R : Stored c s) where
   readable : Readable c.window s
@@ -103,10 +102,11 @@ module _ (c : Connection) (s : List ℕ) (R : Stored c s) where
       → (len n : ℕ) → len ≡ len_of (drop c.window.start s) → n ≡ num_of (drop c.window.start s)
       → (end : ℕ) → end ≡ c.window.start + header_size + len
       → (out' : List ℕ) → out' ≡ put out used (take (end - (c.window.start + header_size)) (drop (c.window.start + header_size) s))
-      → (j : Class) → says_class j ≡ class_of (get_or s (c.window.start + header_size) 0) → (k : ℕ) → k ≡ class_number (says_class j)
-      → FirstTurn c s out marks used at len out' (set (set (set marks at n) (at + 1) len) (at + 2) k)
+      → (j : Class) → says_class j ≡ class_of (get_or s (c.window.start + header_size) 0)
+      → (marks' : List ℕ) → marks' ≡ put marks at (marks_shown (handed_first (record { 0 = n }) len j))
+      → FirstTurn c s out marks used at len out' marks'
   unfolding placed cut
-  first_turn out marks used at h E len n L N end D out' O j J κ K =
+  first_turn out marks used at h E len n L N end D out' O j J marks' M =
       let room : ℕ = length out - used in
       let q₀ : Spot = first_place c.window s in
       let m : room ≡ room_left out marks used at = room_many (length marks - at) room E.marked in
@@ -126,7 +126,7 @@ module _ (c : Connection) (s : List ℕ) (R : Stored c s) where
           output = λ q f.
               O ∙ ap (λ (y : ℕ). put out used (take y (drop (c.window.start + header_size) s))) k
               ∙ ap (λ y. placed bytes_of_taken used y out) (x q f);
-          marks_are = marked_as marks at (handed_first (record { 0 = n }) len j) κ K (omega (arith, E.marked));
+          marks_are = M;
         };
         room = omega (arith, (first_room c.window s readable E.some).1);
       }

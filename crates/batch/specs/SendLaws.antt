@@ -1,5 +1,5 @@
 -- How many sends come out, turn by turn. Assumes nothing.
-use Rattle.std.specs.Prelude.{◌≡◌, refl, List, [], ◌∷◌, ◌++◌, ℕ, ◌+◌, ◌≤◌, ◌<◌, length, drop, get_or}
+use Rattle.std.specs.Prelude.{◌≡◌, refl, List, [], ◌∷◌, ◌++◌, ℕ, ◌+◌, ◌≤◌, ◌<◌, length, drop, get_or, Result, Ok, Err}
 use Rattle.std.proofs.Math.Path.{sym, ap}
 use Rattle.std.proofs.Common.{◌∙◌, subst, append-nil, arith, add-one, drop_of_length-le, length-append, drop-cons, lt-ltb, le-ltb}
 use Rattle.octets.specs.Logic.{choose}
@@ -33,20 +33,20 @@ module _ (c : Connection) (q : List ℕ) (byte : ℕ) (h : byte < kinds) (s f : 
   step_is = simp (lt-ltb byte kinds h)
 
   -- what a request that was sent leaves
-  sent_done_lem : (kind : ReplyFdKind) → kind ≡ kind_of byte → (n : SequenceNumber) (next : Connection) (q' : List ℕ) → SendStep c kind q (Sent.Number n next) q'
+  sent_done_lem : (kind : ReplyFdKind) → kind ≡ kind_of byte → (n : SequenceNumber) (next : Connection) (q' : List ℕ) → SendStep c kind q (Ok (record { number = n; connection = next })) q'
       → gives (record { value = n.0; state = next; left = rooms q' s f }) ≡ send_exact c (rooms q s f) (kind_of byte)
   sent_done_lem kind k n next q' x =
       let z = exact_gave same _ _ _ _ _ (x.exact s f) in
       (λ i. gives (record { value = z.2 i; state = z.3 i; left = z.4 i })) ∙ z.1 ∙ ap (send_exact c (rooms q s f)) k
 
   -- a request that was sent,
-  step_goes : (kind : ReplyFdKind) → kind ≡ kind_of byte → (n : SequenceNumber) (next : Connection) (q' : List ℕ) → SendStep c kind q (Sent.Number n next) q'
+  step_goes : (kind : ReplyFdKind) → kind ≡ kind_of byte → (n : SequenceNumber) (next : Connection) (q' : List ℕ) → SendStep c kind q (Ok (record { number = n; connection = next })) q'
       → goes n.0 (site next (rooms q' s f)) ≡ send_step (site c (rooms q s f)) byte
   unfolding exact_turn
   step_goes kind k n next q' x = ap exact_turn (sent_done_lem kind k n next q' x) ∙ sym step_is
 
   -- and one that was refused
-  step_stops : (kind : ReplyFdKind) → kind ≡ kind_of byte → (r : Refusal) (q' : List ℕ) → SendStep c kind q (Sent.Refused r) q' → stops (refused (number_of r)) ≡ send_step (site c (rooms q s f)) byte
+  step_stops : (kind : ReplyFdKind) → kind ≡ kind_of byte → (r : Refusal) (q' : List ℕ) → SendStep c kind q (Err r) q' → stops (refused (number_of r)) ≡ send_step (site c (rooms q s f)) byte
   unfolding exact_turn
   step_stops kind k r q' x = ap exact_turn ((exact_stayed same _ _ _ _ (x.exact s f)).0 ∙ ap (send_exact c (rooms q s f)) k) ∙ sym step_is
 
@@ -88,9 +88,9 @@ row_answer c₀ q₀ bytes numbers c q i stop n e =
 
 module _ (c₀ : Connection) (q₀ bytes : List ℕ) (c : Connection) (q : List ℕ) (i : ℕ) (I : Inv c₀ q₀ bytes c q i) where
   -- The end of the bytes,
-  pub inv_end : length bytes ≤ i → SendsStep c₀ bytes q₀ (answered i Stop.End c) q
+  pub inv_end : length bytes ≤ i → SendsStep c₀ bytes q₀ (answered (length bytes) Stop.End c) q
   inv_end h =
-      row_answer c₀ q₀ bytes I.numbers c q i Stop.End I.counted
+      row_answer c₀ q₀ bytes I.numbers c q (length bytes) Stop.End (omega (arith, I.counted, I.most))
       (λ s f. I.rest s f ∙ ap (λ y. onward I.numbers (many send_step ended (site c (rooms q s f)) y)) (drop_of_length-le bytes h) ∙ row_ends send_step ended I.numbers (site c (rooms q s f)))
 
   module _ (h : i < length bytes) (byte : ℕ) (b : byte ≡ get_or bytes i 0) where
@@ -107,18 +107,18 @@ module _ (c₀ : Connection) (q₀ bytes : List ℕ) (c : Connection) (q : List 
 
     module _ (below : byte < kinds) (kind : ReplyFdKind) (k : kind ≡ kind_of byte) where
       -- a refusal,
-      pub inv_stop : (a : Sent) (r : Refusal) (q' : List ℕ) → a ≡ Sent.Refused r → SendStep c kind q a q' → SendsStep c₀ bytes q₀ (answered i (Stop.Refused r) c) q'
+      pub inv_stop : (a : Result Sent Refusal) (r : Refusal) (q' : List ℕ) → a ≡ Err r → SendStep c kind q a q' → SendsStep c₀ bytes q₀ (answered i (Stop.Refused r) c) q'
       inv_stop a r q' w y =
-          let x : SendStep c kind q (Sent.Refused r) q' = subst (λ z. SendStep c kind q z q') w y in
+          let x : SendStep c kind q (Err r) q' = subst (λ z. SendStep c kind q z q') w y in
           let l : q' ≡ q = ap (λ (y : Rooms). y.requests) (exact_stayed same _ _ _ _ (x.exact [] [])).1 in
           subst (λ y. SendsStep c₀ bytes q₀ (answered i (Stop.Refused r) c) y) (sym l)
           (row_answer c₀ q₀ bytes I.numbers c q i (Stop.Refused r) I.counted
           (λ s f. ahead s f ∙ row_stops send_step ended I.numbers (site c (rooms q s f)) byte _ (refused (number_of r)) (step_stops c q byte below s f kind k r q' x)))
 
       -- and a request that was sent.
-      pub inv_next : (a : Sent) (n : SequenceNumber) (next : Connection) (q' : List ℕ) → a ≡ Sent.Number n next → length q' ≡ length q → SendStep c kind q a q' → Inv c₀ q₀ bytes next q' (i + 1)
+      pub inv_next : (a : Result Sent Refusal) (n : SequenceNumber) (next : Connection) (q' : List ℕ) → a ≡ Ok (record { number = n; connection = next }) → length q' ≡ length q → SendStep c kind q a q' → Inv c₀ q₀ bytes next q' (i + 1)
       inv_next a n next q' w l y =
-          let x : SendStep c kind q (Sent.Number n next) q' = subst (λ z. SendStep c kind q z q') w y in
+          let x : SendStep c kind q (Ok (record { number = n; connection = next })) q' = subst (λ z. SendStep c kind q z q') w y in
           record {
             most = omega arith;
             ready = record {
@@ -133,5 +133,5 @@ module _ (c₀ : Connection) (q₀ bytes : List ℕ) (c : Connection) (q : List 
           }
 
 -- an answer that is known
-pub told : (c : Connection) (bytes q : List ℕ) (q' : List ℕ) (a b : SentMany) → a ≡ b → SendsStep c bytes q b q' → SendsStep c bytes q a q'
+pub told : (c : Connection) (bytes q : List ℕ) (q' : List ℕ) (a b : Result SentMany Refusal) → a ≡ b → SendsStep c bytes q b q' → SendsStep c bytes q a q'
 told c bytes q q' a b e x = subst (λ y. SendsStep c bytes q y q') (sym e) x

@@ -9,17 +9,16 @@ ghost use Rattle.model.specs.Sound.{Sound};
 ghost use Rattle.batch.specs.Feed.{PacketTurn, FrontTurn, FeedStep};
 ghost use Rattle.batch.specs.Plain.{IsAhead, EventAhead, PlainTurn};
 
-use intake::Plain;
-use model::{Connection, Enqueued, Fed, Halt};
+use model::{Connection, Fed, Halt};
 use packet_reader::Begins;
 use refusal::Refusal;
 use sequence::SequenceNumber;
 
-// What came of the bytes ahead: a packet of so many was taken, or the row stops here.
+// What came of the bytes ahead, unless the row stops here: a packet of so many was taken.
 #[derive(Clone, Copy)]
-pub(crate) enum Turned {
-    On(usize, Connection),
-    Halted(Halt),
+pub(crate) struct Turned {
+    bytes: usize,
+    connection: Connection,
 }
 
 // A packet is taken in.
@@ -29,14 +28,15 @@ fn packet_turn(
     store: &mut [u8],
     slots: &mut [u32],
     packet: &[u8],
-) -> Turned
+) -> Result<Turned, Halt>
     requires { Takeable c requests.now store.old slots.old }
     ensures { PacketTurn c requests.now store.old slots.old packet.now result store.new slots.new }
 {
-    match intake::enqueue_packet(c, requests, store, slots, packet) {
-        Enqueued::Filed(_, _, _, next) => Turned::On(packet.len(), next),
-        Enqueued::Refused(refusal) => Turned::Halted(Halt::Refused(refusal)),
-    }
+    let enqueued = intake::enqueue_packet(c, requests, store, slots, packet)?;
+    Ok(Turned {
+        bytes: packet.len(),
+        connection: enqueued.connection,
+    })
 }
 
 // The packet that the bytes begin with is taken in, if it is there as a whole.
@@ -47,29 +47,29 @@ fn front_turn(
     store: &mut [u8],
     slots: &mut [u32],
     bytes: &[u8],
-) -> Turned
+) -> Result<Turned, Halt>
     requires { Takeable c requests.now store.old slots.old }
     ensures { FrontTurn order c requests.now store.old slots.old bytes.now result store.new slots.new }
 {
     match packet_reader::front(order, bytes) {
-        Begins::Nothing => Turned::Halted(Halt::End),
-        Begins::Part => Turned::Halted(Halt::Part),
-        Begins::Long => Turned::Halted(Halt::Refused(Refusal::LongPacket)),
+        Begins::Nothing => Err(Halt::End),
+        Begins::Part => Err(Halt::Part),
+        Begins::Long => Err(Halt::Refused(Refusal::LongPacket)),
         Begins::Whole(n, _) => packet_turn(c, requests, store, slots, &bytes[..n]),
     }
 }
 
 // Whether the bytes begin with an event of 32 bytes that goes the short way in, and its number.
-fn plain_ahead(c: Connection, store: &[u8], bytes: &[u8]) -> Plain
+fn plain_ahead(c: Connection, store: &[u8], bytes: &[u8]) -> Option<SequenceNumber>
     requires { Writable c store.now }
     ensures { IsAhead c store.now bytes.now result }
 {
     if bytes.len() < packet::LEAST_PACKET {
-        return Plain::Other;
+        return None;
     }
     let class = packet::class_of(bytes[0]);
     if !packet::is_plain(class) {
-        return Plain::Other;
+        return None;
     }
     intake::plain_of(c, store, &bytes[..packet::LEAST_PACKET])
 }
@@ -89,7 +89,7 @@ pub fn enqueue_packets(
     store: &mut [u8],
     slots: &mut [u32],
     bytes: &[u8],
-) -> Fed
+) -> Result<Fed, Refusal>
     requires { Sound c (rooms requests.now store.old slots.old) }
     ensures { FeedStep c requests.now store.old slots.old bytes.now result store.new slots.new }
 {
@@ -97,27 +97,35 @@ pub fn enqueue_packets(
     let mut state = c;
     let mut at: usize = 0;
     let mut packets: usize = 0;
+    // A packet says where the next one begins, which no range does, so the index is stepped by hand.
     while at < bytes.len() {
         let ahead = &bytes[at..];
-        match plain_ahead(state, store, ahead) {
-            Plain::Event(number) => {
-                state = plain_turn(state, store, ahead, number);
-                at += packet::LEAST_PACKET;
-                packets += 1;
-                continue;
-            }
-            Plain::Other => {}
+        if let Some(number) = plain_ahead(state, store, ahead) {
+            state = plain_turn(state, store, ahead, number);
+            at += packet::LEAST_PACKET;
+            packets += 1;
+            continue;
         }
         match front_turn(order, state, requests, store, slots, ahead) {
-            Turned::On(n, next) => {
-                state = next;
-                at += n;
+            Ok(turned) => {
+                state = turned.connection;
+                at += turned.bytes;
                 packets += 1;
             }
-            Turned::Halted(halt) => {
-                return Fed::Taken(at, packets, halt, state);
+            Err(halt) => {
+                return Ok(Fed {
+                    bytes: at,
+                    packets,
+                    halt,
+                    connection: state,
+                });
             }
         }
     }
-    Fed::Taken(at, packets, Halt::End, state)
+    Ok(Fed {
+        bytes: at,
+        packets,
+        halt: Halt::End,
+        connection: state,
+    })
 }

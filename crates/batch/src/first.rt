@@ -4,9 +4,10 @@ ghost use Rattle.held.specs.Head.{header_size};
 ghost use Rattle.batch.specs.Events.{Stored};
 ghost use Rattle.batch.specs.First.{EventFirst, IsFirst, FirstTurn, passed_state};
 
-use super::events::MARKS;
+use super::events::{MARKS, mark};
 use held::Window;
-use model::Connection;
+use model::{Connection, Handed};
+use sequence::SequenceNumber;
 
 // Whether the oldest record is an event that finds room in so many bytes and marks.
 pub(crate) fn is_first(c: Connection, store: &[u8], room: usize, marks: usize) -> bool
@@ -24,10 +25,7 @@ pub(crate) fn is_first(c: Connection, store: &[u8], room: usize, marks: usize) -
     if held::kind_at(store, start) != held::IN_EVENTS {
         return false;
     }
-    if room < held::length_at(store, start) {
-        return false;
-    }
-    true
+    held::length_at(store, start) <= room
 }
 
 // Its packet goes behind the bytes that are used, and its marks behind those that are there. The
@@ -51,9 +49,13 @@ pub(crate) fn hand_first(
     let from = start + held::HEADER;
     let end = from + len;
     octets::copy_in(out, used, &store[from..end]);
-    marks[at] = number;
-    marks[at + 1] = len as u64;
-    marks[at + 2] = packet::class_number(class) as u64;
+    let event = Handed {
+        number: SequenceNumber(number),
+        length: len,
+        descriptors: 0,
+        class,
+    };
+    mark(marks, at, event);
     len
 }
 
@@ -65,9 +67,7 @@ pub(crate) fn passed(c: Connection, len: usize) -> Connection
     let window = c.window;
     let rest = Window {
         start: window.start + (held::HEADER + len),
-        end: window.end,
+        ..window
     };
-    let mut next = c;
-    next.window = rest;
-    next
+    Connection { window: rest, ..c }
 }

@@ -1,5 +1,5 @@
 -- What the exports answer, and what they leave. Assumes nothing.
-use Rattle.std.specs.Prelude.{◌≡◌, refl, Bool, true, false, List, [], ℕ, ◌+◌, ◌-◌, ◌≤◌, ◌<◌, get_or, length}
+use Rattle.std.specs.Prelude.{◌≡◌, refl, Bool, true, false, List, [], ℕ, ◌+◌, ◌-◌, ◌≤◌, ◌<◌, get_or, length, Option, Some, None}
 use Rattle.std.proofs.Common.{sym, subst, arith}
 use Rattle.packet.specs.Packet.{least_packet, most_packet}
 use Rattle.held.specs.Head.{event, header_size}
@@ -11,8 +11,6 @@ use Rattle.held.specs.Lies.{FirstEvent, FindsEvent}
 use Rattle.held.specs.Theorems.{Walks, walks, find_event_law, place_law, fits_law, first_law}
 use Rattle.held.specs.declared.Window.{Window}
 use Rattle.held.specs.declared.Spot.{Spot}
-use Rattle.held.specs.declared.Walked.{Walked}
-use Rattle.held.specs.declared.Found.TheVariants as Found
 
 -- The bytes are those of the move where a call did it, and as found where it refused.
 pub record Does (done : Bool) (moved before after : List ℕ) : Type 0 where
@@ -23,9 +21,9 @@ pub record Does (done : Bool) (moved before after : List ℕ) : Type 0 where
 abbrev pub unsound : ℕ
 unsound = 18446744073709551615
 
-abbrev pub answer : Walked → ℕ
-answer (Walked.Sound n) = n
-answer Walked.Unsound = unsound
+abbrev pub answer : Option ℕ → ℕ
+answer (Some n) = n
+answer None = unsound
 
 -- two numbers as a window
 abbrev pub window_of : List ℕ → Window
@@ -43,7 +41,7 @@ pub never : {A : Type 0} → false ≡ true → A
 never e = let z : ◌≡◌ {A = ℕ} 0 1 = cc in absurd (omega arith)
 
 -- A walk that answers a count has found the store sound,
-pub seen : (last : ℕ) (w : Window) (s : List ℕ) (n : ℕ) → Walked.Sound n ≡ walked last w s → Sound last w s
+pub seen : (last : ℕ) (w : Window) (s : List ℕ) (n : ℕ) → Some n ≡ walked last w s → Sound last w s
 seen last w s n e = (subst (Walks last w s) (sym e) (walks last w s)).0
 
 -- there is then room for a packet whose cost fits beside what is used,
@@ -56,7 +54,7 @@ room last w s n S m h = record {
 }
 
 -- and an event that is found there lies in the window and has 32 bytes or more.
-module _ (last : ℕ) (w : Window) (s : List ℕ) (p : Spot) (S : Sound last w s) (e : Found.At p ≡ found_event w s) where
+module _ (last : ℕ) (w : Window) (s : List ℕ) (p : Spot) (S : Sound last w s) (e : Some p ≡ found_event w s) where
   first : FirstEvent w s p
   first = subst (FindsEvent w s) (sym e) (find_event_law w s)
 

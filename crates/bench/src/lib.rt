@@ -13,9 +13,9 @@ ghost use Rattle.held.specs.Head.{held, event};
 ghost use Rattle.held.specs.Moves.{window, appended};
 ghost use Rattle.bench.specs.Answers.{Does, answer, window_of};
 
-use held::{Found, Label, Walked, Window};
+use held::{Label, Window};
 
-// The answer of a walk that finds the store unsound.
+// The answer of a walk that finds the store unsound: a number, since C reads it.
 const UNSOUND: usize = 18446744073709551615;
 
 // All of src over dst from index at on.
@@ -70,17 +70,7 @@ pub extern "C" fn bench_legal(room: &[u8], first: u64, count: usize) -> bool
 pub extern "C" fn bench_walk(store: &[u8], start: usize, end: usize, last: u64) -> usize
     ensures { result ≡ answer (walked last (window start end) store.now) }
 {
-    match held::walk(
-        store,
-        Window {
-            start: start,
-            end: end,
-        },
-        last,
-    ) {
-        Walked::Sound(n) => n,
-        Walked::Unsound => UNSOUND,
-    }
+    held::walk(store, Window { start, end }, last).unwrap_or(UNSOUND)
 }
 
 // A packet held behind all others as an event of number last.
@@ -97,7 +87,7 @@ pub extern "C" fn bench_append(
         start: window[0],
         end: window[1],
     };
-    let Walked::Sound(_) = held::walk(store, w, last) else {
+    let Some(_) = held::walk(store, w, last) else {
         return false;
     };
     if packet.len() < packet::LEAST_PACKET {
@@ -134,20 +124,17 @@ pub extern "C" fn bench_take(
         start: window[0],
         end: window[1],
     };
-    let Walked::Sound(_) = held::walk(store, w, last) else {
+    let Some(_) = held::walk(store, w, last) else {
         return 0;
     };
-    match held::find_event(store, w) {
-        Found::At(place) => {
-            let len = place.len;
-            if out.len() < len {
-                return 0;
-            }
-            let next = held::take(store, w, place, out).window;
-            window[0] = next.start;
-            window[1] = next.end;
-            len
-        }
-        Found::Nothing => 0,
+    let Some(place) = held::find_event(store, w) else {
+        return 0;
+    };
+    if out.len() < place.len {
+        return 0;
     }
+    let next = held::take(store, w, place, out).window;
+    window[0] = next.start;
+    window[1] = next.end;
+    place.len
 }

@@ -1,8 +1,8 @@
 // Inside: the commands of a connection, for a program that reads them from a script.
 //
-// A command is carried out and its answer written behind what waits (`text`); state and end of the
-// text come back side by side, and a refused call hands back the state that it was given. Packets go
-// in and out of one lent run of bytes, in which the text stands too. No call has a `requires`.
+// A command is carried out on what a script works on, and its answer is written to the page; a refused
+// call leaves the state as it was. Packets go in and out of the page's run of bytes. No call has a
+// `requires`.
 #![tactic(auto)]
 
 mod feeds;
@@ -12,231 +12,119 @@ mod saves;
 mod sends;
 mod states;
 
-use leaves::Buffered;
-use model::{Closed, Connection};
-pub use saves::{Point, restore, save};
-use script::Op;
+use leaves::Leaves;
+use model::Connection;
+use refusal::Refusal;
+pub use saves::{restore, save};
+use script::Call;
 pub use states::state;
-use text::Answer;
+use text::{Answer, Page};
 
-// What a call answers: the connection to go on with, and what is written.
+// What a script works on.
 #[derive(Clone, Copy)]
-pub struct Called {
+pub struct Subject {
     pub connection: Connection,
-    pub answer: Answer,
+    pub leaves: Leaves,
 }
 
-// What a command leaves: connection, reader, and where the text ends.
-#[derive(Clone, Copy)]
-pub struct Done {
-    pub connection: Connection,
-    pub reader: Buffered,
-    pub waiting: usize,
+// The rooms that a program lends to a connection. Each is taken into a variable before a call: of
+// fields that are lent in the call itself no proof is made yet.
+#[derive(Drop)]
+pub struct Rooms<'a> {
+    pub requests: &'a mut [u8],
+    pub store: &'a mut [u8],
+    pub slots: &'a mut [u32],
 }
 
-pub fn left(connection: Connection, reader: Buffered, waiting: usize) -> Done {
-    Done {
-        connection: connection,
-        reader: reader,
-        waiting: waiting,
-    }
-}
+// More descriptors than there can be inside. Memory is fixed here, so a list is an array and a count.
+pub(crate) const LIST: usize = 257;
 
-// A command of the connection, over rooms as long as it was opened with.
+// A command of the connection, over rooms as long as it was opened with, and what it put on the close
+// list.
 pub fn line(
-    rt: &impl Print,
-    start: Done,
-    op: Op,
-    requests: &mut [u8],
-    store: &mut [u8],
-    slots: &mut [u32],
-    bytes: &mut [u8],
-) -> Done {
-    let k = requests::bytes_for(start.connection.capacity);
-    let s = start.connection.room;
-    if requests.len() < k {
-        return start;
+    subject: &mut Subject,
+    call: Call,
+    rooms: &mut Rooms<'_>,
+    page: &mut Page<'_, impl Print>,
+) {
+    let k = requests::bytes_for(subject.connection.capacity);
+    let s = subject.connection.room;
+    if rooms.requests.len() < k || rooms.store.len() < s {
+        return;
     }
-    if store.len() < s {
-        return start;
-    }
+    let requests = &mut *rooms.requests;
+    let store = &mut *rooms.store;
+    let slots = &mut *rooms.slots;
     ended(
-        rt,
-        start,
-        op,
+        subject,
+        call,
         &mut requests[..k],
         &mut store[..s],
         slots,
-        bytes,
-    )
+        page,
+    );
 }
 
-// The command, and what it put on the close list.
+// By a call of its own, for the same reason.
 fn ended(
-    rt: &impl Print,
-    start: Done,
-    op: Op,
+    subject: &mut Subject,
+    call: Call,
     requests: &mut [u8],
     store: &mut [u8],
     slots: &mut [u32],
-    bytes: &mut [u8],
-) -> Done {
-    let done = carried(rt, start, op, requests, store, slots, bytes);
-    if done.connection.counts.closed == 0 {
-        return done;
+    page: &mut Page<'_, impl Print>,
+) {
+    let mut rooms = Rooms {
+        requests,
+        store,
+        slots,
+    };
+    carried(subject, call, &mut rooms, page);
+    if subject.connection.counts.closed != 0 {
+        close(&mut subject.connection, &mut rooms, page);
     }
-    close(rt, done, requests, store, slots, bytes)
 }
 
-// The commands that write more than one call's answer, and the others.
 fn carried(
-    rt: &impl Print,
-    start: Done,
-    op: Op,
-    requests: &mut [u8],
-    store: &mut [u8],
-    slots: &mut [u32],
-    bytes: &mut [u8],
-) -> Done {
-    let code = op.code;
-    match code {
-        script::FEED | script::FEEDIN => {
-            return feeds::line(rt, start, op, requests, store, slots, bytes);
-        }
-        script::DRAIN => {
-            return many::drain(rt, start, requests, store, slots, bytes);
-        }
-        script::POLL_REPLY_OR_ERROR => {
-            return polls::reply_or_error(rt, start, op.a, requests, store, slots, bytes);
-        }
-        _ => {
-            return single(rt, start, op, requests, store, slots, bytes);
-        }
+    subject: &mut Subject,
+    call: Call,
+    rooms: &mut Rooms<'_>,
+    page: &mut Page<'_, impl Print>,
+) {
+    let c = &mut subject.connection;
+    match call {
+        Call::Send(kind) => told(sends::send(c, kind, rooms), page),
+        Call::SendMany(kind, count) => page.tell(sends::many(c, kind, count, rooms)),
+        Call::SendAll(kinds) => told(many::send(c, kinds, rooms, page.run), page),
+        Call::Fds(list) => told(sends::fds(c, list, rooms, page.run), page),
+        Call::Intake(packet) => told(polls::intake(c, packet, rooms, page.run), page),
+        Call::FeedAll(bytes) => told(many::intake(c, bytes, rooms, page.run), page),
+        Call::Feed(bytes) => feeds::line(subject, bytes, false, rooms, page),
+        Call::FeedIn(bytes) => feeds::line(subject, bytes, true, rooms, page),
+        Call::Discard(n, mode) => told(sends::discard(c, n, mode, rooms), page),
+        Call::PollReplyOrError(n) => polls::reply_or_error(c, n, rooms, page),
+        Call::PollCheck(n) => told(polls::check(c, n, rooms, page.run), page),
+        Call::PollReply(n) => told(polls::reply(c, n, rooms, page.run), page),
+        Call::PollEvent => told(polls::event(c, rooms, page.run), page),
+        Call::Drain => many::drain(c, rooms, page),
+        Call::Prepare(n) => told(sends::prepare(*c, n, rooms), page),
     }
 }
 
-fn single(
-    rt: &impl Print,
-    start: Done,
-    op: Op,
-    requests: &mut [u8],
-    store: &mut [u8],
-    slots: &mut [u32],
-    bytes: &mut [u8],
-) -> Done {
-    let c = start.connection;
-    let called = make(c, op, requests, store, slots, bytes);
-    answered(rt, start, called, bytes)
-}
-
-// The answer written.
-pub(crate) fn answered(rt: &impl Print, start: Done, called: Called, bytes: &mut [u8]) -> Done {
-    let c = called.connection;
-    let answer = called.answer;
-    let waiting = text::tell(rt, bytes, start.waiting, answer);
-    left(c, start.reader, waiting)
-}
-
-// A call that writes nothing but its answer.
-fn make(
-    c: Connection,
-    op: Op,
-    requests: &mut [u8],
-    store: &mut [u8],
-    slots: &mut [u32],
-    bytes: &mut [u8],
-) -> Called {
-    let code = op.code;
-    match code {
-        script::SEND | script::SENDMANY => {
-            return sends::send(c, op, requests, store, slots);
-        }
-        script::SENDALL => {
-            return many::send(c, op, requests, store, slots, bytes);
-        }
-        script::DISCARD => {
-            return sends::discard(c, op, requests, store, slots);
-        }
-        _ => {
-            return taken(c, op, requests, store, slots, bytes);
-        }
-    }
-}
-
-// The calls that leave the requests as they are.
-fn taken(
-    c: Connection,
-    op: Op,
-    requests: &[u8],
-    store: &mut [u8],
-    slots: &mut [u32],
-    bytes: &mut [u8],
-) -> Called {
-    let code = op.code;
-    match code {
-        script::INTAKE => {
-            return polls::intake(c, op, requests, store, slots, bytes);
-        }
-        script::FEEDALL => {
-            return many::intake(c, op, requests, store, slots, bytes);
-        }
-        script::FDS => {
-            return sends::fds(c, op, requests, store, slots, bytes);
-        }
-        script::PREPARE => {
-            return sends::prepare(c, op.a, requests, store, slots);
-        }
-        script::POLL_CHECK | script::POLL_REPLY => {
-            return polls::reply(c, op, requests, store, slots, bytes);
-        }
-        _ => {
-            return polls::event(c, requests, store, slots, bytes);
-        }
-    }
+// The answer of a call, or its refusal.
+pub(crate) fn told(answer: Result<Answer, Refusal>, page: &mut Page<'_, impl Print>) {
+    page.tell(answer.unwrap_or_else(text::refusal));
 }
 
 // The close list, taken whole and listed.
-fn close(
-    rt: &impl Print,
-    start: Done,
-    requests: &[u8],
-    store: &[u8],
-    slots: &mut [u32],
-    bytes: &mut [u8],
-) -> Done {
-    let mut space = [0u32; LIST];
-    let list: &mut [u32] = &mut space;
-    let c = start.connection;
-    match connection::take_closed_fds(c, requests, store, slots, list) {
-        Closed::Taken(count, next) => {
-            return listed(
-                rt,
-                left(next, start.reader, start.waiting),
-                b" closed",
-                count,
-                list,
-                bytes,
-            );
-        }
-        Closed::Refused(_) => {
-            return start;
-        }
+fn close(c: &mut Connection, rooms: &mut Rooms<'_>, page: &mut Page<'_, impl Print>) {
+    let mut list = [0u32; LIST];
+    let requests = &mut *rooms.requests;
+    let store = &mut *rooms.store;
+    let slots = &mut *rooms.slots;
+    let closed = connection::take_closed_fds(*c, requests, store, slots, &mut list);
+    if let Ok(closed) = closed {
+        *c = closed.connection;
+        page.first(b" closed", &list, closed.count);
     }
-}
-
-// More than there can be inside.
-pub(crate) const LIST: usize = 257;
-
-// A word, and the first descriptors of a list.
-pub(crate) fn listed(
-    rt: &impl Print,
-    start: Done,
-    word: &[u8],
-    count: usize,
-    list: &[u32],
-    bytes: &mut [u8],
-) -> Done {
-    let mut done = start;
-    done.waiting = text::first(rt, bytes, start.waiting, word, list, count);
-    done
 }

@@ -1,146 +1,127 @@
 // `enqueue_packet`, and the polls. Packets are handed out at the start of the run of bytes.
-use crate::{Called, Done, sends};
-use model::{Connection, Enqueued, Event, Handed, PollReply, Polled};
-use script::Op;
+use crate::{LIST, Rooms};
+use model::{Connection, Handed, PollReply};
+use packet::Class;
+use refusal::Refusal;
 use sequence::SequenceNumber;
+use text::{Answer, Page, Span, Word};
 
-// The bytes from one index to another are a packet.
+// A packet joins the held ones, or is dropped; its class.
+pub(crate) fn enqueue(
+    c: &mut Connection,
+    packet: Span,
+    rooms: &mut Rooms<'_>,
+    run: &[u8],
+) -> Result<Class, Refusal> {
+    let requests = &mut *rooms.requests;
+    let store = &mut *rooms.store;
+    let slots = &mut *rooms.slots;
+    let filed = connection::enqueue_packet(*c, requests, store, slots, packet.of(run))?;
+    *c = filed.connection;
+    Ok(filed.class)
+}
+
 pub(crate) fn intake(
-    c: Connection,
-    op: Op,
-    requests: &[u8],
-    store: &mut [u8],
-    slots: &mut [u32],
-    bytes: &[u8],
-) -> Called {
-    let packet = text::cut(bytes, op.a as usize, op.b as usize);
-    filed(
-        c,
-        connection::enqueue_packet(c, requests, store, slots, packet),
-    )
+    c: &mut Connection,
+    packet: Span,
+    rooms: &mut Rooms<'_>,
+    run: &[u8],
+) -> Result<Answer, Refusal> {
+    Ok(text::classed(Word::Ok, enqueue(c, packet, rooms, run)?))
 }
 
-fn filed(c: Connection, answer: Enqueued) -> Called {
-    match answer {
-        Enqueued::Filed(_, _, class, next) => {
-            let number = packet::class_number(class) as u64;
-            sends::with(next, text::classed(text::OK, number))
-        }
-        Enqueued::Refused(refusal) => sends::refused(c, refusal),
-    }
+pub(crate) fn check(
+    c: &mut Connection,
+    number: SequenceNumber,
+    rooms: &mut Rooms<'_>,
+    run: &mut [u8],
+) -> Result<Answer, Refusal> {
+    let requests = &mut *rooms.requests;
+    let store = &mut *rooms.store;
+    let slots = &mut *rooms.slots;
+    let polled = connection::poll_check_for_reply_or_error(
+        *c, requests, store, slots, number, run,
+    )?;
+    Ok(replied(c, polled))
 }
 
-// `poll_check_for_reply_or_error`, or `poll_for_reply`.
 pub(crate) fn reply(
-    c: Connection,
-    op: Op,
-    requests: &[u8],
-    store: &mut [u8],
-    slots: &mut [u32],
-    bytes: &mut [u8],
-) -> Called {
-    let n = SequenceNumber(op.a);
-    if op.code == script::POLL_CHECK {
-        return replied(
-            c,
-            connection::poll_check_for_reply_or_error(c, requests, store, slots, n, bytes),
-        );
-    }
-    replied(
-        c,
-        connection::poll_for_reply(c, requests, store, slots, n, bytes),
-    )
+    c: &mut Connection,
+    number: SequenceNumber,
+    rooms: &mut Rooms<'_>,
+    run: &mut [u8],
+) -> Result<Answer, Refusal> {
+    let requests = &mut *rooms.requests;
+    let store = &mut *rooms.store;
+    let slots = &mut *rooms.slots;
+    let polled = connection::poll_for_reply(*c, requests, store, slots, number, run)?;
+    Ok(replied(c, polled))
 }
 
-fn replied(c: Connection, answer: PollReply) -> Called {
-    match answer {
-        PollReply::TryAgain(next) => sends::with(next, text::say(text::AGAIN)),
-        PollReply::NoReply(next) => sends::with(next, text::say(text::NOREPLY)),
-        PollReply::Reply(handed, next) => {
-            sends::with(next, text::shown(text::REPLY, 0, handed.length))
-        }
-        PollReply::Refused(refusal) => sends::refused(c, refusal),
-    }
+fn replied(c: &mut Connection, polled: PollReply) -> Answer {
+    let (answer, next) = match polled {
+        PollReply::TryAgain(next) => (text::say(Word::Again), next),
+        PollReply::NoReply(next) => (text::say(Word::NoReply), next),
+        PollReply::Reply(handed, next) => (text::shown(Some(Word::Reply), 0, handed.length), next),
+    };
+    *c = next;
+    answer
 }
 
 pub(crate) fn event(
-    c: Connection,
-    requests: &[u8],
-    store: &mut [u8],
-    slots: &[u32],
-    bytes: &mut [u8],
-) -> Called {
-    happened(
-        c,
-        connection::poll_for_event_with_sequence(c, requests, store, slots, bytes),
-    )
+    c: &mut Connection,
+    rooms: &mut Rooms<'_>,
+    run: &mut [u8],
+) -> Result<Answer, Refusal> {
+    let requests = &mut *rooms.requests;
+    let store = &mut *rooms.store;
+    let slots = &mut *rooms.slots;
+    let polled = connection::poll_for_event_with_sequence(*c, requests, store, slots, run)?;
+    *c = polled.connection;
+    Ok(polled.packet.map_or(text::say(Word::None), shown))
 }
 
-fn happened(c: Connection, answer: Event) -> Called {
-    match answer {
-        Event::Packet(handed, next) => sends::with(next, shown(handed)),
-        Event::Nothing(next) => sends::with(next, text::say(text::NONE)),
-        Event::Refused(refusal) => sends::refused(c, refusal),
+fn shown(handed: Handed) -> Answer {
+    Answer {
+        count: Some(handed.number.0),
+        class: Some(handed.class),
+        ..text::shown(Some(Word::Event), 0, handed.length)
     }
-}
-
-fn shown(handed: Handed) -> text::Answer {
-    let number = handed.number;
-    let class = handed.class;
-    let mut answer = text::count(text::EVENT, number.0);
-    answer.len = handed.length;
-    answer.class = packet::class_number(class) as u64;
-    answer
 }
 
 // The one call that hands out descriptors besides, which are listed behind its packet.
 pub(crate) fn reply_or_error(
-    rt: &impl Print,
-    start: Done,
-    number: u64,
-    requests: &[u8],
-    store: &mut [u8],
-    slots: &mut [u32],
-    bytes: &mut [u8],
-) -> Done {
-    let mut space = [0u32; crate::LIST];
-    let list: &mut [u32] = &mut space;
-    let c = start.connection;
-    let answer = connection::poll_for_reply_or_error(
-        c,
-        requests,
-        store,
-        slots,
-        SequenceNumber(number),
-        bytes,
-        list,
-    );
-    handed(rt, start, answer, list, bytes)
-}
-
-fn handed(rt: &impl Print, start: Done, answer: Polled, list: &[u32], bytes: &mut [u8]) -> Done {
-    let c = start.connection;
-    let done = crate::answered(rt, start, polled(c, answer), bytes);
-    let count = count_of(answer);
-    if count == 0 {
-        return done;
-    }
-    crate::listed(rt, done, b" fds", count, list, bytes)
-}
-
-fn polled(c: Connection, answer: Polled) -> Called {
-    match answer {
-        Polled::Packet(handed, next) => {
-            sends::with(next, text::shown(text::PACKET, 0, handed.length))
+    c: &mut Connection,
+    number: SequenceNumber,
+    rooms: &mut Rooms<'_>,
+    page: &mut Page<'_, impl Print>,
+) {
+    let mut list = [0u32; LIST];
+    match polled(c, number, rooms, page.run, &mut list) {
+        Ok(Some(handed)) => {
+            page.tell(text::shown(Some(Word::Packet), 0, handed.length));
+            if handed.descriptors != 0 {
+                page.first(b" fds", &list, handed.descriptors);
+            }
         }
-        Polled::Nothing(next) => sends::with(next, text::say(text::NONE)),
-        Polled::Refused(refusal) => sends::refused(c, refusal),
+        Ok(None) => page.tell(text::say(Word::None)),
+        Err(refusal) => page.tell(text::refusal(refusal)),
     }
 }
 
-fn count_of(answer: Polled) -> usize {
-    match answer {
-        Polled::Packet(handed, _) => handed.descriptors,
-        _ => 0,
-    }
+fn polled(
+    c: &mut Connection,
+    number: SequenceNumber,
+    rooms: &mut Rooms<'_>,
+    run: &mut [u8],
+    list: &mut [u32],
+) -> Result<Option<Handed>, Refusal> {
+    let requests = &mut *rooms.requests;
+    let store = &mut *rooms.store;
+    let slots = &mut *rooms.slots;
+    let polled = connection::poll_for_reply_or_error(
+        *c, requests, store, slots, number, run, list,
+    )?;
+    *c = polled.connection;
+    Ok(polled.packet)
 }

@@ -1,127 +1,97 @@
 // `save` and `restore`. A savepoint that is written goes between the buffers and the input, and is
 // shown from there; one that is read stands in the input.
-ghost use Rattle.std.specs.Prelude.{◌≤◌};
-
+use crate::{Rooms, Subject};
+use leaves::Buffered;
 use octets::LITTLE;
 use refusal::Refusal;
-use saving::{Client, Restored, Saved};
-use script::Op;
-use text::Answer;
-
-// A client, how long its reader's buffer is, and where the text ends.
-#[derive(Clone, Copy)]
-pub struct Point {
-    pub client: Client,
-    pub room: usize,
-    pub waiting: usize,
-}
-
-fn answered(rt: &impl Print, start: Point, answer: Answer, bytes: &mut [u8]) -> Point {
-    let mut next = start;
-    next.waiting = text::tell(rt, bytes, start.waiting, answer);
-    next
-}
+use saving::Client;
+use text::{Answer, Page, Span, Word};
 
 // The longest buffer of a reader.
 const LONGEST: usize = 65536;
 
 // ---- `save`
 
-pub fn save(
-    rt: &impl Print,
-    start: Point,
-    requests: &[u8],
-    store: &[u8],
-    slots: &[u32],
-    bytes: &mut [u8],
-) -> Point {
-    let client = start.client;
-    let c = client.connection;
-    let outstanding = text::cut(requests, 0, requests::bytes_for(c.capacity));
-    let held = text::cut(store, 0, c.room);
-    let answer = written(client, start.room, outstanding, held, slots, bytes);
-    answered(rt, start, shown(answer), bytes)
-}
-
-fn shown(answer: Saved) -> Answer {
-    match answer {
-        Saved::Bytes(n) => text::shown(0, leaves::END, n),
-        Saved::Refused(refusal) => text::refusal(refusal),
-    }
+pub fn save(subject: &Subject, rooms: &Rooms<'_>, page: &mut Page<'_, impl Print>) {
+    crate::told(saved(subject, rooms, page.run), page);
 }
 
 // The reader's buffer is in the run that is written to, so it is copied first.
+fn saved(subject: &Subject, rooms: &Rooms<'_>, run: &mut [u8]) -> Result<Answer, Refusal> {
+    let mut buf = [0u8; LONGEST];
+    let buffered = subject.leaves.reader;
+    let n = copied(Span::at(leaves::READER, buffered.room).of(run), &mut buf);
+    let out = run
+        .get_mut(leaves::END..script::INPUT)
+        .ok_or(Refusal::OutShort)?;
+    let n = written(subject, rooms, text::cut(&buf, 0, n), out)?;
+    Ok(text::shown(None, leaves::END, n))
+}
+
+// How many bytes are copied: all, or none where they don't fit.
+fn copied(from: &[u8], to: &mut [u8]) -> usize {
+    match to.get_mut(..from.len()) {
+        Some(to) => {
+            to.copy_from_slice(from);
+            from.len()
+        }
+        None => 0,
+    }
+}
+
 fn written(
-    client: Client,
-    room: usize,
-    requests: &[u8],
-    store: &[u8],
-    slots: &[u32],
-    bytes: &mut [u8],
-) -> Saved {
-    let mut space = [0u8; LONGEST];
-    let buf: &mut [u8] = &mut space;
-    let n = copied(buf, room, bytes);
-    put(client, requests, store, slots, text::cut(buf, 0, n), bytes)
-}
-
-// The first bytes of the reader's buffer, so many, and how many they are: 0 where they don't fit.
-fn copied(buf: &mut [u8], room: usize, bytes: &[u8]) -> usize {
-    let part = text::cut(bytes, leaves::READER, text::behind(leaves::READER, room));
-    if buf.len() < part.len() {
-        return 0;
-    }
-    octets::copy_in(buf, 0, part);
-    part.len()
-}
-
-fn put(
-    client: Client,
-    requests: &[u8],
-    store: &[u8],
-    slots: &[u32],
+    subject: &Subject,
+    rooms: &Rooms<'_>,
     buf: &[u8],
-    bytes: &mut [u8],
-) -> Saved {
-    let from = leaves::END;
-    let end = script::INPUT;
-    if bytes.len() < end {
-        return Saved::Refused(Refusal::OutShort);
-    }
-    saving::save(client, requests, store, slots, buf, &mut bytes[from..end])
+    out: &mut [u8],
+) -> Result<usize, Refusal> {
+    let c = subject.connection;
+    // A client without ids is unsound.
+    let ids = subject.leaves.ids.ok_or(Refusal::BadRoom)?;
+    let client = Client {
+        connection: c,
+        reader: subject.leaves.reader.reader,
+        ids,
+    };
+    let requests = text::cut(rooms.requests, 0, requests::bytes_for(c.capacity));
+    let store = text::cut(rooms.store, 0, c.room);
+    saving::save(client, requests, store, rooms.slots, buf, out)
 }
 
 // ---- `restore`
 
-// The bytes from one index to another are a savepoint. Rooms are as long as it says; those that are
-// longer than the program's own are refused by 9, since its own are lent then.
+// The bytes are a savepoint. Rooms are as long as it says; those that are longer than the program's
+// own are refused by 9, since its own are lent then.
 pub fn restore(
-    rt: &impl Print,
-    start: Point,
-    op: Op,
-    requests: &mut [u8],
-    store: &mut [u8],
-    slots: &[u32],
-    bytes: &mut [u8],
-) -> Point {
-    let mut space = [0u8; LONGEST];
-    let buf: &mut [u8] = &mut space;
-    let saved = text::cut(bytes, op.a as usize, op.b as usize);
-    let lengths = lengths_in(saved);
-    let answer = read(lengths, saved, requests, store, slots, buf);
-    match answer {
-        Restored::Client(client) => {
-            let next = laid(client, start, text::cut(buf, 0, lengths.buffer), bytes);
-            return answered(rt, next, text::say(text::OK), bytes);
-        }
-        Restored::Refused(refusal) => {
-            return answered(rt, start, text::refusal(refusal), bytes);
-        }
-    }
+    subject: &mut Subject,
+    saved: Span,
+    rooms: &mut Rooms<'_>,
+    page: &mut Page<'_, impl Print>,
+) {
+    crate::told(restored(subject, saved, rooms, page.run), page);
+}
+
+fn restored(
+    subject: &mut Subject,
+    saved: Span,
+    rooms: &mut Rooms<'_>,
+    run: &mut [u8],
+) -> Result<Answer, Refusal> {
+    let mut buf = [0u8; LONGEST];
+    let lengths = lengths_in(saved.of(run));
+    let client = read(saved.of(run), lengths, rooms, &mut buf)?;
+    let room = laid(text::cut(&buf, 0, lengths.buffer), run);
+    subject.connection = client.connection;
+    subject.leaves.reader = Buffered {
+        reader: client.reader,
+        room,
+    };
+    subject.leaves.ids = Some(client.ids);
+    Ok(text::say(Word::Ok))
 }
 
 // How long the rooms are that a savepoint was made of.
-#[derive(Clone, Copy)]
+#[derive(Clone, Copy, Default)]
 struct Lengths {
     requests: usize,
     store: usize,
@@ -137,33 +107,31 @@ const BUFFER: usize = 64;
 
 const HEAD: usize = 72;
 
+// Bytes that are too few for that are no savepoint, whatever rooms they are read in.
 fn lengths_in(saved: &[u8]) -> Lengths {
     if saved.len() < HEAD {
-        return Lengths {
-            requests: 0,
-            store: 0,
-            buffer: 0,
-        };
+        return Lengths::default();
     }
-    let k = octets::get_u64(LITTLE, saved, CAPACITY);
+    let k = octets::get_u64(LITTLE, saved, CAPACITY) as usize;
     Lengths {
-        requests: requests::bytes_for(k as usize),
+        requests: requests::bytes_for(k),
         store: octets::get_u64(LITTLE, saved, STORE) as usize,
         buffer: octets::get_u64(LITTLE, saved, BUFFER) as usize,
     }
 }
 
 fn read(
-    lengths: Lengths,
     saved: &[u8],
-    requests: &mut [u8],
-    store: &mut [u8],
-    slots: &[u32],
+    lengths: Lengths,
+    rooms: &mut Rooms<'_>,
     buf: &mut [u8],
-) -> Restored {
-    let k = least(lengths.requests, requests.len());
-    let s = least(lengths.store, store.len());
-    let p = least(lengths.buffer, buf.len());
+) -> Result<Client, Refusal> {
+    let requests = &mut *rooms.requests;
+    let store = &mut *rooms.store;
+    let slots = &mut *rooms.slots;
+    let k = lengths.requests.min(requests.len());
+    let s = lengths.store.min(store.len());
+    let p = lengths.buffer.min(buf.len());
     saving::restore(
         saved,
         &mut requests[..k],
@@ -173,24 +141,11 @@ fn read(
     )
 }
 
-fn least(a: usize, b: usize) -> usize
-    ensures { result ≤ b }
-{
-    if a < b { a } else { b }
-}
-
-// The reader's buffer goes back to its place.
-fn laid(client: Client, start: Point, buf: &[u8], bytes: &mut [u8]) -> Point {
-    let from = leaves::READER;
-    let mut next = start;
-    next.client = client;
-    next.room = buf.len();
-    if bytes.len() < from {
-        return next;
+// The reader's buffer goes back to its place; how long it is.
+fn laid(buf: &[u8], run: &mut [u8]) -> usize {
+    let place = Span::at(leaves::READER, buf.len());
+    if let Some(to) = run.get_mut(place.from..place.end) {
+        let _ = copied(buf, to);
     }
-    if bytes.len() - from < buf.len() {
-        return next;
-    }
-    octets::copy_in(bytes, from, buf);
-    next
+    buf.len()
 }

@@ -1,52 +1,38 @@
 // `state`: what a script works on, shown.
+use crate::{Rooms, Subject};
 use leaves::{Buffered, Leaves};
 use model::Connection;
-use script::Op;
 use shown::{Beside, Partial, Told};
+use text::{Page, Span};
 
-// Where the text ends then. The command's number is 1 for `state full`, else 0.
-pub fn state(
-    rt: &impl Print,
-    c: Connection,
-    leaves: Leaves,
-    op: Op,
-    requests: &[u8],
-    store: &[u8],
-    slots: &[u32],
-    bytes: &mut [u8],
-    waiting: usize,
-) -> usize {
-    let outstanding = text::cut(requests, 0, requests::bytes_for(c.capacity));
-    let held = text::cut(store, 0, c.room);
-    let a = shown::line(rt, told(c), outstanding, held, slots, bytes, waiting);
-    shown::behind(rt, beside(c, leaves), op.a == 1, held, bytes, a)
+// In full, or with digests of bytes.
+pub fn state(subject: &Subject, full: bool, rooms: &Rooms<'_>, page: &mut Page<'_, impl Print>) {
+    let c = subject.connection;
+    let requests = text::cut(rooms.requests, 0, requests::bytes_for(c.capacity));
+    let store = text::cut(rooms.store, 0, c.room);
+    shown::line(page, told(c), requests, store, rooms.slots);
+    shown::behind(page, beside(c, subject.leaves), full, store);
 }
 
 fn told(c: Connection) -> Told {
-    let window = c.window;
-    let counts = c.counts;
     Told {
         written: c.written,
         expected: c.expected,
         read: c.read,
         first: c.first,
-        window: window,
-        counts: counts,
+        window: c.window,
+        counts: c.counts,
     }
 }
 
 fn beside(c: Connection, leaves: Leaves) -> Beside {
-    let window = c.window;
-    let ids = leaves.ids;
     Beside {
         order: c.order,
         requests: c.capacity,
         store: c.room,
-        window: window,
+        window: c.window,
         reader: reader(leaves.reader),
-        next: ids.next,
-        last: ids.last,
-        step: ids.step,
+        ids: leaves.ids,
         handshake: handshake(leaves),
     }
 }
@@ -56,8 +42,7 @@ fn reader(now: Buffered) -> Partial {
     Partial {
         order: reader.order,
         room: now.room,
-        from: leaves::READER,
-        filled: reader.filled,
+        filled: Span::at(leaves::READER, reader.filled),
     }
 }
 
@@ -66,7 +51,6 @@ fn handshake(leaves: Leaves) -> Partial {
     Partial {
         order: handshake.order,
         room: leaves::END - leaves::SETUP,
-        from: leaves::SETUP,
-        filled: handshake.filled,
+        filled: Span::at(leaves::SETUP, handshake.filled),
     }
 }

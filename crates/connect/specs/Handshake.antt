@@ -1,18 +1,16 @@
 -- The handshake over its lent buffer: when it is sound, and what its calls answer. Assumes nothing.
-use Rattle.std.specs.Prelude.{◌≡◌, refl, Bool, not, List, ℕ, ◌+◌, ◌-◌, ◌*◌, leb, ltb, eqb, length}
-use Rattle.std.proofs.Common.{sym, ap, ◌∙◌}
+use Rattle.std.specs.Prelude.{◌≡◌, refl, Bool, not, List, ℕ, ◌+◌, ◌-◌, ◌*◌, leb, ltb, eqb, length, Result}
+use Rattle.std.proofs.Common.{sym, ◌∙◌}
 use Rattle.std.specs.Borrow.{MutBor}
 use Rattle.octets.specs.Logic.{choose, both}
 use Rattle.octets.specs.Bytes.{legal}
 use Rattle.octets.specs.Put.{cut}
 use Rattle.octets.specs.Field.{field}
-use Rattle.refusal.specs.Answer.{Answer, gives, refuses, refuse, decides}
-use Rattle.refusal.specs.Numbers.{number_of, refusal_of, listed}
+use Rattle.refusal.specs.Answer.{Answer, gives, refuse, says, says_one}
 use Rattle.connect.specs.declared.handshake.Connect.{Connect}
-use Rattle.connect.specs.declared.handshake.Span.{Span}
-use Rattle.connect.specs.declared.handshake.Made.{Made}
-use Rattle.connect.specs.declared.handshake.Capacity.{Capacity}
+use Rattle.octets.specs.declared.Span.{Span}
 use Rattle.connect.specs.declared.handshake.Advanced.{Advanced}
+use Rattle.refusal.specs.declared.Refusal.{Refusal}
 
 -- Core, Encoding, Connection Setup: whichever reply comes, its first eight bytes end in two that write the length in 4-byte units of the additional data behind them.
 abbrev pub head : ℕ
@@ -85,47 +83,36 @@ unfoldable pub advanced : Connect → List ℕ → ℕ → Answer Progress
 advanced c s amount =
     refuse (not (soundb c s)) 9 (refuse (ltb (c.target - c.filled) amount) 7 (reached c.order s (c.filled + amount)))
 
--- what the enums say
-abbrev pub says_made : Made → Answer Connect
-says_made (Made.Handshake c) = gives c
-says_made (Made.Refused r) = refuses (number_of r)
+-- what the results say
+abbrev pub says_made : Result Connect Refusal → Answer Connect
+says_made = says (λ c. c)
 
-abbrev pub says_capacity : Capacity → Answer ℕ
-says_capacity (Capacity.Bytes n) = gives n
-says_capacity (Capacity.Refused r) = refuses (number_of r)
+abbrev pub says_capacity : Result ℕ Refusal → Answer ℕ
+says_capacity = says (λ n. n)
 
-abbrev pub says_advanced : Advanced → Answer Progress
-says_advanced (Advanced.NotYet c) = gives (waits c)
-says_advanced (Advanced.Complete c) = gives (complete c)
-says_advanced (Advanced.Refused r) = refuses (number_of r)
+abbrev pub says_progress : Advanced → Progress
+says_progress (Advanced.NotYet c) = waits c
+says_progress (Advanced.Complete c) = complete c
+
+abbrev pub says_advanced : Result Advanced Refusal → Answer Progress
+says_advanced = says says_progress
 
 -- ---- laws
 
 -- Two answers that say the same are equal.
-back_made : Answer Connect → Made
-back_made (gives c) = Made.Handshake c
-back_made (refuses n) = Made.Refused (refusal_of n)
+pub made_one : (a b : Result Connect Refusal) → says_made a ≡ says_made b → a ≡ b
+made_one = says_one _ (λ c. c) (λ x. refl)
 
-pub made_one : (a b : Made) → says_made a ≡ says_made b → a ≡ b
-unfolding back_made
-made_one = decides says_made back_made (elim [ Made.Handshake c ↦ refl | Made.Refused r ↦ ap Made.Refused (listed r) ])
+pub capacity_one : (a b : Result ℕ Refusal) → says_capacity a ≡ says_capacity b → a ≡ b
+capacity_one = says_one _ (λ n. n) (λ x. refl)
 
-back_capacity : Answer ℕ → Capacity
-back_capacity (gives n) = Capacity.Bytes n
-back_capacity (refuses n) = Capacity.Refused (refusal_of n)
+back_progress : Progress → Advanced
+back_progress (waits c) = Advanced.NotYet c
+back_progress (complete c) = Advanced.Complete c
 
-pub capacity_one : (a b : Capacity) → says_capacity a ≡ says_capacity b → a ≡ b
-unfolding back_capacity
-capacity_one = decides says_capacity back_capacity (elim [ Capacity.Bytes n ↦ refl | Capacity.Refused r ↦ ap Capacity.Refused (listed r) ])
-
-back_advanced : Answer Progress → Advanced
-back_advanced (gives (waits c)) = Advanced.NotYet c
-back_advanced (gives (complete c)) = Advanced.Complete c
-back_advanced (refuses n) = Advanced.Refused (refusal_of n)
-
-pub advanced_one : (a b : Advanced) → says_advanced a ≡ says_advanced b → a ≡ b
-unfolding back_advanced
-advanced_one = decides says_advanced back_advanced (elim [ Advanced.NotYet c ↦ refl | Advanced.Complete c ↦ refl | Advanced.Refused r ↦ ap Advanced.Refused (listed r) ])
+pub advanced_one : (a b : Result Advanced Refusal) → says_advanced a ≡ says_advanced b → a ≡ b
+unfolding back_progress
+advanced_one = says_one _ back_progress (elim [ Advanced.NotYet c ↦ refl | Advanced.Complete c ↦ refl ])
 
 -- Any two parts that `buffer` may lend show the same and stand in the same place.
 pub lent_one : {c : Connect} {b p q : MutBor (List ℕ)} → Lent c b p → Lent c b q → (p.now ≡ q.now) × (p.ref_ptr ≡ q.ref_ptr)

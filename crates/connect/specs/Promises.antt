@@ -1,29 +1,28 @@
 -- THE PROMISES of the public calls: what a contract says of the answer r, and that any two answers that it allows are equal. Of `buffer` that is `Lent` (`Handshake.antt`), of `vendor` and `reason` `Shown` (`Setup.antt`). Assumes nothing.
-use Rattle.std.specs.Prelude.{◌≡◌, List, ℕ, length}
+use Rattle.std.specs.Prelude.{◌≡◌, List, ℕ, length, Result}
 use Rattle.std.proofs.Common.{sym, ◌∙◌}
 use Rattle.connect.specs.Handshake.{made, capacity, unfilled, advanced, says_made, says_capacity, says_advanced, made_one, capacity_one, advanced_one}
 use Rattle.connect.specs.Setup.{setup, says_setup, setup_one}
 use Rattle.connect.specs.declared.handshake.Connect.{Connect}
-use Rattle.connect.specs.declared.handshake.Span.{Span}
-use Rattle.connect.specs.declared.handshake.Made.{Made}
-use Rattle.connect.specs.declared.handshake.Capacity.{Capacity}
+use Rattle.octets.specs.declared.Span.{Span}
 use Rattle.connect.specs.declared.handshake.Advanced.{Advanced}
 use Rattle.connect.specs.declared.reply.SetupAnswer.{SetupAnswer}
+use Rattle.refusal.specs.declared.Refusal.{Refusal}
 
 -- `Connect::new`
 module _ (order : ℕ) (buf : List ℕ) where
-  abbrev pub Makes : Made → Type 0
+  abbrev pub Makes : Result Connect Refusal → Type 0
   Makes r = says_made r ≡ made order (length buf)
 
-  pub makes_one : (a b : Made) → Makes a → Makes b → a ≡ b
+  pub makes_one : (a b : Result Connect Refusal) → Makes a → Makes b → a ≡ b
   makes_one a b x y = made_one a b (x ∙ sym y)
 
 -- `remaining_capacity`
 module _ (connect : Connect) (buf : List ℕ) where
-  abbrev pub Remains : Capacity → Type 0
+  abbrev pub Remains : Result ℕ Refusal → Type 0
   Remains r = says_capacity r ≡ capacity connect buf
 
-  pub remains_one : (a b : Capacity) → Remains a → Remains b → a ≡ b
+  pub remains_one : (a b : Result ℕ Refusal) → Remains a → Remains b → a ≡ b
   remains_one a b x y = capacity_one a b (x ∙ sym y)
 
 -- `unfilled`
@@ -36,16 +35,16 @@ module _ (connect : Connect) (buf : List ℕ) where
 
 -- `advance`
 module _ (connect : Connect) (buf : List ℕ) (amount : ℕ) where
-  abbrev pub Advances : Advanced → Type 0
+  abbrev pub Advances : Result Advanced Refusal → Type 0
   Advances r = says_advanced r ≡ advanced connect buf amount
 
-  pub advances_one : (a b : Advanced) → Advances a → Advances b → a ≡ b
+  pub advances_one : (a b : Result Advanced Refusal) → Advances a → Advances b → a ≡ b
   advances_one a b x y = advanced_one a b (x ∙ sym y)
 
 -- `setup`
 module _ (connect : Connect) (buf : List ℕ) where
-  abbrev pub ReadsSetup : SetupAnswer → Type 0
+  abbrev pub ReadsSetup : Result SetupAnswer Refusal → Type 0
   ReadsSetup r = says_setup r ≡ setup connect buf
 
-  pub reads_setup_one : (a b : SetupAnswer) → ReadsSetup a → ReadsSetup b → a ≡ b
+  pub reads_setup_one : (a b : Result SetupAnswer Refusal) → ReadsSetup a → ReadsSetup b → a ≡ b
   reads_setup_one a b x y = setup_one a b (x ∙ sym y)

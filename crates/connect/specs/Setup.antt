@@ -37,14 +37,13 @@
 --      4                       unused
 --      v     STRING8           vendor
 -- and then the formats and screens, which are not read here.
-use Rattle.std.specs.Prelude.{◌≡◌, refl, not, List, ℕ, ◌+◌, ◌*◌, ltb, eqb, length, take, get_or}
-use Rattle.std.proofs.Common.{sym, ap, ◌∙◌}
+use Rattle.std.specs.Prelude.{◌≡◌, refl, not, List, ℕ, ◌+◌, ◌*◌, ltb, eqb, length, take, get_or, Result}
+use Rattle.std.proofs.Common.{sym, ◌∙◌}
 use Rattle.std.specs.Borrow.{Bor}
 use Rattle.octets.specs.Logic.{choose}
 use Rattle.octets.specs.Put.{cut}
 use Rattle.octets.specs.Field.{field}
-use Rattle.refusal.specs.Answer.{Answer, gives, refuses, refuse, decides}
-use Rattle.refusal.specs.Numbers.{number_of, refusal_of, listed}
+use Rattle.refusal.specs.Answer.{Answer, gives, refuses, refuse, says, says_one}
 use Rattle.connect.specs.Handshake.{head, soundb}
 use Rattle.connect.specs.declared.handshake.Connect.{Connect}
 use Rattle.connect.specs.declared.reply.Setup.{Setup}
@@ -52,6 +51,7 @@ use Rattle.connect.specs.declared.reply.SetupFailed.{SetupFailed}
 use Rattle.connect.specs.declared.reply.SetupAuthenticate.{SetupAuthenticate}
 use Rattle.connect.specs.declared.reply.TextAt.{TextAt}
 use Rattle.connect.specs.declared.reply.SetupAnswer.{SetupAnswer}
+use Rattle.refusal.specs.declared.Refusal.{Refusal}
 
 -- the first byte of a reply
 abbrev pub failed_status : ℕ
@@ -148,25 +148,26 @@ pub record Shown (a : TextAt) (b p : Bor (List ℕ)) : Type 0 where
   pub shows : p.now ≡ text_at a b.now
   pub stands : p.ref_ptr ≡ (b.ref_ptr.0, a.start + b.ref_ptr.1)
 
--- what the enum says
-abbrev pub says_setup : SetupAnswer → Answer Reading
-says_setup (SetupAnswer.Success x) = gives (success x)
-says_setup (SetupAnswer.Failed x) = gives (failed x)
-says_setup (SetupAnswer.Authenticate x) = gives (authenticate x)
-says_setup (SetupAnswer.Refused r) = refuses (number_of r)
+-- what the result says
+abbrev pub says_reading : SetupAnswer → Reading
+says_reading (SetupAnswer.Success x) = success x
+says_reading (SetupAnswer.Failed x) = failed x
+says_reading (SetupAnswer.Authenticate x) = authenticate x
+
+abbrev pub says_setup : Result SetupAnswer Refusal → Answer Reading
+says_setup = says says_reading
 
 -- ---- laws
 
 -- Two answers that say the same are equal.
-back : Answer Reading → SetupAnswer
-back (gives (failed x)) = SetupAnswer.Failed x
-back (gives (success x)) = SetupAnswer.Success x
-back (gives (authenticate x)) = SetupAnswer.Authenticate x
-back (refuses n) = SetupAnswer.Refused (refusal_of n)
+back : Reading → SetupAnswer
+back (failed x) = SetupAnswer.Failed x
+back (success x) = SetupAnswer.Success x
+back (authenticate x) = SetupAnswer.Authenticate x
 
-pub setup_one : (a b : SetupAnswer) → says_setup a ≡ says_setup b → a ≡ b
+pub setup_one : (a b : Result SetupAnswer Refusal) → says_setup a ≡ says_setup b → a ≡ b
 unfolding back
-setup_one = decides says_setup back (elim [ SetupAnswer.Success x ↦ refl | SetupAnswer.Failed x ↦ refl | SetupAnswer.Authenticate x ↦ refl | SetupAnswer.Refused r ↦ ap SetupAnswer.Refused (listed r) ])
+setup_one = says_one _ back (elim [ SetupAnswer.Success x ↦ refl | SetupAnswer.Failed x ↦ refl | SetupAnswer.Authenticate x ↦ refl ])
 
 -- Any two texts that `vendor`, or `reason`, may show are the same and stand in the same place.
 pub shown_one : {a : TextAt} {b p q : Bor (List ℕ)} → Shown a b p → Shown a b q → (p.now ≡ q.now) × (p.ref_ptr ≡ q.ref_ptr)

@@ -6,7 +6,7 @@ use Rattle.octets.specs.Logic.{choose, both_left, both_right, both_yes, both_on}
 use Rattle.octets.specs.Bytes.{legal}
 use Rattle.connect.specs.Handshake.{head, most_buffer, aim, room, soundb, unfilled}
 use Rattle.connect.specs.declared.handshake.Connect.{Connect}
-use Rattle.connect.specs.declared.handshake.Span.{Span}
+use Rattle.octets.specs.declared.Span.{Span}
 
 -- 01, Rooms: what a sound handshake is
 pub record Sound (c : Connect) (s : List ℕ) : Type 0 where

@@ -3,6 +3,7 @@ ghost use Rattle.std.specs.Prelude.{◌≡◌, ◌≤◌, length};
 ghost use Rattle.connect.specs.Handshake.{head, aim, fresh as handshake_fresh, soundb, Lent};
 ghost use Rattle.connect.specs.Promises.{Makes, Remains, Lies, Advances};
 
+use octets::Span;
 use refusal::Refusal;
 
 // The bytes of a reply that say how long it is, and the most that a buffer may have.
@@ -13,7 +14,8 @@ pub const MOST_BUFFER: usize = 262148;
 // Where a reply has its length.
 const LENGTH_AT: usize = 6;
 
-// A handshake's state: byte order, bytes filled, and the bytes that the reply will have.
+// A handshake's state: byte order, bytes filled, and the bytes that the reply will have. Why it is no
+// instance of one type with the packet reader's state stands beside that.
 #[derive(Clone, Copy)]
 pub struct Connect {
     pub order: u8,
@@ -21,61 +23,42 @@ pub struct Connect {
     pub target: usize,
 }
 
-// A part of a buffer: where it starts, and where the bytes behind it start.
-#[derive(Clone, Copy)]
-pub struct Span {
-    pub start: usize,
-    pub end: usize,
-}
-
-#[derive(Clone, Copy)]
-pub enum Made {
-    Handshake(Connect),
-    Refused(Refusal),
-}
-
-#[derive(Clone, Copy)]
-pub enum Capacity {
-    Bytes(usize),
-    Refused(Refusal),
-}
-
-// What counting filled bytes comes to: the reply isn't complete yet, or it is.
+// What counting filled bytes comes to: the reply isn't complete yet, or it is. Two cases: a flag beside
+// the state would say less.
 #[derive(Clone, Copy)]
 pub enum Advanced {
     NotYet(Connect),
     Complete(Connect),
-    Refused(Refusal),
 }
 
 impl Connect {
     // A handshake with nothing filled. Refused by 9 for a buffer that has not 8 to 262,148 bytes,
     // then by 13.
-    pub fn new(order: u8, buf: &[u8]) -> Made
+    pub fn new(order: u8, buf: &[u8]) -> Result<Connect, Refusal>
         ensures { Makes order buf.now result }
     {
         if buf.len() < HEAD {
-            return Made::Refused(Refusal::BadRoom);
+            return Err(Refusal::BadRoom);
         }
         if MOST_BUFFER < buf.len() {
-            return Made::Refused(Refusal::BadRoom);
+            return Err(Refusal::BadRoom);
         }
         if !octets::is_legal(order) {
-            return Made::Refused(Refusal::BadOrder);
+            return Err(Refusal::BadOrder);
         }
-        Made::Handshake(fresh(order))
+        Ok(fresh(order))
     }
 
     // How many bytes the part has that `buffer` lends. Refused by 9 where the handshake is not
     // sound beside its buffer: the number that `buffer`, which lends an empty part then, can't
     // give.
-    pub fn remaining_capacity(self, buf: &[u8]) -> Capacity
+    pub fn remaining_capacity(self, buf: &[u8]) -> Result<usize, Refusal>
         ensures { Remains self buf.now result }
     {
         if !is_sound(self, buf) {
-            return Capacity::Refused(Refusal::BadRoom);
+            return Err(Refusal::BadRoom);
         }
-        Capacity::Bytes(self.target - self.filled)
+        Ok(self.target - self.filled)
     }
 
     // Where the part of the buffer lies that is to be filled next: from the filled bytes to the
@@ -105,30 +88,30 @@ impl Connect {
     // Counts amount bytes of the lent part as filled. Refused by 9 for an unsound handshake, 7 for
     // more than the part has, and 2 where the reply would be longer than the buffer. A complete
     // handshake stays one: by 0 bytes it is complete again.
-    pub fn advance(self, buf: &[u8], amount: usize) -> Advanced
+    pub fn advance(self, buf: &[u8], amount: usize) -> Result<Advanced, Refusal>
         ensures { Advances self buf.now amount result }
     {
         if !is_sound(self, buf) {
-            return Advanced::Refused(Refusal::BadRoom);
+            return Err(Refusal::BadRoom);
         }
         if self.target - self.filled < amount {
-            return Advanced::Refused(Refusal::OverAdvance);
+            return Err(Refusal::OverAdvance);
         }
         let order = self.order;
         let filled = self.filled + amount;
         let target = aim_of(order, buf, filled);
         if buf.len() < target {
-            return Advanced::Refused(Refusal::LongPacket);
+            return Err(Refusal::LongPacket);
         }
         let next = Connect {
-            order: order,
-            filled: filled,
-            target: target,
+            order,
+            filled,
+            target,
         };
         if filled == target {
-            return Advanced::Complete(next);
+            return Ok(Advanced::Complete(next));
         }
-        Advanced::NotYet(next)
+        Ok(Advanced::NotYet(next))
     }
 }
 
@@ -136,7 +119,7 @@ fn fresh(order: u8) -> Connect
     ensures { result ≡ handshake_fresh order }
 {
     Connect {
-        order: order,
+        order,
         filled: 0,
         target: HEAD,
     }

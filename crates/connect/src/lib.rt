@@ -12,5 +12,6 @@
 mod handshake;
 mod reply;
 
-pub use handshake::{Advanced, Capacity, Connect, HEAD, MOST_BUFFER, Made, Span};
+pub use handshake::{Advanced, Connect, HEAD, MOST_BUFFER};
+pub use octets::Span;
 pub use reply::{FIXED, Setup, SetupAnswer, SetupAuthenticate, SetupFailed};

@@ -72,7 +72,6 @@ pub enum SetupAnswer {
     Success(Setup),
     Failed(SetupFailed),
     Authenticate(SetupAuthenticate),
-    Refused(Refusal),
 }
 
 // Where a text stands in the buffer.
@@ -85,14 +84,14 @@ struct TextAt {
 impl Connect {
     // What the reply says (`into_setup` of the Rust). Refused by 9 for an unsound handshake, 15 for
     // one that isn't complete yet, 14 for another first byte or a text that passes the reply's end.
-    pub fn setup(self, buf: &[u8]) -> SetupAnswer
+    pub fn setup(self, buf: &[u8]) -> Result<SetupAnswer, Refusal>
         ensures { ReadsSetup self buf.now result }
     {
         if !is_sound(self, buf) {
-            return SetupAnswer::Refused(Refusal::BadRoom);
+            return Err(Refusal::BadRoom);
         }
         if self.filled != self.target {
-            return SetupAnswer::Refused(Refusal::Incomplete);
+            return Err(Refusal::Incomplete);
         }
         let end = self.target;
         read_reply(self.order, &buf[..end])
@@ -114,7 +113,7 @@ impl Connect {
     }
 }
 
-fn read_reply(order: u8, reply: &[u8]) -> SetupAnswer
+fn read_reply(order: u8, reply: &[u8]) -> Result<SetupAnswer, Refusal>
     requires { head ≤ length reply.now }
     ensures { says_setup result ≡ read_reply order reply.now }
 {
@@ -126,35 +125,35 @@ fn read_reply(order: u8, reply: &[u8]) -> SetupAnswer
         return read_success(order, reply);
     }
     if status == AUTHENTICATE {
-        return SetupAnswer::Authenticate(authenticate_fields(order, reply));
+        return Ok(SetupAnswer::Authenticate(authenticate_fields(order, reply)));
     }
-    SetupAnswer::Refused(Refusal::BadContent)
+    Err(Refusal::BadContent)
 }
 
-fn read_failed(order: u8, reply: &[u8]) -> SetupAnswer
+fn read_failed(order: u8, reply: &[u8]) -> Result<SetupAnswer, Refusal>
     requires { head ≤ length reply.now }
     ensures { says_setup result ≡ read_failed order reply.now }
 {
     let failed = failed_fields(order, reply);
     let end = HEAD + failed.reason as usize;
     if reply.len() < end {
-        return SetupAnswer::Refused(Refusal::BadContent);
+        return Err(Refusal::BadContent);
     }
-    SetupAnswer::Failed(failed)
+    Ok(SetupAnswer::Failed(failed))
 }
 
-fn read_success(order: u8, reply: &[u8]) -> SetupAnswer
+fn read_success(order: u8, reply: &[u8]) -> Result<SetupAnswer, Refusal>
     ensures { says_setup result ≡ read_success order reply.now }
 {
     if reply.len() < FIXED {
-        return SetupAnswer::Refused(Refusal::BadContent);
+        return Err(Refusal::BadContent);
     }
     let setup = success_fields(order, reply);
     let end = FIXED + setup.vendor as usize;
     if reply.len() < end {
-        return SetupAnswer::Refused(Refusal::BadContent);
+        return Err(Refusal::BadContent);
     }
-    SetupAnswer::Success(setup)
+    Ok(SetupAnswer::Success(setup))
 }
 
 fn failed_fields(order: u8, reply: &[u8]) -> SetupFailed
@@ -203,40 +202,38 @@ fn success_fields(order: u8, reply: &[u8]) -> Setup
     }
 }
 
+// A place of no bytes, as in the definitions of the two places; so it is no option.
 fn nowhere() -> TextAt
     ensures { result ≡ setup_nowhere }
 {
     TextAt { start: 0, size: 0 }
 }
 
-fn vendor_place(answer: SetupAnswer) -> TextAt
+fn vendor_place(answer: Result<SetupAnswer, Refusal>) -> TextAt
     ensures { result ≡ vendor_place (says_setup answer) }
 {
     match answer {
-        SetupAnswer::Success(setup) => TextAt {
+        Ok(SetupAnswer::Success(setup)) => TextAt {
             start: FIXED,
             size: setup.vendor as usize,
         },
-        SetupAnswer::Failed(_) => nowhere(),
-        SetupAnswer::Authenticate(_) => nowhere(),
-        SetupAnswer::Refused(_) => nowhere(),
+        _ => nowhere(),
     }
 }
 
-fn reason_place(answer: SetupAnswer) -> TextAt
+fn reason_place(answer: Result<SetupAnswer, Refusal>) -> TextAt
     ensures { result ≡ reason_place (says_setup answer) }
 {
     match answer {
-        SetupAnswer::Failed(failed) => TextAt {
+        Ok(SetupAnswer::Failed(failed)) => TextAt {
             start: HEAD,
             size: failed.reason as usize,
         },
-        SetupAnswer::Authenticate(authenticate) => TextAt {
+        Ok(SetupAnswer::Authenticate(authenticate)) => TextAt {
             start: HEAD,
             size: 4 * (authenticate.length as usize),
         },
-        SetupAnswer::Success(_) => nowhere(),
-        SetupAnswer::Refused(_) => nowhere(),
+        _ => nowhere(),
     }
 }
 

@@ -1,3 +1,4 @@
+pub mod Check
 pub mod Calls
 pub mod Laws
 pub mod Opening

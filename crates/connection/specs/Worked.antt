@@ -1,6 +1,6 @@
 -- A PROMISE WITH NUMBERS: `poll_for_event_with_sequence` on a small connection hands an event out, is refused by 8, and is refused by 9. Each claim is
 -- `PollsEvent state lent out answer left out'`, as the contract has it, with all six spelled out. Assumes nothing.
-use Rattle.std.specs.Prelude.{◌≡◌, refl, List, [], ◌∷◌, ◌++◌, ℕ, replicate}
+use Rattle.std.specs.Prelude.{◌≡◌, refl, List, [], ◌∷◌, ◌++◌, ℕ, replicate, Result, Ok, Some}
 use Rattle.octets.specs.Logic.{choose, both, either}
 use Rattle.octets.specs.Bytes.{legal, bytes_of, number_in, low_bytes, low_number, turned}
 use Rattle.octets.specs.Put.{put, cut}
@@ -20,14 +20,15 @@ use Rattle.model.specs.Model as Model
 use Rattle.model.specs.Reading.{Rooms, rooms, with_descriptors, reads}
 use Rattle.model.specs.Sound.{limitsb, runb, numbersb, holdsb, heldb, soundb}
 use Rattle.model.specs.Promise.{answer_of, rooms_of, output_of, model_of, guarded}
-use Rattle.model.specs.Says.{packet, says_event}
+use Rattle.model.specs.Says.{packet, says_polled}
 use Rattle.model.specs.declared.Connection.{Connection}
-use Rattle.model.specs.declared.Event.{Event}
 use Rattle.model.specs.declared.Handed.{Handed}
 use Rattle.model.specs.declared.ReplyFdKind.TheVariants.{NoReply}
 use Rattle.polling.specs.Exact.{event_exact}
 use Rattle.connection.specs.Calls.{PollsEvent}
 use Rattle.connection.specs.Promises.{polls_event_one}
+use Rattle.refusal.specs.declared.Refusal.{Refusal}
+use Rattle.model.specs.declared.Polled.{Polled}
 
 -- ---- what the call is given
 
@@ -123,5 +124,5 @@ unfolding computing
 modelled = (refl, refl, refl)
 
 -- NO OTHER ANSWER is allowed, nor other rooms or another output.
-pub no_other : (a : Event) (left : Rooms) (out' : List ℕ) → PollsEvent state lent out (says_event a) left out' → (a ≡ Event.Packet shown after) × (left ≡ lent) × (out' ≡ written)
-no_other a left out' p = polls_event_one state lent out a (Event.Packet shown after) left lent out' written p handed
+pub no_other : (a : Result Polled Refusal) (left : Rooms) (out' : List ℕ) → PollsEvent state lent out (says_polled a) left out' → (a ≡ Ok (record { packet = Some shown; connection = after })) × (left ≡ lent) × (out' ≡ written)
+no_other a left out' p = polls_event_one state lent out a (Ok (record { packet = Some shown; connection = after })) left lent out' written p handed

@@ -6,43 +6,57 @@
 // (`model`), or refuses by the number that the rules give, and a refusal leaves the state and every
 // lent byte as found. Nothing is allocated and nothing blocks: the caller reads and writes the
 // socket.
+//
+// The rooms stay three parameters: a call is lent each to read or to write, as it needs, and one
+// struct of rooms that may be written would ask more of callers.
 #![tactic(auto)]
 
 ghost use Rattle.std.specs.Prelude.{◌≡◌};
 ghost use Rattle.model.specs.Model.{roomy};
 ghost use Rattle.model.specs.Reading.{rooms};
-ghost use Rattle.model.specs.Says.{says_next, says_sent, says_enqueued, says_polled, says_poll_reply, says_event, says_closed, says_prepared};
+ghost use Rattle.model.specs.Says.{says_next, says_sent, says_enqueued, says_polled, says_poll_reply, says_closed, says_prepared};
 ghost use Rattle.model.specs.SaysBatch.{says_sent_many, says_events};
 ghost use Rattle.model.specs.Feed.{says_fed};
+ghost use Rattle.connection.specs.Check.{Checked};
 ghost use Rattle.connection.specs.Calls.{Opens, Sends, EnqueuesFds, Enqueues, Discards, Polls, Checks, PollsReply, PollsEvent, Closes, Prepares, SendsMany, EnqueuesMany, PollsEvents, fresh_state as calls_fresh_state};
 
 use descriptors::Counts;
 use held::Window;
 use model::{
-    Closed, Connection, DiscardMode, Enqueued, Event, Events, Fed, Next, PollReply, Polled,
-    Prepared, ReplyFdKind, Sent, SentMany,
+    Closed, Connection, DiscardMode, Enqueued, Events, Fed, PollReply, Polled, ReplyFdKind, Sent,
+    SentMany,
 };
 use refusal::Refusal;
 use sequence::SequenceNumber;
 
+// Every call but `new` begins with this: refused by 9 where the state is not sound with its rooms.
+fn check(c: Connection, requests: &[u8], store: &[u8], slots: &[u32]) -> Result<(), Refusal>
+    ensures { Checked c (rooms requests.now store.now slots.now) result }
+{
+    if !model::is_sound(c, requests, store, slots) {
+        return Err(Refusal::BadRoom);
+    }
+    Ok(())
+}
+
 // A fresh connection in these rooms: its request room and its packet store have the lengths that
 // they are lent with from then on. Refused by 9 for a room out of range or other than 256 slots for
 // descriptors, then by 13.
-pub fn new(order: u8, requests: &[u8], store: &[u8], slots: &[u32]) -> Next
+pub fn new(order: u8, requests: &[u8], store: &[u8], slots: &[u32]) -> Result<Connection, Refusal>
     ensures { Opens order (rooms requests.now store.now slots.now) (says_next result) }
 {
     let k = requests::capacity(requests);
     let c = fresh(order, k, store.len());
     if slots.len() != descriptors::MOST_DESCRIPTORS {
-        return Next::Refused(Refusal::BadRoom);
+        return Err(Refusal::BadRoom);
     }
     if !in_range(k, store.len()) {
-        return Next::Refused(Refusal::BadRoom);
+        return Err(Refusal::BadRoom);
     }
     if !octets::is_legal(order) {
-        return Next::Refused(Refusal::BadOrder);
+        return Err(Refusal::BadOrder);
     }
-    Next::State(c)
+    Ok(c)
 }
 
 // A request is about to be written. Answers its number; refused by 9, 3 at the end of the numbers, 6
@@ -53,12 +67,10 @@ pub fn send_request(
     store: &[u8],
     slots: &[u32],
     kind: ReplyFdKind,
-) -> Sent
+) -> Result<Sent, Refusal>
     ensures { Sends c (rooms requests.old store.now slots.now) kind (says_sent result) (rooms requests.new store.now slots.now) }
 {
-    if !model::is_sound(c, requests, store, slots) {
-        return Sent::Refused(Refusal::BadRoom);
-    }
+    check(c, requests, store, slots)?;
     sending::send_request(c, requests, kind)
 }
 
@@ -71,12 +83,10 @@ pub fn send_requests(
     store: &[u8],
     slots: &[u32],
     kinds: &[u8],
-) -> SentMany
+) -> Result<SentMany, Refusal>
     ensures { SendsMany c (rooms requests.old store.now slots.now) kinds.now (says_sent_many result) (rooms requests.new store.now slots.now) }
 {
-    if !model::is_sound(c, requests, store, slots) {
-        return SentMany::Refused(Refusal::BadRoom);
-    }
+    check(c, requests, store, slots)?;
     batch::send_requests(c, requests, kinds)
 }
 
@@ -88,12 +98,10 @@ pub fn enqueue_fds(
     store: &[u8],
     slots: &mut [u32],
     list: &[u32],
-) -> Next
+) -> Result<Connection, Refusal>
     ensures { EnqueuesFds c (rooms requests.now store.now slots.old) list.now (says_next result) (rooms requests.now store.now slots.new) }
 {
-    if !model::is_sound(c, requests, store, slots) {
-        return Next::Refused(Refusal::BadRoom);
-    }
+    check(c, requests, store, slots)?;
     sending::enqueue_fds(c, slots, list)
 }
 
@@ -106,12 +114,10 @@ pub fn enqueue_packet(
     store: &mut [u8],
     slots: &mut [u32],
     packet: &[u8],
-) -> Enqueued
+) -> Result<Enqueued, Refusal>
     ensures { Enqueues c (rooms requests.now store.old slots.old) packet.now (says_enqueued result) (rooms requests.now store.new slots.new) }
 {
-    if !model::is_sound(c, requests, store, slots) {
-        return Enqueued::Refused(Refusal::BadRoom);
-    }
+    check(c, requests, store, slots)?;
     intake::enqueue_packet(c, requests, store, slots, packet)
 }
 
@@ -125,12 +131,10 @@ pub fn enqueue_packets(
     store: &mut [u8],
     slots: &mut [u32],
     bytes: &[u8],
-) -> Fed
+) -> Result<Fed, Refusal>
     ensures { EnqueuesMany c (rooms requests.now store.old slots.old) bytes.now (says_fed result) (rooms requests.now store.new slots.new) }
 {
-    if !model::is_sound(c, requests, store, slots) {
-        return Fed::Refused(Refusal::BadRoom);
-    }
+    check(c, requests, store, slots)?;
     batch::enqueue_packets(c, requests, store, slots, bytes)
 }
 
@@ -143,24 +147,13 @@ pub fn discard_reply(
     slots: &mut [u32],
     number: SequenceNumber,
     mode: DiscardMode,
-) -> Next
+) -> Result<Connection, Refusal>
     ensures { Discards c (rooms requests.old store.old slots.old) number.0 mode (says_next result) (rooms requests.new store.new slots.new) }
 {
-    if !model::is_sound(c, requests, store, slots) {
-        return Next::Refused(Refusal::BadRoom);
-    }
+    check(c, requests, store, slots)?;
     let found = held::count(store, c.window, number.0);
-    let next = discarding::discard_reply(
-        c,
-        requests,
-        store,
-        slots,
-        number.0,
-        mode,
-        found.own,
-        found.above,
-    );
-    Next::State(next)
+    let next = discarding::discard_reply(c, requests, store, slots, number.0, mode, found);
+    Ok(next)
 }
 
 // The oldest reply or error of a request, with its descriptors, which are the caller's from then on.
@@ -173,12 +166,10 @@ pub fn poll_for_reply_or_error(
     number: SequenceNumber,
     out: &mut [u8],
     fds: &mut [u32],
-) -> Polled
+) -> Result<Polled, Refusal>
     ensures { Polls c (rooms requests.now store.old slots.old) number.0 out.old fds.old (says_polled result) (rooms requests.now store.new slots.new) out.new fds.new }
 {
-    if !model::is_sound(c, requests, store, slots) {
-        return Polled::Refused(Refusal::BadRoom);
-    }
+    check(c, requests, store, slots)?;
     polling::poll_for_reply_or_error(c, store, slots, number.0, out, fds)
 }
 
@@ -191,12 +182,10 @@ pub fn poll_check_for_reply_or_error(
     slots: &mut [u32],
     number: SequenceNumber,
     out: &mut [u8],
-) -> PollReply
+) -> Result<PollReply, Refusal>
     ensures { Checks c (rooms requests.now store.old slots.old) number.0 out.old (says_poll_reply result) (rooms requests.now store.new slots.new) out.new }
 {
-    if !model::is_sound(c, requests, store, slots) {
-        return PollReply::Refused(Refusal::BadRoom);
-    }
+    check(c, requests, store, slots)?;
     polling::poll_check(c, store, slots, number.0, out)
 }
 
@@ -209,12 +198,10 @@ pub fn poll_for_reply(
     slots: &mut [u32],
     number: SequenceNumber,
     out: &mut [u8],
-) -> PollReply
+) -> Result<PollReply, Refusal>
     ensures { PollsReply c (rooms requests.now store.old slots.old) number.0 out.old (says_poll_reply result) (rooms requests.now store.new slots.new) out.new }
 {
-    if !model::is_sound(c, requests, store, slots) {
-        return PollReply::Refused(Refusal::BadRoom);
-    }
+    check(c, requests, store, slots)?;
     polling::poll_for_reply(c, store, slots, number.0, out)
 }
 
@@ -226,12 +213,10 @@ pub fn poll_for_event_with_sequence(
     store: &mut [u8],
     slots: &[u32],
     out: &mut [u8],
-) -> Event
-    ensures { PollsEvent c (rooms requests.now store.old slots.now) out.old (says_event result) (rooms requests.now store.new slots.now) out.new }
+) -> Result<Polled, Refusal>
+    ensures { PollsEvent c (rooms requests.now store.old slots.now) out.old (says_polled result) (rooms requests.now store.new slots.now) out.new }
 {
-    if !model::is_sound(c, requests, store, slots) {
-        return Event::Refused(Refusal::BadRoom);
-    }
+    check(c, requests, store, slots)?;
     polling::poll_for_event(c, store, out)
 }
 
@@ -246,12 +231,10 @@ pub fn poll_for_events(
     slots: &[u32],
     out: &mut [u8],
     marks: &mut [u64],
-) -> Events
+) -> Result<Events, Refusal>
     ensures { PollsEvents c (rooms requests.now store.old slots.now) out.old marks.old (says_events result) (rooms requests.now store.new slots.now) out.new marks.new }
 {
-    if !model::is_sound(c, requests, store, slots) {
-        return Events::Refused(Refusal::BadRoom);
-    }
+    check(c, requests, store, slots)?;
     batch::poll_for_events(c, store, out, marks)
 }
 
@@ -263,12 +246,10 @@ pub fn take_closed_fds(
     store: &[u8],
     slots: &mut [u32],
     out: &mut [u32],
-) -> Closed
+) -> Result<Closed, Refusal>
     ensures { Closes c (rooms requests.now store.now slots.old) out.old (says_closed result) (rooms requests.now store.now slots.new) out.new }
 {
-    if !model::is_sound(c, requests, store, slots) {
-        return Closed::Refused(Refusal::BadRoom);
-    }
+    check(c, requests, store, slots)?;
     sending::take_closed_fds(c, slots, out)
 }
 
@@ -279,22 +260,20 @@ pub fn prepare_check_for_reply_or_error(
     store: &[u8],
     slots: &[u32],
     number: SequenceNumber,
-) -> Prepared
+) -> Result<bool, Refusal>
     ensures { Prepares c (rooms requests.now store.now slots.now) number.0 (says_prepared result) }
 {
-    if !model::is_sound(c, requests, store, slots) {
-        return Prepared::Refused(Refusal::BadRoom);
-    }
-    Prepared::Answer(c.expected < number.0)
+    check(c, requests, store, slots)?;
+    Ok(c.expected < number.0)
 }
 
 fn fresh(order: u8, capacity: usize, room: usize) -> Connection
     ensures { result ≡ calls_fresh_state order capacity room }
 {
     Connection {
-        order: order,
-        capacity: capacity,
-        room: room,
+        order,
+        capacity,
+        room,
         written: 0,
         expected: 0,
         read: 0,

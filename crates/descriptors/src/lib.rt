@@ -7,15 +7,14 @@
 // the three parts is decided, and is no state. Which reply holds which is the caller's to know.
 #![tactic(auto)]
 
-mod moves;
-
 ghost use Rattle.std.specs.Prelude.{◌≡◌, ◌+◌, ◌≤◌, length};
 ghost use Rattle.descriptors.specs.Room.{most_descriptors, total, room, Sound, sound, enqueue, hold_counts, close_waiting, close_held, hand_out, take_closed, closing, held_run, Gives};
 
 // How many slots there are.
 pub const MOST_DESCRIPTORS: usize = 256;
 
-// How many descriptors are to be closed, held and waiting.
+// How many descriptors are to be closed, held and waiting. The slots stay a parameter of their own: C
+// lends them at each call, and the counts are kept by value between calls.
 #[derive(Clone, Copy)]
 pub struct Counts {
     pub closed: usize,
@@ -46,12 +45,10 @@ pub fn enqueue(slots: &mut [u32], counts: Counts, list: &[u32]) -> Counts
     ensures { room slots.new result ≡ enqueue list.now (room slots.old counts) }
 {
     let end = counts.closed + counts.held + counts.waiting;
-    moves::copy(slots, end, list, 0, list.len());
-    let waiting = counts.waiting + list.len();
+    slots[end..end + list.len()].copy_from_slice(list);
     Counts {
-        closed: counts.closed,
-        held: counts.held,
-        waiting: waiting,
+        waiting: counts.waiting + list.len(),
+        ..counts
     }
 }
 
@@ -60,12 +57,10 @@ pub fn hold(counts: Counts, n: usize) -> Counts
     requires { (total counts ≤ most_descriptors) × (n ≤ counts.waiting) }
     ensures { result ≡ hold_counts n counts }
 {
-    let held = counts.held + n;
-    let waiting = counts.waiting - n;
     Counts {
-        closed: counts.closed,
-        held: held,
-        waiting: waiting,
+        held: counts.held + n,
+        waiting: counts.waiting - n,
+        ..counts
     }
 }
 
@@ -76,13 +71,11 @@ pub fn close_waiting(slots: &mut [u32], counts: Counts, n: usize) -> Counts
 {
     let start = counts.closed;
     let mid = start + counts.held;
-    moves::rotate(slots, start, mid, mid + n);
-    let closed = start + n;
-    let waiting = counts.waiting - n;
+    slots[start..mid + n].rotate_left(counts.held);
     Counts {
-        closed: closed,
-        held: counts.held,
-        waiting: waiting,
+        closed: start + n,
+        waiting: counts.waiting - n,
+        ..counts
     }
 }
 
@@ -93,13 +86,11 @@ pub fn close_held(slots: &mut [u32], counts: Counts, at: usize, n: usize) -> Cou
 {
     let start = counts.closed;
     let run = start + at;
-    moves::rotate(slots, start, run, run + n);
-    let closed = start + n;
-    let held = counts.held - n;
+    slots[start..run + n].rotate_left(at);
     Counts {
-        closed: closed,
-        held: held,
-        waiting: counts.waiting,
+        closed: start + n,
+        held: counts.held - n,
+        ..counts
     }
 }
 
@@ -111,13 +102,11 @@ pub fn hand_out(slots: &mut [u32], counts: Counts, at: usize, n: usize, out: &mu
     let from = counts.closed + at;
     let next = from + n;
     let end = counts.closed + counts.held + counts.waiting;
-    moves::copy(out, 0, slots, from, n);
-    moves::slide_down(slots, next, from, end - next);
-    let held = counts.held - n;
+    out[..n].copy_from_slice(&slots[from..next]);
+    slots.copy_within(next..end, from);
     Counts {
-        closed: counts.closed,
-        held: held,
-        waiting: counts.waiting,
+        held: counts.held - n,
+        ..counts
     }
 }
 
@@ -127,11 +116,10 @@ pub fn take_closed(slots: &mut [u32], counts: Counts, out: &mut [u32]) -> Counts
     ensures { Gives (take_closed (room slots.old counts)) (closing (room slots.old counts)) out.old (room slots.new result) out.new }
 {
     let n = counts.closed;
-    moves::copy(out, 0, slots, 0, n);
-    moves::slide_down(slots, n, 0, counts.held + counts.waiting);
+    out[..n].copy_from_slice(&slots[..n]);
+    slots.copy_within(n..n + counts.held + counts.waiting, 0);
     Counts {
         closed: 0,
-        held: counts.held,
-        waiting: counts.waiting,
+        ..counts
     }
 }

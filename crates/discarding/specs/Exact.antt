@@ -1,5 +1,5 @@
 -- `discard_reply`, exactly: the mode set, the packets of the number gone, and their descriptors closed. Assumes nothing.
-use Rattle.std.specs.Prelude.{◌≡◌, List, ℕ, zero, suc, ◌+◌, ◌%◌, ◌≤◌, leb, length, take, drop, get_or}
+use Rattle.std.specs.Prelude.{◌≡◌, List, ℕ, zero, suc, ◌+◌, ◌%◌, ◌≤◌, leb, length, take, drop, get_or, Option, Some, None}
 use Rattle.octets.specs.Logic.{choose, both}
 use Rattle.requests.specs.Room.{put_mode}
 use Rattle.held.specs.Head as Head
@@ -9,7 +9,6 @@ use Rattle.held.specs.Find.{found_reply}
 use Rattle.held.specs.Moves.{Left, left, removed, demoted}
 use Rattle.held.specs.declared.Window.{Window}
 use Rattle.held.specs.declared.Spot.{Spot}
-use Rattle.held.specs.declared.Found.{Found}
 use Rattle.held.specs.Tally.{own, lower, higher}
 use Rattle.descriptors.specs.Room as Slots
 use Rattle.packet.specs.Packet.{class_of, is_error}
@@ -67,9 +66,9 @@ cleared_at DiscardMode.DiscardReply l p =
     choose (is_error (class_of (get_or l.store (p.at + header_size) 0))) (left l.window (demoted l.window l.store p)) (removed l.window l.store p)
 cleared_at DiscardMode.DiscardReplyAndError l p = removed l.window l.store p
 
-abbrev pub cleared_from : DiscardMode → Left → Found → Left
-cleared_from m l Found.Nothing = l
-cleared_from m l (Found.At p) = cleared_at m l p
+abbrev pub cleared_from : DiscardMode → Left → Option Spot → Left
+cleared_from m l None = l
+cleared_from m l (Some p) = cleared_at m l p
 
 -- the oldest of the number goes, j times
 unfoldable pub cleared : ℕ → DiscardMode → ℕ → Left → Left
@@ -104,9 +103,9 @@ pub record Sweepable (n : ℕ) (w : Window) (s : List ℕ) : Type 0 where
   pub few : Store.fds_in (own n (Store.replies w s)) ≤ Slots.most_descriptors
 
 -- how many descriptors a record that was found has
-abbrev pub fds_found : Found → ℕ
-fds_found Found.Nothing = 0
-fds_found (Found.At p) = p.fds
+abbrev pub fds_found : Option Spot → ℕ
+fds_found None = 0
+fds_found (Some p) = p.fds
 
 -- what one turn and what count turns leave, and how many descriptors their packets had
 pub record SweepsOne (n : ℕ) (m : DiscardMode) (w : Window) (s : List ℕ) (w' : Window) (fds : ℕ) (s' : List ℕ) : Type 0 where

@@ -1,5 +1,5 @@
 -- What discarding does to the rows of records and to the descriptors. Assumes nothing.
-use Rattle.std.specs.Prelude.{◌≡◌, Bool, true, false, ltb, length, get_or}
+use Rattle.std.specs.Prelude.{◌≡◌, Bool, true, false, ltb, length, get_or, Option, Some, None}
 use Rattle.std.proofs.Math.Path.{refl, sym, ap}
 use Rattle.std.proofs.Common.{◌∙◌, drop_at, drop-drop, length-take-le}
 use mathlib.Core.List.{List, [], ◌∷◌, ◌++◌, append_assoc, append-nil}
@@ -20,7 +20,6 @@ use Rattle.held.specs.Moves.{Left, left, removed, demoted}
 use Rattle.held.specs.Lies.{Other, FirstReply, FindsReply}
 use Rattle.held.specs.Theorems as Held
 use Rattle.held.specs.declared.Spot.{Spot}
-use Rattle.held.specs.declared.Found.{Found}
 use Rattle.held.specs.Tally.{own, lower, higher}
 use Rattle.descriptors.specs.Room as Slots
 use Rattle.descriptors.specs.Theorems as Fds
@@ -220,9 +219,9 @@ module _ (last n : ℕ) (m : DiscardMode) where
 
   further : (j : ℕ) (l : Left) (S : Store.Sound last l.window l.store) → length (own n (Store.replies l.window l.store)) ≡ suc j
       → ((l' : Left) → Store.Sound last l'.window l'.store → length (own n (Store.replies l'.window l'.store)) ≡ j → Cleared last n m l' (cleared j m n l'))
-      → (x : Found) → FindsReply n l.window l.store x → Cleared last n m l (cleared j m n (cleared_from m l x))
-  further j l S e IH Found.Nothing F = absurd (omega (arith, ap length (own_none n (Store.replies l.window l.store) F)))
-  further j l S e IH (Found.At p) F =
+      → (x : Option Spot) → FindsReply n l.window l.store x → Cleared last n m l (cleared j m n (cleared_from m l x))
+  further j l S e IH None F = absurd (omega (arith, ap length (own_none n (Store.replies l.window l.store) F)))
+  further j l S e IH (Some p) F =
       let R = Store.replies l.window l.store in
       let l' : Left = cleared_at m l p in
       let R' = Store.replies l'.window l'.store in

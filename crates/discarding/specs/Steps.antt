@@ -1,5 +1,5 @@
 -- How discarding comes out, part by part. Assumes nothing.
-use Rattle.std.specs.Prelude.{◌≡◌, Bool, true, false, List, leb, length, take, drop, get_or}
+use Rattle.std.specs.Prelude.{◌≡◌, Bool, true, false, List, leb, length, take, drop, get_or, Option, Some, None}
 use Rattle.std.proofs.Math.Path.{refl, sym, ap}
 use Rattle.std.proofs.Common.{◌∙◌, subst, add-zero, mod-lt, take-append-drop, take-add, le-leb}
 use Prim.Native.Nat.{ℕ, zero, suc, ◌+◌, ◌-◌, ◌≤◌, ◌<◌, ◌%◌}
@@ -21,7 +21,6 @@ use Rattle.held.specs.Lies.{FirstReply, FindsReply}
 use Rattle.held.specs.Theorems as Held
 use Rattle.held.specs.declared.Window.{Window}
 use Rattle.held.specs.declared.Spot.{Spot}
-use Rattle.held.specs.declared.Found.{Found}
 use Rattle.held.specs.Tally.{own}
 use Rattle.descriptors.specs.Room as Slots
 use Rattle.packet.specs.Packet.{PacketClass, class_of, is_error}
@@ -69,7 +68,7 @@ module _ (w : Window) (s : List ℕ) (p : Spot) (m : DiscardMode) where
 
 -- ---- one turn of a sweep
 
-module _ (n : ℕ) (w : Window) (s : List ℕ) (W : Sweepable n w s) (p : Spot) (e : Found.At p ≡ found_reply n w s) where
+module _ (n : ℕ) (w : Window) (s : List ℕ) (W : Sweepable n w s) (p : Spot) (e : Some p ≡ found_reply n w s) where
   found_first : FirstReply n w s p
   found_first = subst (FindsReply n w s) (sym e) (Held.find_reply_law n W.last w s W.sound)
 
@@ -81,7 +80,7 @@ module _ (n : ℕ) (w : Window) (s : List ℕ) (W : Sweepable n w s) (p : Spot) 
   pub one_found : (m : DiscardMode) (w' : Window) (s' : List ℕ) → Leaves (cleared_at m (left w s) p) w' s' → SweepsOne n m w s w' p.fds s'
   one_found m w' s' L = record { leaves = (λ k. left (L.window k) (L.store k)) ∙ ap (cleared_from m (left w s)) e; counts = ap fds_found e }
 
-pub one_none : (n : ℕ) (m : DiscardMode) (w : Window) (s : List ℕ) → Found.Nothing ≡ found_reply n w s → SweepsOne n m w s w 0 s
+pub one_none : (n : ℕ) (m : DiscardMode) (w : Window) (s : List ℕ) → None ≡ found_reply n w s → SweepsOne n m w s w 0 s
 one_none n m w s e = record { leaves = ap (cleared_from m (left w s)) e; counts = ap fds_found e }
 
 -- what a turn does to the packets of the number
@@ -91,12 +90,12 @@ record Turn (last n : ℕ) (l l' : Left) (fds : ℕ) : Type 0 where
   first_fds : fds ≡ fds_in (take 1 (own n (Store.replies l.window l.store)))
   long : length l'.store ≡ length l.store
 
-turns : (last n : ℕ) (m : DiscardMode) (l : Left) → Store.Sound last l.window l.store → (x : Found) → FindsReply n l.window l.store x → Turn last n l (cleared_from m l x) (fds_found x)
+turns : (last n : ℕ) (m : DiscardMode) (l : Left) → Store.Sound last l.window l.store → (x : Option Spot) → FindsReply n l.window l.store x → Turn last n l (cleared_from m l x) (fds_found x)
 unfolding fds_in
-turns last n m l S Found.Nothing F =
+turns last n m l S None F =
     let z = own_none n (Store.replies l.window l.store) F in
     record { sound = S; next_own = z ∙ sym (ap (drop 1) z); first_fds = sym (ap (λ a. fds_in (take 1 a)) z); long = refl }
-turns last n m l S (Found.At p) F =
+turns last n m l S (Some p) F =
     let O = one_step last n l S p F m in
     let z = ap (own n) F.split ∙ own_found n F.it F.after F.is F.before F.none in
     record {

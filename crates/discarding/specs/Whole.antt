@@ -1,5 +1,5 @@
 -- That discarding, put together, is exact. Assumes nothing.
-use Rattle.std.specs.Prelude.{◌≡◌, length, take, drop}
+use Rattle.std.specs.Prelude.{◌≡◌, length, take, drop, Some, None}
 use Rattle.std.proofs.Math.Path.{refl, sym, ap, subst}
 use Rattle.std.proofs.Common.{◌∙◌, arith, take-append-drop, length-drop, take_all}
 use mathlib.Core.List.{List, [], ◌∷◌, ◌++◌}
@@ -15,7 +15,6 @@ use Rattle.held.specs.Lies.{Other, FirstReply, FindsReply}
 use Rattle.held.specs.Theorems as Held
 use Rattle.held.specs.declared.Window.{Window}
 use Rattle.held.specs.declared.Spot.{Spot}
-use Rattle.held.specs.declared.Found.TheVariants as Found
 use Rattle.held.specs.Tally.{own, lower, higher}
 use Rattle.descriptors.specs.Room as Slots
 use Rattle.descriptors.specs.Theorems as Fds
@@ -74,7 +73,7 @@ pub record ModeSet : Type 0 where
 -- a reply of the number is found, and how many there are is known;
 pub record Met (x : ModeSet) : Type 0 where
   pub p : Spot
-  pub found : Found.At p ≡ found_reply x.n x.c.window x.s
+  pub found : Some p ≡ found_reply x.n x.c.window x.s
   pub r : ℕ
   pub k : ℕ
   pub counted : Counted x.c x.s x.n r k
@@ -108,7 +107,7 @@ module _ (x : ModeSet) where
   all_fds = sym (ap fds_in (rising_split n 0 rs R.held.rising) ∙ fds_in_append (lower n rs) (own n rs ++ higher n rs) ∙ ap (λ (x : ℕ). fds_below n rs + x) (fds_in_append (own n rs) (higher n rs))) ∙ R.descriptors
 
   -- Where there is none of the number, only the mode is set.
-  pub discard_none : Found.Nothing ≡ found_reply n c.window s → DiscardStep c n m q s f c q' s f
+  pub discard_none : None ≡ found_reply n c.window s → DiscardStep c n m q s f c q' s f
   unfolding discard_exact closed_round cleared fds_in
   discard_none e =
       let F : All (Other n) rs = subst (FindsReply n c.window s) (sym e) (Held.find_reply_law n c.read c.window s R.held) in

@@ -11,16 +11,15 @@ ghost use Rattle.std.specs.Prelude.{◌≡◌, ◌+◌, ◌<◌, ◌≤◌, leng
 ghost use Rattle.requests.specs.Room.{capacity};
 ghost use Rattle.held.specs.Head.{header_size};
 ghost use Rattle.held.specs.Moves.{left, Within, Leaves};
-ghost use Rattle.model.specs.Model.{mode_of};
 ghost use Rattle.model.specs.Sound.{Ready};
 ghost use Rattle.discarding.specs.Exact.{mode_set, turn_of, cleared_at, Counted, Sweepable, Sweeps, SweepsOne, DiscardStep};
 
-use held::{Found, Spot, Window};
+use held::{Spot, Tally, Window};
 use model::{Connection, DiscardMode, moved};
 use requests::Mode;
 
-// The answers to a request are discarded: those to come, and those held, of which there are so
-// many, with so many replies of higher numbers. Never refused.
+// The answers to a request are discarded: those to come, and those held, which were counted. Never
+// refused.
 pub fn discard_reply(
     c: Connection,
     requests: &mut [u8],
@@ -28,27 +27,24 @@ pub fn discard_reply(
     slots: &mut [u32],
     number: u64,
     mode: DiscardMode,
-    own: usize,
-    above: usize,
+    found: Tally,
 ) -> Connection
-    requires { Ready c store.old slots.old × (0 < capacity requests.old) × Counted c store.old number own above }
+    requires { Ready c store.old slots.old × (0 < capacity requests.old) × Counted c store.old number found.own found.above }
     ensures { DiscardStep c number mode requests.old store.old slots.old result requests.new store.new slots.new }
 {
     set_mode(c, requests, number, mode);
     let window = c.window;
     let counts = c.counts;
-    match held::find_reply(store, window, number) {
-        Found::At(place) => {
-            let turn = turn(mode, own, above);
-            let before = sweep(store, window, number, mode, turn);
-            let behind = sweep(store, before.window, number, mode, own - turn);
-            let at = place.before;
-            let some = descriptors::close_held(slots, counts, at + before.fds, behind.fds);
-            let all = descriptors::close_held(slots, some, at, before.fds);
-            moved(c, behind.window, all)
-        }
-        Found::Nothing => c,
-    }
+    let Some(place) = held::find_reply(store, window, number) else {
+        return c;
+    };
+    let turn = turn(mode, found.own, found.above);
+    let before = sweep(store, window, number, mode, turn);
+    let behind = sweep(store, before.window, number, mode, found.own - turn);
+    let at = place.before;
+    let some = descriptors::close_held(slots, counts, at + before.fds, behind.fds);
+    let all = descriptors::close_held(slots, some, at, before.fds);
+    moved(c, behind.window, all)
 }
 
 // The mode of an outstanding request is set.
@@ -62,16 +58,7 @@ fn set_mode(c: Connection, requests: &mut [u8], number: u64, mode: DiscardMode)
     if c.written < number {
         return;
     }
-    requests::put_mode(requests, number, mode_of(mode));
-}
-
-fn mode_of(mode: DiscardMode) -> Mode
-    ensures { result ≡ mode_of mode }
-{
-    match mode {
-        DiscardMode::DiscardReply => Mode::DiscardReply,
-        DiscardMode::DiscardReplyAndError => Mode::DiscardReplyAndError,
-    }
+    requests::put_mode(requests, number, Mode::from(mode));
 }
 
 // Whose descriptors are closed first.
@@ -99,17 +86,12 @@ fn sweep(store: &mut [u8], window: Window, number: u64, mode: DiscardMode, count
 {
     let mut rest = window;
     let mut fds: usize = 0;
-    let mut i: usize = 0;
-    while i < count {
+    for _i in 0..count {
         let one = sweep_one(store, rest, number, mode);
         rest = one.window;
         fds += one.fds;
-        i += 1;
     }
-    Swept {
-        window: rest,
-        fds: fds,
-    }
+    Swept { window: rest, fds }
 }
 
 // The oldest packet of a number goes, if there is one.
@@ -117,19 +99,13 @@ fn sweep_one(store: &mut [u8], window: Window, number: u64, mode: DiscardMode) -
     requires { Sweepable number window store.old }
     ensures { SweepsOne number mode window store.old result.window result.fds store.new }
 {
-    match held::find_reply(store, window, number) {
-        Found::At(place) => {
-            let n = place.fds as usize;
-            let next = clear(store, window, place, mode);
-            Swept {
-                window: next,
-                fds: n,
-            }
-        }
-        Found::Nothing => Swept {
-            window: window,
-            fds: 0,
-        },
+    let Some(place) = held::find_reply(store, window, number) else {
+        return Swept { window, fds: 0 };
+    };
+    let next = clear(store, window, place, mode);
+    Swept {
+        window: next,
+        fds: place.fds as usize,
     }
 }
 

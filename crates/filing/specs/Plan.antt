@@ -1,8 +1,7 @@
 -- What is decided about a packet: 01, Numbering and filing, over a state and its request room. Assumes nothing.
-use Rattle.std.specs.Prelude.{Bool, List, ℕ, ◌+◌, ◌≤◌, max, leb, ltb, length}
+use Rattle.std.specs.Prelude.{Bool, List, ℕ, ◌+◌, ◌≤◌, max, leb, ltb, length, Option, Some, None, Result}
 use Rattle.octets.specs.Logic.{choose, both}
-use Rattle.refusal.specs.Answer.{Answer, gives, refuses, refuse, pass}
-use Rattle.refusal.specs.Numbers.{number_of}
+use Rattle.refusal.specs.Answer.{Answer, gives, refuse, pass, says}
 use Rattle.requests.specs.Room.{request_at}
 use Rattle.packet.specs.Packet.{least_packet, most_packet, code_of, PacketClass, packet_class, unnumbered, number_after}
 use Rattle.packet.specs.Class.{says_class}
@@ -12,21 +11,21 @@ use Rattle.model.specs.Model.{nobody, somebody, place_of, claimed, is_held, Task
 use Rattle.model.specs.Model as Model
 use Rattle.model.specs.declared.Connection.{Connection}
 use Rattle.model.specs.declared.Place.{Place}
-use Rattle.filing.specs.declared.Asked.{Asked}
 use Rattle.filing.specs.declared.Plan.{Plan}
+use Rattle.refusal.specs.declared.Refusal.{Refusal}
+use Rattle.requests.specs.declared.Request.{Request}
 
--- ---- what the enums say
+-- ---- what the option and the result say
 
-abbrev pub says_asked : Asked → Model.Asked
-says_asked Asked.Nobody = nobody
-says_asked (Asked.Somebody r) = somebody r
+abbrev pub says_asked : Option Request → Model.Asked
+says_asked None = nobody
+says_asked (Some r) = somebody r
 
 abbrev pub task : Place → ℕ → ℕ → PacketClass → Task
 task place n k class = record { place = place; number = n; claimed = k; class = class }
 
-abbrev pub says_plan : Plan → Answer Task
-says_plan (Plan.File place n k class) = gives (task place n.0 k (says_class class))
-says_plan (Plan.Stop r) = refuses (number_of r)
+abbrev pub says_plan : Result Plan Refusal → Answer Task
+says_plan = says (λ x. task x.place x.number.0 x.fds (says_class x.class))
 
 -- ---- of the state, what is asked for
 

@@ -1,14 +1,13 @@
 -- How a plan comes out, each way, and what a plan to file a packet says. Assumes nothing.
 use Rattle.std.proofs.Math.Path.{◌≡◌, refl, sym, ap}
 use Rattle.std.proofs.Common.{◌∙◌, arith}
-use Rattle.std.specs.Prelude.{Bool, List, ℕ, ◌+◌, ◌≤◌, ◌<◌, ltb, length, get_or}
+use Rattle.std.specs.Prelude.{Bool, List, ℕ, ◌+◌, ◌≤◌, ◌<◌, ltb, length, get_or, Option, Some, None, Result, Ok, Err}
 use Rattle.std.proofs.Math.Bool.{true, false}
 use borrow.Author.Tests.{ltb-false, lt-ltb, le-ltb}
 use Rattle.octets.specs.Logic.{choose, both}
 use Rattle.refusal.specs.Answer.{Answer, gives, refuses, refuse, pass, gives_past, gives_rest, pass_given}
 use Rattle.refusal.specs.Numbers.{number_of}
 use Rattle.sequence.specs.Numbering.{says_full}
-use Rattle.sequence.specs.declared.Full.{Full}
 use Rattle.sequence.specs.declared.SequenceNumber.{SequenceNumber}
 use Rattle.refusal.specs.declared.Refusal.{Refusal}
 use Rattle.requests.specs.declared.Request.{Request}
@@ -19,33 +18,32 @@ use Rattle.model.specs.Model.{place_of, claimed, is_held, Task, ahead}
 use Rattle.model.specs.Model as Model
 use Rattle.model.specs.declared.Connection.{Connection}
 use Rattle.model.specs.declared.Place.{Place}
-use Rattle.filing.specs.declared.Asked.{Asked}
 use Rattle.filing.specs.Plan.{says_asked, task, packet_number_in, asked_in, over_room, plan_by, plan_of}
 
 -- ---- what a packet claims
 
-module _ (p : List ℕ) (a : Asked) where
-  pub claims_nobody : a ≡ Asked.Nobody → 0 ≡ claimed p (says_asked a)
+module _ (p : List ℕ) (a : Option Request) where
+  pub claims_nobody : a ≡ None → 0 ≡ claimed p (says_asked a)
   unfolding claimed choose both
-  claims_nobody e = sym (ap (λ (x : Asked). claimed p (says_asked x)) e ∙ go (is_reply (packet_class p)))
+  claims_nobody e = sym (ap (λ (x : Option Request). claimed p (says_asked x)) e ∙ go (is_reply (packet_class p)))
     where
       go : (b : Bool) → ◌≡◌ {A = ℕ} (choose (both b false) (get_or p 1 0) 0) 0
       go true = refl
       go false = refl
 
-  pub claims_none : (r : Request) → a ≡ Asked.Somebody r → r.descriptors ≡ false → 0 ≡ claimed p (says_asked a)
+  pub claims_none : (r : Request) → a ≡ Some r → r.descriptors ≡ false → 0 ≡ claimed p (says_asked a)
   unfolding claimed choose both
   claims_none r e f =
-      sym (ap (λ (x : Asked). claimed p (says_asked x)) e ∙ ap (λ (b : Bool). choose (both (is_reply (packet_class p)) b) (get_or p 1 0) 0) f ∙ go (is_reply (packet_class p)))
+      sym (ap (λ (x : Option Request). claimed p (says_asked x)) e ∙ ap (λ (b : Bool). choose (both (is_reply (packet_class p)) b) (get_or p 1 0) 0) f ∙ go (is_reply (packet_class p)))
     where
       go : (b : Bool) → ◌≡◌ {A = ℕ} (choose (both b false) (get_or p 1 0) 0) 0
       go true = refl
       go false = refl
 
-  pub claims_some : (r : Request) → a ≡ Asked.Somebody r → is_reply (packet_class p) ≡ true → r.descriptors ≡ true → get_or p 1 0 ≡ claimed p (says_asked a)
+  pub claims_some : (r : Request) → a ≡ Some r → is_reply (packet_class p) ≡ true → r.descriptors ≡ true → get_or p 1 0 ≡ claimed p (says_asked a)
   unfolding claimed choose both
   claims_some r e g f =
-      sym (ap (λ (x : Asked). claimed p (says_asked x)) e
+      sym (ap (λ (x : Option Request). claimed p (says_asked x)) e
       ∙ (λ i. choose (both (g i) (f i)) (get_or p 1 0) 0))
 
 -- ---- a packet that has its number
@@ -86,18 +84,18 @@ module _ (c : Connection) (q p : List ℕ) where
   unfolding plan_of refuse
   plan_long h f = simp (le-ltb (length p) least_packet h, lt-ltb most_packet (length p) f)
 
-  module _ (h : least_packet ≤ length p) (f : length p ≤ most_packet) (x : Full) (e : says_full x ≡ packet_number_in c p) where
+  module _ (h : least_packet ≤ length p) (f : length p ≤ most_packet) (x : Result SequenceNumber Refusal) (e : says_full x ≡ packet_number_in c p) where
     plan_past : pass (says_full x) (λ n. plan_by c p n (asked_in c q n)) ≡ plan_of c q p
     unfolding plan_of refuse
     plan_past = ap (λ (z : Answer ℕ). pass z (λ n. plan_by c p n (asked_in c q n))) e ∙ simp (le-ltb (length p) least_packet h, le-ltb most_packet (length p) f)
 
-    pub plan_numbered : (n : SequenceNumber) (y : Answer Task) → x ≡ Full.Number n → y ≡ plan_by c p n.0 (asked_in c q n.0) → y ≡ plan_of c q p
+    pub plan_numbered : (n : SequenceNumber) (y : Answer Task) → x ≡ Ok n → y ≡ plan_by c p n.0 (asked_in c q n.0) → y ≡ plan_of c q p
     unfolding pass
-    plan_numbered n y g z = z ∙ ap (λ (t : Full). pass (says_full t) (λ m. plan_by c p m (asked_in c q m))) (sym g) ∙ plan_past
+    plan_numbered n y g z = z ∙ ap (λ (t : Result SequenceNumber Refusal). pass (says_full t) (λ m. plan_by c p m (asked_in c q m))) (sym g) ∙ plan_past
 
-    pub plan_end : (r : Refusal) → x ≡ Full.Refused r → refuses (number_of r) ≡ plan_of c q p
+    pub plan_end : (r : Refusal) → x ≡ Err r → refuses (number_of r) ≡ plan_of c q p
     unfolding pass
-    plan_end r g = ap (λ (t : Full). pass (says_full t) (λ m. plan_by c p m (asked_in c q m))) (sym g) ∙ plan_past
+    plan_end r g = ap (λ (t : Result SequenceNumber Refusal). pass (says_full t) (λ m. plan_by c p m (asked_in c q m))) (sym g) ∙ plan_past
 
 -- ---- what a plan to file says
 

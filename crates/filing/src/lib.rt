@@ -19,21 +19,16 @@ use model::{Connection, Place};
 use packet::Class;
 use refusal::Refusal;
 use requests::{Mode, Request};
-use sequence::{Full, SequenceNumber};
+use sequence::SequenceNumber;
 
-// The request that a packet belongs to, if it is still outstanding.
+// What is to be done with a packet: to file it there, under that number, with so many descriptors
+// and as one of that class.
 #[derive(Clone, Copy)]
-pub enum Asked {
-    Nobody,
-    Somebody(Request),
-}
-
-// What is to be done with a packet: nothing, or to file it there, under that number, with so many
-// descriptors and as one of that class.
-#[derive(Clone, Copy)]
-pub enum Plan {
-    Stop(Refusal),
-    File(Place, SequenceNumber, u8, Class),
+pub struct Plan {
+    pub place: Place,
+    pub number: SequenceNumber,
+    pub fds: u8,
+    pub class: Class,
 }
 
 // The next reply expected after a packet of the code.
@@ -64,14 +59,14 @@ fn first_after(first: u64, written: u64, number: u64) -> u64
 }
 
 // The request of a number that is not above the last written, if it is still outstanding.
-fn request_of(c: Connection, requests: &[u8], number: u64) -> Asked
+fn request_of(c: Connection, requests: &[u8], number: u64) -> Option<Request>
     requires { 0 < capacity requests.now }
     ensures { says_asked result ≡ asked_in c requests.now number }
 {
     if number < c.first {
-        return Asked::Nobody;
+        return None;
     }
-    Asked::Somebody(requests::get(requests, number))
+    Some(requests::get(requests, number))
 }
 
 fn error_under(mode: Mode) -> Place
@@ -84,15 +79,12 @@ fn error_under(mode: Mode) -> Place
     }
 }
 
-fn error_place(asked: Asked) -> Place
+fn error_place(asked: Option<Request>) -> Place
     ensures { result ≡ error_place (says_asked asked) }
 {
     match asked {
-        Asked::Nobody => Place::Events,
-        Asked::Somebody(request) => {
-            let mode = request.mode;
-            error_under(mode)
-        }
+        None => Place::Events,
+        Some(request) => error_under(request.mode),
     }
 }
 
@@ -101,39 +93,33 @@ fn reply_under(mode: Mode) -> Place
 {
     match mode {
         Mode::Keep => Place::Replies,
-        Mode::DiscardReply => Place::Dropped,
-        Mode::DiscardReplyAndError => Place::Dropped,
+        _ => Place::Dropped,
     }
 }
 
-fn reply_place(asked: Asked) -> Place
+fn reply_place(asked: Option<Request>) -> Place
     ensures { result ≡ reply_place (says_asked asked) }
 {
     match asked {
-        Asked::Nobody => Place::Replies,
-        Asked::Somebody(request) => {
-            let mode = request.mode;
-            reply_under(mode)
-        }
+        None => Place::Replies,
+        Some(request) => reply_under(request.mode),
     }
 }
 
 // Where a packet of the class goes.
-fn place_of(class: Class, asked: Asked) -> Place
+#[tactic(auto, unfolding(model::specs::Model::place_of))]
+fn place_of(class: Class, asked: Option<Request>) -> Place
     ensures { result ≡ place_of (says_class class) (says_asked asked) }
 {
     match class {
         Class::Error => error_place(asked),
         Class::Reply => reply_place(asked),
-        Class::Event => Place::Events,
-        Class::SentEvent => Place::Events,
-        Class::Generic => Place::Events,
-        Class::SentGeneric => Place::Events,
+        Class::Event | Class::SentEvent | Class::Generic | Class::SentGeneric => Place::Events,
     }
 }
 
 // How many descriptors a packet of the class claims.
-fn claimed(class: Class, packet: &[u8], asked: Asked) -> u8
+fn claimed(class: Class, packet: &[u8], asked: Option<Request>) -> u8
     requires { (least_packet ≤ length packet.now) × (says_class class ≡ packet_class packet.now) }
     ensures { result ≡ claimed packet.now (says_asked asked) }
 {
@@ -141,19 +127,15 @@ fn claimed(class: Class, packet: &[u8], asked: Asked) -> u8
         return 0;
     }
     match asked {
-        Asked::Nobody => 0,
-        Asked::Somebody(request) => { if request.descriptors { packet[1] } else { 0 } }
+        None => 0,
+        Some(request) => { if request.descriptors { packet[1] } else { 0 } }
     }
 }
 
 fn is_held(place: Place) -> bool
     ensures { result ≡ is_held place }
 {
-    match place {
-        Place::Replies => true,
-        Place::Events => true,
-        Place::Dropped => false,
-    }
+    !matches!(place, Place::Dropped)
 }
 
 // Whether a packet of n bytes that goes there finds no room.
@@ -179,43 +161,51 @@ pub fn is_ahead(code: u8, number: u64, written: u64) -> bool
 }
 
 // What is to be done with a packet that has its number.
-fn plan_by(c: Connection, requests: &[u8], packet: &[u8], number: SequenceNumber) -> Plan
+fn plan_by(
+    c: Connection,
+    requests: &[u8],
+    packet: &[u8],
+    number: SequenceNumber,
+) -> Result<Plan, Refusal>
     requires { (least_packet ≤ length packet.now) × (0 < capacity requests.now) × (length packet.now ≤ most_packet) × Fitting c }
     ensures { says_plan result ≡ plan_by c packet.now number.0 (asked_in c requests.now number.0) }
 {
     if is_ahead(packet[0], number.0, c.written) {
-        return Plan::Stop(Refusal::Ahead);
+        return Err(Refusal::Ahead);
     }
     let request = request_of(c, requests, number.0);
     let class = packet::class_of(packet[0]);
     let place = place_of(class, request);
     let claim = claimed(class, packet, request);
     if c.counts.waiting < claim as usize {
-        return Plan::Stop(Refusal::FewDescriptors);
+        return Err(Refusal::FewDescriptors);
     }
     if over_room(c, place, packet.len()) {
-        return Plan::Stop(Refusal::NoRoom);
+        return Err(Refusal::NoRoom);
     }
-    Plan::File(place, number, claim, class)
+    Ok(Plan {
+        place,
+        number,
+        fds: claim,
+        class,
+    })
 }
 
 // What is to be done with a packet: by 1 and 2 for its length, by 3 at the end of the numbers, by 20
 // where it answers what was not asked, by 4 where it claims more descriptors than wait, and by 5
 // where it is to be held and finds no room, nothing; otherwise it is filed.
-pub fn plan_of(c: Connection, requests: &[u8], packet: &[u8]) -> Plan
+pub fn plan_of(c: Connection, requests: &[u8], packet: &[u8]) -> Result<Plan, Refusal>
     requires { (0 < capacity requests.now) × Fitting c }
     ensures { says_plan result ≡ plan_of c requests.now packet.now }
 {
     if packet.len() < packet::LEAST_PACKET {
-        return Plan::Stop(Refusal::ShortPacket);
+        return Err(Refusal::ShortPacket);
     }
     if packet::MOST_PACKET < packet.len() {
-        return Plan::Stop(Refusal::LongPacket);
+        return Err(Refusal::LongPacket);
     }
-    match packet::number_after(c.order, SequenceNumber(c.read), packet) {
-        Full::Number(number) => plan_by(c, requests, packet, number),
-        Full::Refused(refusal) => Plan::Stop(refusal),
-    }
+    let number = packet::number_after(c.order, SequenceNumber(c.read), packet)?;
+    plan_by(c, requests, packet, number)
 }
 
 // The state once a packet of the code has that number.
@@ -223,17 +213,10 @@ pub fn numbered(c: Connection, code: u8, number: u64) -> Connection
     requires { c.written ≤ last_number }
     ensures { result ≡ numbered_state c code number }
 {
-    let window = c.window;
-    let counts = c.counts;
     Connection {
-        order: c.order,
-        capacity: c.capacity,
-        room: c.room,
-        written: c.written,
         expected: raised(code, number, c.expected),
         read: number,
         first: first_after(c.first, c.written, number),
-        window: window,
-        counts: counts,
+        ..c
     }
 }

@@ -1,5 +1,5 @@
 -- Laws of `specs/At.antt`. Assumes nothing.
-use Rattle.std.specs.Prelude.{◌≡◌, Bool, true}
+use Rattle.std.specs.Prelude.{◌≡◌, Bool, true, Option, None, Some}
 use Rattle.std.proofs.Math.Path.{refl, sym, ap}
 use Rattle.std.proofs.Common.{◌∙◌, subst, drop-drop, lt-ltb, ltb-true, eqb-true, eq-eqb}
 use mathlib.Core.List.{List, [], ◌∷◌, ◌++◌, append_assoc}
@@ -17,7 +17,12 @@ use Rattle.octets.specs.Field.{field, fields, length_fields, field_first, octets
 use Rattle.form.specs.Form.{Form, and_then, number, byte, pair, counted, each, writes}
 use Rattle.form.specs.FormLaws.{Exact}
 use Rattle.form.proofs.FormLaws.{some_same, then_some, number_exact, byte_exact, counted_exact, bytes_fit}
-use Rattle.form.specs.At.{At, long, any, fit2, Here, Not}
+use Rattle.form.specs.At.{At, Behind, long, any, fit2, Here, Not}
+
+-- What holds at an index, or at 0, holds of an optional index.
+pub behind_map : {P Q : ℕ → Type 0} → ((r : ℕ) → P r → Q r) → (r : Option ℕ) → Behind P r → Behind Q r
+behind_map f None p = f 0 p
+behind_map f (Some r) p = (f r p.0, p.1)
 
 pub at_zero : {A : Type 0} {f : Form A} {p : A → Bool} {s : List ℕ} {at r : ℕ} → r ≡ 0 → At f p s at r → At f p s at 0
 at_zero {f = f} {p = p} {s = s} {at = at} e F = subst (λ (k : ℕ). At f p s at k) e F

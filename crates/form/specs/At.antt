@@ -1,5 +1,5 @@
 -- A form at an index of bytes, tested where it stands: what code promises of such a test, and the laws for its early returns. Assumes nothing.
-use Rattle.std.specs.Prelude.{◌≡◌, Bool, true, eqb}
+use Rattle.std.specs.Prelude.{◌≡◌, Bool, true, eqb, Option, None, Some}
 use mathlib.Core.List.{List, []}
 use Rattle.std.proofs.Math.Option.{some}
 use Prim.Native.Nat.{ℕ, ◌+◌, ◌-◌, ◌≤◌}
@@ -14,6 +14,11 @@ use Rattle.form.specs.Form.{Form, counted, writes}
 pub record At {A : Type 0} (f : Form A) (ok : A → Bool) (s : List ℕ) (at r : ℕ) : Type 0 where
   pub there : (r ≡ 0 → ⊥) → (a : A) × (some (a, drop r s) ≡ f.read (drop at s)) × (ok a ≡ true) × (r ≤ length s)
   pub missing : r ≡ 0 → (a : A) (y : List ℕ) → some (a, y) ≡ f.read (drop at s) → ok a ≡ true → ⊥
+
+-- The same of an optional index: none where nothing that passes stands there.
+abbrev pub Behind : (ℕ → Type 0) → Option ℕ → Type 0
+Behind P None = P 0
+Behind P (Some r) = P r × (r ≡ 0 → ⊥)
 
 abbrev pub long : ℕ → List ℕ → Bool
 long k l = eqb (length l) k

@@ -1,5 +1,5 @@
 -- Held records in their store, computed: rows that the nearest other readings fail. Assumes nothing.
-use Rattle.std.specs.Prelude.{◌≡◌, refl, true, false, List, [], ◌∷◌, ◌++◌, ℕ, zero, suc, leb, length, replicate, set}
+use Rattle.std.specs.Prelude.{◌≡◌, refl, true, false, List, [], ◌∷◌, ◌++◌, ℕ, zero, suc, leb, length, replicate, set, Some, None}
 use Rattle.octets.specs.Logic.{choose, both, either}
 use Rattle.octets.specs.Bytes.{bytes_of, number_in, low_bytes, low_number, turned}
 use Rattle.octets.specs.Put.{put, cut}
@@ -12,8 +12,6 @@ use Rattle.held.specs.Find.{sought, suits, found_reply, found_event}
 use Rattle.held.specs.Moves.{window, left, behind, slid, stays, appended, removed, handed, demoted}
 use Rattle.held.specs.Tally.{own, lower, higher, tallied, tally_one}
 use Rattle.held.specs.declared.Spot.{Spot}
-use Rattle.held.specs.declared.Found.TheVariants as Found
-use Rattle.held.specs.declared.Walked.TheVariants as Walked
 use Rattle.held.specs.declared.Tally.{Tally}
 
 -- n numbers, one after the other
@@ -78,8 +76,8 @@ abbrev spot : ℕ → ℕ → ℕ → ℕ → ℕ → Spot
 spot at len number fds before = record { at = at; len = len; number = number; fds = fds; before = before }
 
 -- the oldest reply of a number, with the descriptors of all before it; an event of the number is none; the oldest event, of whichever number
-pub finds : (found_reply 5 (window 3 77) store ≡ Found.At (spot 3 2 5 2 0)) × (found_reply 9 (window 3 77) store ≡ Found.At (spot 57 4 9 1 5)) × (found_reply 4 (window 3 77) store ≡ Found.Nothing) × (found_event (window 3 77) store ≡ Found.At (spot 21 3 4 0 2))
-    × (found_event (window 40 77) store ≡ Found.Nothing) × (suits 1 false 6 1 6 ≡ true) × (suits 1 false 6 1 7 ≡ false) × (suits 1 false 6 0 6 ≡ false) × (suits 1 true 6 1 7 ≡ true) × (suits 1 true 6 0 7 ≡ false)
+pub finds : (found_reply 5 (window 3 77) store ≡ Some (spot 3 2 5 2 0)) × (found_reply 9 (window 3 77) store ≡ Some (spot 57 4 9 1 5)) × (found_reply 4 (window 3 77) store ≡ None) × (found_event (window 3 77) store ≡ Some (spot 21 3 4 0 2))
+    × (found_event (window 40 77) store ≡ None) × (suits 1 false 6 1 6 ≡ true) × (suits 1 false 6 1 7 ≡ false) × (suits 1 false 6 0 6 ≡ false) × (suits 1 true 6 1 7 ≡ true) × (suits 1 true 6 0 7 ≡ false)
 unfolding found_reply found_event sought suits records read_all read_up_to flat decoded num_of len_of fds_of kind_of encoded field number_in low_number cut bytes_of low_bytes turned both either choose
 finds = (refl, refl, refl, refl, refl, refl, refl, refl, refl, refl)
 
@@ -127,7 +125,7 @@ unfolding soundb fine all rising same records read_all read_up_to only flat cut 
 largest s = refl
 
 -- the descriptors of the replies, where it is sound
-pub walks : (walked 6 (window 2 147) filled ≡ Walked.Sound 5) × (walked 6 (window 2 50) filled ≡ Walked.Sound 2) × (walked 5 (window 2 147) filled ≡ Walked.Unsound)
+pub walks : (walked 6 (window 2 147) filled ≡ Some 5) × (walked 6 (window 2 50) filled ≡ Some 2) × (walked 5 (window 2 147) filled ≡ None)
 unfolding walked soundb fine all rising fits most_fds same records read_all read_up_to only flat fds_in decoded num_of len_of fds_of kind_of encoded field number_in low_number cut bytes_of low_bytes turned both choose
 walks = (refl, refl, refl)
 

@@ -1,5 +1,5 @@
 -- The oldest record of a window: it is found where it is an event, and nothing moves where it goes. Assumes nothing.
-use Rattle.std.specs.Prelude.{◌≡◌, refl, List, ℕ, ◌+◌, ◌-◌, ◌≤◌, ◌<◌, ltb, drop}
+use Rattle.std.specs.Prelude.{◌≡◌, refl, List, ℕ, ◌+◌, ◌-◌, ◌≤◌, ◌<◌, ltb, drop, Some}
 use Rattle.std.proofs.Math.Path.{sym, ap}
 use Rattle.std.proofs.Common.{◌∙◌, arith, le-ltb}
 use Rattle.std.proofs.Math.Bool.{true}
@@ -13,7 +13,6 @@ use Rattle.held.specs.Find.{sought, suits_any, wanted, found_event}
 use Rattle.held.specs.Moves.{window, left, size, next, removed}
 use Rattle.held.specs.declared.Window.{Window}
 use Rattle.held.specs.declared.Spot.{Spot}
-use Rattle.held.specs.declared.Found.{Found}
 
 -- the place of the record at the start of the window
 abbrev pub first_place : Window → List ℕ → Spot
@@ -25,13 +24,13 @@ module _ (w : Window) (s : List ℕ) (R : Readable w s) (some : w.start < w.end)
   first_room = let z = turn_room s w.start w.end (records w s) (rest_all w s R) some in (omega (arith, z), omega (arith, z))
 
   -- and is found where it is an event.
-  pub first_found : kind_of (drop w.start s) ≡ event → Found.At (first_place w s) ≡ found_event w s
+  pub first_found : kind_of (drop w.start s) ≡ event → Some (first_place w s) ≡ found_event w s
   unfolding found_event sought
   first_found k =
       let F = turn s w.start w.end (records w s) (rest_all w s R) some in
       let H = F.here in
       let t : wanted event true 0 F.it ≡ true = sym (suits_any event true 0 F.it.kind F.it.number (sym H.kind ∙ k) refl) in
-      (λ i. Found.At (record { at = w.start; len = H.len i; number = H.number i; fds = H.fds i; before = 0 }))
+      (λ i. Some (record { at = w.start; len = H.len i; number = H.number i; fds = H.fds i; before = 0 }))
       ∙ sym (choose_yes _ _ _ t)
       ∙ ap (sought (wanted event true 0) w.start 0) (sym F.is)
 

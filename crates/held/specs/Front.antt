@@ -1,9 +1,11 @@
 -- The record at an index of a store: what the code reads there is what stands there. Assumes nothing.
-use Rattle.std.specs.Prelude.{◌≡◌, refl, ℕ, ◌+◌, ◌-◌, ◌≤◌}
+use Rattle.std.specs.Prelude.{◌≡◌, refl, ℕ, ◌+◌, ◌-◌, ◌≤◌, Option, Some, None, unwrap_or}
 use Rattle.std.proofs.Math.Path.{sym, ap, subst₂}
 use Rattle.std.proofs.Common.{◌∙◌, arith, length-append, take-append-drop}
 use mathlib.Core.List.{List, ◌++◌, append_assoc}
 use Rattle.std.proofs.Math.ListN.{length, drop}
+use Rattle.std.specs.Prelude.{Bool, true, false}
+use Rattle.std.specs.Option.{is_none}
 use Rattle.octets.specs.Bytes.{little_order, Octets, number_below}
 use Rattle.octets.specs.Put.{cut, length_cut, cut_cut}
 use Rattle.octets.specs.Field.{field, octets_cut}
@@ -57,6 +59,24 @@ pub record Begins (x : List ℕ) : Type 0 where
 pub record Sized (x : List ℕ) (r : ℕ) : Type 0 where
   pub some : (r ≡ 0 → ⊥) → Begins x × (r ≡ cost (decoded x))
   pub none : r ≡ 0 → Begins x → ⊥
+
+-- the size of the record that bytes begin with, where they begin with one
+pub record Begun (x : List ℕ) (r : Option ℕ) : Type 0 where
+  pub some : (n : ℕ) → r ≡ Some n → Begins x × (n ≡ cost (decoded x))
+  pub none : r ≡ None → Begins x → ⊥
+
+-- The two say the same: no record has no bytes.
+pub begun_sized : (x : List ℕ) (r : Option ℕ) → Begun x r → Sized x (unwrap_or r 0)
+begun_sized x None b = record { some = λ z. absurd (z refl); none = λ z. b.none refl }
+begun_sized x (Some n) b =
+    let p = b.some n refl in
+    record { some = λ z. p; none = λ z g. let q : n ≡ cost (decoded x) = p.1 in absurd (omega arith) }
+
+pub begun_some : (x : List ℕ) (r : Option ℕ) (n : ℕ) → r ≡ Some n → Begun x r → Sized x n × (n ≡ 0 → ⊥)
+begun_some x r n e b =
+    let p = b.some n e in
+    let q : n ≡ cost (decoded x) = p.1 in
+    (record { some = λ z. p; none = λ z g. absurd (omega arith) }, λ z. absurd (omega arith))
 
 -- the header at an index, of a record that is whole in the n bytes from there on
 pub record Whole (s : List ℕ) (at n : ℕ) : Type 0 where
@@ -121,3 +141,14 @@ module _ (s : List ℕ) (at n : ℕ) (room : at + n ≤ length s) where
   sized_some o w r e =
       let b : Begins x = whole_begins o w in
       record { some = λ z. (b, omega (arith, (begins_stands b).len)); none = λ z b. omega arith }
+
+  pub begun_not : (Whole s at n → ⊥) → Begun x None
+  begun_not h = record { some = λ m e. absurd (let z : ◌≡◌ {A = Bool} true false = ap is_none e in let y : ◌≡◌ {A = ℕ} 0 1 = cc in omega arith); none = λ e b. h (begins_whole b) }
+
+  pub begun_of : Octets s → (w : Whole s at n) (r : ℕ) → r ≡ header_size + len_of (drop at s) → Begun x (Some r)
+  begun_of o w r e =
+      let b : Begins x = whole_begins o w in
+      record {
+        some = λ m q. let p : unwrap_or (Some r) 0 ≡ unwrap_or (Some m) 0 = ap (λ (k : Option ℕ). unwrap_or k 0) q in (b, omega (arith, (begins_stands b).len, p));
+        none = λ q. absurd (let z : ◌≡◌ {A = Bool} false true = ap is_none q in let y : ◌≡◌ {A = ℕ} 0 1 = cc in omega arith);
+      }

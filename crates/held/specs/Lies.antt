@@ -1,5 +1,5 @@
 -- A place that was found: which record of its list lies there. Assumes nothing.
-use Rattle.std.specs.Prelude.{◌≡◌, refl, Bool, true, false, List, [], ◌∷◌, ◌++◌, ℕ, ◌+◌, eqb, length}
+use Rattle.std.specs.Prelude.{◌≡◌, refl, Bool, true, false, List, [], ◌∷◌, ◌++◌, ℕ, ◌+◌, eqb, length, Option, Some, None}
 use Rattle.std.proofs.Common.{sym, ap, ◌∙◌, subst, add-zero, zero-add, add_assoc, eqb-true, eq-eqb}
 use Rattle.octets.specs.Logic.{both_left, both_right, both_yes, either, apart}
 use Rattle.held.specs.General.{choose_either}
@@ -9,7 +9,6 @@ use Rattle.held.specs.Rows.{only_append, only_is, only_other, all_left, fds_repl
 use Rattle.held.specs.Find.{place_of, sought, suits, wanted, found_reply, found_event}
 use Rattle.held.specs.declared.Window.{Window}
 use Rattle.held.specs.declared.Spot.{Spot}
-use Rattle.held.specs.declared.Found.{Found}
 
 -- ---- the first that passes a test
 
@@ -23,13 +22,13 @@ pub record First (t : Record → Bool) (at before : ℕ) (hs : List Record) (p :
   pub none : All (λ h. t h ≡ false) front
   pub is : p ≡ place_of (at + costs front) (before + fds_in front) it
 
-abbrev pub Seeks : (Record → Bool) → ℕ → ℕ → List Record → Found → Type 0
-Seeks t at before hs (Found.At p) = First t at before hs p
-Seeks t at before hs Found.Nothing = All (λ h. t h ≡ false) hs
+abbrev pub Seeks : (Record → Bool) → ℕ → ℕ → List Record → Option Spot → Type 0
+Seeks t at before hs (Some p) = First t at before hs p
+Seeks t at before hs None = All (λ h. t h ≡ false) hs
 
-further : (t : Record → Bool) (at before : ℕ) (h : Record) (hs : List Record) (r : Found) → t h ≡ false → Seeks t (at + cost h) (before + h.fds) hs r → Seeks t at before (h ∷ hs) r
+further : (t : Record → Bool) (at before : ℕ) (h : Record) (hs : List Record) (r : Option Spot) → t h ≡ false → Seeks t (at + cost h) (before + h.fds) hs r → Seeks t at before (h ∷ hs) r
 unfolding All costs fds_in
-further t at before h hs (Found.At p) e F = record {
+further t at before h hs (Some p) e F = record {
   front = h ∷ F.front;
   it = F.it;
   back = F.back;
@@ -38,13 +37,13 @@ further t at before h hs (Found.At p) e F = record {
   none = (e, F.none);
   is = F.is ∙ (λ k. place_of (add_assoc at (cost h) (costs F.front) k) (add_assoc before h.fds (fds_in F.front) k) F.it);
 }
-further t at before h hs Found.Nothing e F = (e, F)
+further t at before h hs None e F = (e, F)
 
 pub seeks : (t : Record → Bool) (at before : ℕ) (hs : List Record) → Seeks t at before hs (sought t at before hs)
 unfolding sought All costs fds_in
 seeks t at before [] = tt
 seeks t at before (h ∷ hs) =
-    choose_either (Seeks t at before (h ∷ hs)) (t h) (Found.At (place_of at before h)) (sought t (at + cost h) (before + h.fds) hs)
+    choose_either (Seeks t at before (h ∷ hs)) (t h) (Some (place_of at before h)) (sought t (at + cost h) (before + h.fds) hs)
     (λ e. record { front = []; it = h; back = hs; split = refl; passes = e; none = tt; is = λ k. place_of (sym (add-zero at) k) (sym (add-zero before) k) h })
     (λ e. further t at before h hs (sought t (at + cost h) (before + h.fds) hs) e (seeks t (at + cost h) (before + h.fds) hs))
 
@@ -104,13 +103,13 @@ pub record FirstEvent (w : Window) (s : List ℕ) (p : Spot) : Type 0 where
   pub lies : Lies event w s p [] it after
 
 -- What a search answers: the first of the list, or that the list has none.
-abbrev pub FindsReply : ℕ → Window → List ℕ → Found → Type 0
-FindsReply n w s (Found.At p) = FirstReply n w s p
-FindsReply n w s Found.Nothing = All (Other n) (replies w s)
+abbrev pub FindsReply : ℕ → Window → List ℕ → Option Spot → Type 0
+FindsReply n w s (Some p) = FirstReply n w s p
+FindsReply n w s None = All (Other n) (replies w s)
 
-abbrev pub FindsEvent : Window → List ℕ → Found → Type 0
-FindsEvent w s (Found.At p) = FirstEvent w s p
-FindsEvent w s Found.Nothing = events w s ≡ []
+abbrev pub FindsEvent : Window → List ℕ → Option Spot → Type 0
+FindsEvent w s (Some p) = FirstEvent w s p
+FindsEvent w s None = events w s ≡ []
 
 -- ---- laws
 
@@ -158,8 +157,8 @@ pub finds_reply : (n : ℕ) (w : Window) (s : List ℕ) → Readable w s → Fin
 unfolding found_reply
 finds_reply n w s R = go (found_reply n w s) (seeks (wanted reply false n) w.start 0 (records w s))
   where
-    go : (r : Found) → Seeks (wanted reply false n) w.start 0 (records w s) r → FindsReply n w s r
-    go (Found.At p) F =
+    go : (r : Option Spot) → Seeks (wanted reply false n) w.start 0 (records w s) r → FindsReply n w s r
+    go (Some p) F =
         let is = reply_is n F.it F.passes in
         let L : Lies reply w s p (only reply F.front) F.it (only reply F.back) = first_lies reply (wanted reply false n) w s p (only reply F.front) F is.0 refl in
         let f : All Fits F.front = all_left Fits F.front (F.it ∷ F.back) (subst (All Fits) F.split R.fit) in
@@ -176,15 +175,15 @@ finds_reply n w s R = go (found_reply n w s) (seeks (wanted reply false n) w.sta
           count = ap (λ (q : Spot). q.before) F.is ∙ zero-add (fds_in F.front) ∙ fds_replies F.front f;
           lies = L;
         }
-    go Found.Nothing F = none_number n (records w s) F
+    go None F = none_number n (records w s) F
 
 -- The oldest event is found exactly where there is one.
 pub finds_event : (w : Window) (s : List ℕ) → FindsEvent w s (found_event w s)
 unfolding found_event
 finds_event w s = go (found_event w s) (seeks (wanted event true 0) w.start 0 (records w s))
   where
-    go : (r : Found) → Seeks (wanted event true 0) w.start 0 (records w s) r → FindsEvent w s r
-    go (Found.At p) F =
+    go : (r : Option Spot) → Seeks (wanted event true 0) w.start 0 (records w s) r → FindsEvent w s r
+    go (Some p) F =
         let L : Lies event w s p [] F.it (only event F.back) = first_lies event (wanted event true 0) w s p [] F (event_is F.it F.passes) (none_event F.front F.none) in
         record {
           it = F.it;
@@ -194,4 +193,4 @@ finds_event w s = go (found_event w s) (seeks (wanted event true 0) w.start 0 (r
           number = ap (λ (q : Spot). q.number) F.is;
           lies = L;
         }
-    go Found.Nothing F = none_event (records w s) F
+    go None F = none_event (records w s) F

@@ -1,5 +1,5 @@
 -- What the floors above may count on: when a state is sound, and what each call does to the two lists. Assumes nothing.
-use Rattle.std.specs.Prelude.{◌≡◌, refl, true, ◌↔◌, ℕ, ◌+◌, ◌-◌, ◌≤◌, ◌<◌, length, get_or}
+use Rattle.std.specs.Prelude.{◌≡◌, refl, true, ◌↔◌, ℕ, ◌+◌, ◌-◌, ◌≤◌, ◌<◌, length, get_or, Option, Some, None}
 use Rattle.std.proofs.Math.Path.{sym, ap}
 use Rattle.std.proofs.Common.{◌∙◌, arith}
 use mathlib.Core.List.{List, [], ◌∷◌, ◌++◌, append-nil}
@@ -19,7 +19,6 @@ use Rattle.held.specs.Lies.{Lies, lies_others, FindsReply, FindsEvent, finds_rep
 use Rattle.held.specs.Keeps.{Kept, kept_appended, between, fits_it, stands_it, kept_removed, kept_demoted}
 use Rattle.held.specs.declared.Window.{Window}
 use Rattle.held.specs.declared.Spot.{Spot}
-use Rattle.held.specs.declared.Walked.{Walked}
 
 -- ---- soundness
 
@@ -28,15 +27,15 @@ pub sound_exactly : (last : ℕ) (w : Window) (s : List ℕ) → (soundb last w 
 sound_exactly last w s = (sound_is last w s, sound_so last w s)
 
 -- what a walk says
-abbrev pub Walks : ℕ → Window → List ℕ → Walked → Type 0
-Walks last w s (Walked.Sound n) = Sound last w s × (n ≡ fds_in (replies w s))
-Walks last w s Walked.Unsound = Sound last w s → ⊥
+abbrev pub Walks : ℕ → Window → List ℕ → Option ℕ → Type 0
+Walks last w s (Some n) = Sound last w s × (n ≡ fds_in (replies w s))
+Walks last w s None = Sound last w s → ⊥
 
 -- A walk says whether the state is sound and, if so, how many descriptors the replies have in all.
 pub walks : (last : ℕ) (w : Window) (s : List ℕ) → Walks last w s (walked last w s)
 unfolding walked
 walks last w s =
-    choose_either (Walks last w s) (soundb last w s) (Walked.Sound (fds_in (replies w s))) Walked.Unsound (λ t. (sound_is last w s t, refl)) (λ f S. apart (sound_so last w s S) f)
+    choose_either (Walks last w s) (soundb last w s) (Some (fds_in (replies w s))) None (λ t. (sound_is last w s t, refl)) (λ f S. apart (sound_so last w s S) f)
 
 -- The costs of the records of both lists add up to what is used.
 pub sound_used : (last : ℕ) (w : Window) (s : List ℕ) → Sound last w s → used w ≡ costs (replies w s) + costs (events w s)

@@ -1,5 +1,5 @@
 -- What a walk over the window answers. Assumes nothing.
-use Rattle.std.specs.Prelude.{◌≡◌, refl, true, false, ℕ, ◌+◌, ◌≤◌, ◌<◌, length, drop}
+use Rattle.std.specs.Prelude.{◌≡◌, refl, true, false, ℕ, ◌+◌, ◌≤◌, ◌<◌, length, drop, Option, Some, None}
 use Rattle.std.proofs.Math.Path.{sym, ap}
 use Rattle.std.proofs.Common.{◌∙◌, zero-add, add-zero, add_assoc, arith, take-append-drop}
 use Rattle.std.proofs.Math.Bool.{Bool}
@@ -17,23 +17,22 @@ use Rattle.held.specs.Reading.{inside, flat, read_up_to, read_all, records, repl
 use Rattle.held.specs.Rows.{read_step, fds_step}
 use Rattle.held.specs.Soundness.{sound_is}
 use Rattle.held.specs.declared.Window.{Window}
-use Rattle.held.specs.declared.Walked.{Walked}
 
 -- Sound with the descriptors of the replies in all, or unsound.
-unfoldable pub walked : ℕ → Window → List ℕ → Walked
-walked last w s = choose (soundb last w s) (Walked.Sound (fds_in (replies w s))) Walked.Unsound
+unfoldable pub walked : ℕ → Window → List ℕ → Option ℕ
+walked last w s = choose (soundb last w s) (Some (fds_in (replies w s))) None
 
 -- ---- laws
 
 -- the same of the bytes that are left, with the least number of the next reply and the descriptors so far
-unfoldable pub walked_on : ℕ → ℕ → ℕ → List ℕ → Walked
-walked_on from last sum x = choose (fine from last x (read_all x)) (Walked.Sound (sum + fds_in (only reply (read_all x)))) Walked.Unsound
+unfoldable pub walked_on : ℕ → ℕ → ℕ → List ℕ → Option ℕ
+walked_on from last sum x = choose (fine from last x (read_all x)) (Some (sum + fds_in (only reply (read_all x)))) None
 
 -- the least number of the next reply after a record of a kind and a number
 abbrev pub raised : ℕ → ℕ → ℕ → ℕ
 raised kind number from = choose (eqb kind reply) number from
 
-pub walk_unsound : (last : ℕ) (w : Window) (s : List ℕ) → (Sound last w s → ⊥) → Walked.Unsound ≡ walked last w s
+pub walk_unsound : (last : ℕ) (w : Window) (s : List ℕ) → (Sound last w s → ⊥) → None ≡ walked last w s
 unfolding walked
 walk_unsound last w s h = sym (choose_no _ _ _ (not_so (soundb last w s) (λ t. h (sound_is last w s t))))
 
@@ -45,11 +44,11 @@ walk_enter last w s m o i =
     let c = le-leb w.end (length s) i in
     sym
     (λ k.
-    choose (both (a k) (both (b k) (both (c k) (fine 0 last (inside w s) (records w s))))) (Walked.Sound (sym (zero-add (fds_in (replies w s))) k)) Walked.Unsound)
+    choose (both (a k) (both (b k) (both (c k) (fine 0 last (inside w s) (records w s))))) (Some (sym (zero-add (fds_in (replies w s))) k)) None)
 
-pub walk_end : (from last sum : ℕ) (x : List ℕ) → length x ≡ 0 → Walked.Sound sum ≡ walked_on from last sum x
+pub walk_end : (from last sum : ℕ) (x : List ℕ) → length x ≡ 0 → Some sum ≡ walked_on from last sum x
 unfolding walked_on read_all read_up_to fine flat same all rising only fds_in both choose
-walk_end from last sum [] e = ap Walked.Sound (sym (add-zero sum))
+walk_end from last sum [] e = ap Some (sym (add-zero sum))
 walk_end from last sum (b ∷ x) e = absurd (omega arith)
 
 -- a record at the front, a reply or not, and the replies l behind it
@@ -80,7 +79,7 @@ module _ (from last sum : ℕ) (x : List ℕ) (some : 0 < length x) where
       let b : take (cost h) x ≡ encoded h = ap (λ (l : List ℕ). take (cost h) l) e ∙ take_at (encoded h) (flat (read_all y)) (cost h) (length_encoded h) in
       (record { fit = fits_is h (both_left _ _ (both_left _ _ t₁)); bytes = b }, leb-true h.number last (both_left _ _ (both_right _ _ t₂)), rising_front (eqb h.kind reply) h (only reply (read_all y)) from (both_left _ _ t₂))
 
-  pub walk_stop : (Begins x → h.number ≤ last → from ≤ raised h.kind h.number from → ⊥) → Walked.Unsound ≡ walked_on from last sum x
+  pub walk_stop : (Begins x → h.number ≤ last → from ≤ raised h.kind h.number from → ⊥) → None ≡ walked_on from last sum x
   unfolding walked_on
   walk_stop n =
       sym
@@ -100,5 +99,5 @@ module _ (from last sum : ℕ) (x : List ℕ) (some : 0 < length x) where
       let f = fits_so h b.fit in
       let g = le-leb h.number last k in
       let d = ap (λ (n : ℕ). sum + n) (fds_step h hs b.fit) ∙ sym (add_assoc sum h.fds (fds_in (only reply hs))) in
-      ap (λ (l : List Record). choose (fine from last x l) (Walked.Sound (sum + fds_in (only reply l))) Walked.Unsound) (read_step x some)
-      ∙ (λ j. choose (both (p j) (both (both (f j) (all fits hs)) (both (q j) (both (g j) (all (known last) hs))))) (Walked.Sound (d j)) Walked.Unsound)
+      ap (λ (l : List Record). choose (fine from last x l) (Some (sum + fds_in (only reply l))) None) (read_step x some)
+      ∙ (λ j. choose (both (p j) (both (both (f j) (all fits hs)) (both (q j) (both (g j) (all (known last) hs))))) (Some (d j)) None)

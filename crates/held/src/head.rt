@@ -3,7 +3,7 @@ ghost use Rattle.std.specs.Prelude.{◌≡◌, [], ◌∷◌, ◌+◌, ◌-◌, 
 ghost use Rattle.octets.specs.Put.{put, cut};
 ghost use Rattle.packet.specs.Packet.{most_packet};
 ghost use Rattle.held.specs.Head.{header_size, count_at, labelled, encoded, most_fds, num_of, len_of, fds_of, kind_of, zero_of};
-ghost use Rattle.held.specs.Front.{Sized};
+ghost use Rattle.held.specs.Front.{Begun};
 
 use crate::Label;
 
@@ -25,6 +25,9 @@ pub const HEADER: usize = 16;
 pub const IN_REPLIES: u8 = 0;
 
 pub const IN_EVENTS: u8 = 1;
+
+// Each reads a field of the header at an index, and asks for the header's room by itself: a slice of
+// 16 bytes as its type would be cut out, by the same bound, wherever one is called.
 
 pub fn number_at(s: &[u8], at: usize) -> u64
     requires { at + header_size ≤ length s.now }
@@ -68,36 +71,36 @@ fn most_fds(kind: u8) -> u8
     if kind == IN_REPLIES { 255 } else { 0 }
 }
 
-// The bytes of the record at an index, or 0 where none that fits stands there before the end.
-pub fn size_at(s: &[u8], at: usize, end: usize) -> usize
+// The bytes of the record at an index, where one that fits stands there before the end.
+pub fn record_at(s: &[u8], at: usize, end: usize) -> Option<usize>
     requires { (at ≤ end) × (end ≤ length s.now) }
-    ensures { Sized (cut at (end - at) s.now) result }
+    ensures { Begun (cut at (end - at) s.now) result }
 {
     let room = end - at;
     if room < HEADER + packet::LEAST_PACKET {
-        return 0;
+        return None;
     }
     let len = length_at(s, at);
     if room - HEADER < len {
-        return 0;
+        return None;
     }
     if len < packet::LEAST_PACKET {
-        return 0;
+        return None;
     }
     if packet::MOST_PACKET < len {
-        return 0;
+        return None;
     }
     let kind = kind_at(s, at);
     if IN_EVENTS < kind {
-        return 0;
+        return None;
     }
     if most_fds(kind) < count_at(s, at) {
-        return 0;
+        return None;
     }
     if zero_at(s, at) != 0 {
-        return 0;
+        return None;
     }
-    HEADER + len
+    Some(HEADER + len)
 }
 
 // The count and the kind of a record.

@@ -16,11 +16,12 @@ mod soundness;
 
 pub use counting::count;
 pub use find::{find_event, find_reply};
-pub use head::{HEADER, IN_EVENTS, IN_REPLIES, count_at, kind_at, length_at, number_at, size_at};
+pub use head::{HEADER, IN_EVENTS, IN_REPLIES, count_at, kind_at, length_at, number_at, record_at};
 pub use moves::{Taken, append, behind, class_at, demote, remove, stays, take};
 pub use soundness::{MOST_STORE, walk};
 
-// Where the records are in the store; used is end - start.
+// Where the records are in the store; used is end - start. The store stays a parameter of its own: C
+// lends it at each call, and the window is kept by value between calls.
 #[derive(Clone, Copy)]
 pub struct Window {
     pub start: usize,
@@ -28,20 +29,13 @@ pub struct Window {
 }
 
 // What a record says of its packet: the number of its request, its count of descriptors and its
-// kind.
+// kind. The kind stays a byte: `append` promises to hold a packet under each, and an enum would ask
+// more of its callers.
 #[derive(Clone, Copy)]
 pub struct Label {
     pub number: u64,
     pub fds: u8,
     pub kind: u8,
-}
-
-// What a walk over the whole window finds: the descriptors of the replies in all, or that the
-// state is unsound.
-#[derive(Clone, Copy)]
-pub enum Walked {
-    Sound(usize),
-    Unsound,
 }
 
 // A record that was found: where it starts, the length of its packet, its number and its count of
@@ -53,12 +47,6 @@ pub struct Spot {
     pub number: u64,
     pub fds: u8,
     pub before: usize,
-}
-
-#[derive(Clone, Copy)]
-pub enum Found {
-    At(Spot),
-    Nothing,
 }
 
 // How many replies have a number, and how many a higher one.

@@ -48,14 +48,10 @@ pub fn behind(store: &mut [u8], window: Window, label: Label, packet: &[u8]) -> 
     requires { (window.end + (header_size + length packet.now) ≤ length store.old) × (length packet.now ≤ most_packet) }
     ensures { Leaves (behind (left window store.old) (labelled label packet.now)) result store.new }
 {
-    let start = window.start;
-    let end = window.end;
-    let cost = head::HEADER + packet.len();
-    head::put_record(store, end, label, packet);
-    let next = end + cost;
+    head::put_record(store, window.end, label, packet);
     Window {
-        start: start,
-        end: next,
+        end: window.end + (head::HEADER + packet.len()),
+        ..window
     }
 }
 
@@ -72,14 +68,14 @@ pub fn remove(store: &mut [u8], window: Window, place: Spot) -> Window
     if end - next < at - start {
         octets::slide(store, next, at, end - next);
         return Window {
-            start: start,
             end: end - size,
+            ..window
         };
     }
     octets::slide(store, start, start + size, at - start);
     Window {
         start: start + size,
-        end: end,
+        ..window
     }
 }
 
@@ -104,7 +100,7 @@ pub fn take(store: &mut [u8], window: Window, place: Spot, out: &mut [u8]) -> Ta
     let rest = remove(store, window, place);
     Taken {
         window: rest,
-        class: class,
+        class,
     }
 }
 

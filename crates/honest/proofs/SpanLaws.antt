@@ -9,7 +9,7 @@ use Rattle.refusal.specs.Answer.{gives, refuses, refuse, gives_same}
 use Rattle.sequence.specs.Numbering.{last_number, wire_values, full, in_range}
 use Rattle.sequence.proofs.NumberingLaws.{full_near}
 use Rattle.sequence.specs.Sending as Sending
-use Rattle.sequence.specs.Sending.{sending_by, sending_by_lem, sync_span}
+use Rattle.sequence.specs.Sending.{sending_by, sync_span}
 use Rattle.packet.specs.Packet.{wire_of}
 use Rattle.model.specs.Client.{Numbers}
 use Rattle.model.specs.Model.{Filing}

@@ -3,7 +3,7 @@ use Rattle.std.specs.Prelude.{Bool, List, [], ◌∷◌, ◌⊎◌, ◌≡◌, �
 use Rattle.refusal.specs.Answer.{gives}
 use Rattle.sequence.specs.Numbering.{last_number, wire_values, full, in_range}
 use Rattle.sequence.specs.Sending as Sending
-use Rattle.sequence.specs.Sending.{sending, sending_by, must_sync, sync_span}
+use Rattle.sequence.specs.Sending.{sending_by, sync_span}
 use Rattle.packet.specs.Packet.{wire_of}
 use Rattle.model.specs.Client.{Numbers}
 use Rattle.model.specs.Model.{Filing}

@@ -4,7 +4,6 @@ use Prim.Native.Nat.{ℕ, zero, suc, ◌%◌, ◌≤◌}
 use Rattle.std.proofs.Math.ListN.{length}
 use Rattle.sequence.specs.Numbering.{wire_values}
 use Rattle.packet.specs.Packet as Packet
-use Rattle.packet.specs.Packet.{unnumbered, wire_of, was_sent, PacketClass, class_of}
 use Rattle.requests.specs.declared.Request.{Request}
 use Rattle.model.specs.Client.{Numbers, Client, set_numbers, set_outstanding}
 use Rattle.model.specs.Model.{fresh, Filing}

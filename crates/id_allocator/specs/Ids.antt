@@ -1,13 +1,12 @@
 -- 01, Ids, with the allocator's sentence of 01, Rooms, and its refusals: what each call answers, as definitions that compute. They
 -- are written from the paper and say nothing of the code. Assumes nothing.
-use Rattle.std.specs.Prelude.{ℕ, zero, suc, ◌+◌, ◌-◌, ◌*◌, ◌/◌, ◌%◌, ◌^◌, ◌<◌, ◌≤◌, ◌≡◌, Bool, false, not, leb, ltb, eqb}
+use Rattle.std.specs.Prelude.{ℕ, zero, suc, ◌+◌, ◌-◌, ◌*◌, ◌/◌, ◌%◌, ◌^◌, ◌<◌, ◌≤◌, ◌≡◌, Bool, false, not, leb, ltb, eqb, Result}
 use Rattle.std.specs.Int.Bits.{bit_or}
 use Rattle.octets.specs.Logic.{choose, both, either}
-use Rattle.refusal.specs.Numbers.{number_of}
-use Rattle.refusal.specs.Answer.{Answer, gives, refuses, refuse}
+use Rattle.refusal.specs.Answer.{Answer, gives, refuse, says}
 use Rattle.id_allocator.specs.declared.IdAllocator.{IdAllocator}
-use Rattle.id_allocator.specs.declared.Ids.{Ids}
 use Rattle.id_allocator.specs.declared.Generated.{Generated}
+use Rattle.refusal.specs.declared.Refusal.{Refusal}
 
 -- An id has 32 bits,
 abbrev pub bits : ℕ
@@ -80,14 +79,12 @@ generated a = refuse (not (sound a)) 9 (refuse (ltb a.last a.next) 11 (gives (a.
 unfoldable pub updated : IdAllocator → ℕ → ℕ → Answer IdAllocator
 updated a start count = refuse (not (sound a)) 9 (refuse (no_ids start count) 11 (refuse (leb limit (ranged a start count).last) 12 (gives (ranged a start count))))
 
--- ---- what the cases of the two answer enums say in these terms
+-- ---- what the results say in these terms
 
 -- An allocator, or the number of the refusal.
-abbrev pub says_ids : Ids → Answer IdAllocator
-says_ids (Ids.Ready a) = gives a
-says_ids (Ids.Refused r) = refuses (number_of r)
+abbrev pub says_ids : Result IdAllocator Refusal → Answer IdAllocator
+says_ids = says (λ a. a)
 
 -- An id with the allocator after it, or the number of the refusal.
-abbrev pub says_generated : Generated → Answer (ℕ × IdAllocator)
-says_generated (Generated.Id id a) = gives (id, a)
-says_generated (Generated.Refused r) = refuses (number_of r)
+abbrev pub says_generated : Result Generated Refusal → Answer (ℕ × IdAllocator)
+says_generated = says (λ x. (x.id, x.next))

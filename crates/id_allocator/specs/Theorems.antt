@@ -1,39 +1,26 @@
 -- The theorems of the crate; their lemmas are in the files of laws. Assumes nothing.
-use Rattle.std.specs.Prelude.{ℕ, zero, suc, ◌+◌, ◌-◌, ◌*◌, ◌^◌, ◌<◌, ◌≤◌, ◌≡◌, refl, ◌↔◌, true}
+use Rattle.std.specs.Prelude.{ℕ, zero, suc, ◌+◌, ◌-◌, ◌*◌, ◌^◌, ◌<◌, ◌≤◌, ◌≡◌, refl, ◌↔◌, true, Result}
 use Rattle.std.proofs.Common.{sym, ap, ◌∙◌, subst, arith, pow_pos, ne_eqb}
 use Rattle.std.specs.Int.Bits.{bit_and, bit_or}
-use Rattle.refusal.specs.Numbers.{refusal_of, listed}
-use Rattle.refusal.specs.Answer.{Answer, gives, refuses, refuse, decides}
+use Rattle.refusal.specs.Answer.{Answer, gives, refuses, refuse, says_one}
 use Rattle.id_allocator.specs.declared.IdAllocator.{IdAllocator}
-use Rattle.id_allocator.specs.declared.Ids.{Ids}
 use Rattle.id_allocator.specs.declared.Generated.{Generated}
-use Rattle.id_allocator.specs.declared.lent.NextId.{NextId}
-use Rattle.id_allocator.specs.declared.lent.Updated.{Updated}
 use Rattle.id_allocator.specs.Ids.{bits, limit, Sound, sound, lowest_bit, Lowest, fresh, ranged, new_ids, generated, updated, says_ids, says_generated}
 use Rattle.id_allocator.specs.Runs.{after_calls, call, id_of, next_of, Run, contiguous, EveryId}
-use Rattle.id_allocator.specs.Lent.{says_next, says_updated, taken_up, Generates, Updates}
+use Rattle.id_allocator.specs.Lent.{says_next, taken_up, Generates, Updates}
 use Rattle.id_allocator.specs.LowestLaws.{lowest_of, lowest_is}
 use Rattle.id_allocator.specs.SoundLaws.{sound_of, sound_yes, fresh_sound, sound_with, new_of, generated_of, updated_of}
 use Rattle.id_allocator.specs.RunLaws.{call_id, call_end}
 use Rattle.id_allocator.specs.MaskLaws.{or_steps, contiguous_some, contiguous_lowest, contiguous_or, contiguous_run}
+use Rattle.refusal.specs.declared.Refusal.{Refusal}
 
 -- 01, How a promise is judged: any two answers that `new` or `update_xid_range` may give are equal, since they say the same,
-back_ids : Answer IdAllocator → Ids
-back_ids (gives a) = Ids.Ready a
-back_ids (refuses n) = Ids.Refused (refusal_of n)
-
-pub ids_one : (r s : Ids) → says_ids r ≡ says_ids s → r ≡ s
-unfolding back_ids
-ids_one = decides says_ids back_ids (elim [ Ids.Ready a ↦ refl | Ids.Refused r ↦ ap Ids.Refused (listed r) ])
+pub ids_one : (r s : Result IdAllocator Refusal) → says_ids r ≡ says_ids s → r ≡ s
+ids_one = says_one _ (λ a. a) (λ x. refl)
 
 -- and so are any two of `generate_id`.
-back_generated : Answer (ℕ × IdAllocator) → Generated
-back_generated (gives p) = Generated.Id p.0 p.1
-back_generated (refuses n) = Generated.Refused (refusal_of n)
-
-pub generated_one : (r s : Generated) → says_generated r ≡ says_generated s → r ≡ s
-unfolding back_generated
-generated_one = decides says_generated back_generated (elim [ Generated.Id n a ↦ refl | Generated.Refused r ↦ ap Generated.Refused (listed r) ])
+pub generated_one : (r s : Result Generated Refusal) → says_generated r ≡ says_generated s → r ≡ s
+generated_one = says_one _ (λ p. record { id = p.0; next = p.1 }) (λ x. refl)
 
 -- 01, Rooms: the test of soundness holds exactly where the paper's sentence does.
 pub sound_is : (a : IdAllocator) → (sound a ≡ true) ↔ Sound a
@@ -98,38 +85,22 @@ range_run a start count h =
 -- ---- the allocator lent
 
 -- Any two answers that the lent `generate_id` may give are equal, and so are the allocators that they leave,
-back_next : Answer ℕ → NextId
-back_next (gives id) = NextId.Id id
-back_next (refuses n) = NextId.Refused (refusal_of n)
-
-pub generates_one : {a b c : IdAllocator} (r s : NextId) → Generates a r b → Generates a s c → (r ≡ s) × (b ≡ c)
-unfolding back_next
-generates_one r s p q = (
-  decides says_next back_next (elim [ NextId.Id n ↦ refl | NextId.Refused r ↦ ap NextId.Refused (listed r) ]) r s (p.answer ∙ sym q.answer),
-  p.exit ∙ sym q.exit,
-)
+pub generates_one : {a b c : IdAllocator} (r s : Result ℕ Refusal) → Generates a r b → Generates a s c → (r ≡ s) × (b ≡ c)
+generates_one r s p q = (says_one _ (λ n. n) (λ x. refl) r s (p.answer ∙ sym q.answer), p.exit ∙ sym q.exit)
 
 -- and of the lent `update_xid_range` too.
-back_updated : Answer (Unit {0}) → Updated
-back_updated (gives u) = Updated.Done
-back_updated (refuses n) = Updated.Refused (refusal_of n)
-
-pub updates_one : {a b c : IdAllocator} {start count : ℕ} (r s : Updated) → Updates a start count r b → Updates a start count s c → (r ≡ s) × (b ≡ c)
-unfolding back_updated
-updates_one r s p q = (
-  decides says_updated back_updated (elim [ Updated.Done ↦ refl | Updated.Refused r ↦ ap Updated.Refused (listed r) ]) r s (p.answer ∙ sym q.answer),
-  p.exit ∙ sym q.exit,
-)
+pub updates_one : {a b c : IdAllocator} {start count : ℕ} (r s : Result Unit Refusal) → Updates a start count r b → Updates a start count s c → (r ≡ s) × (b ≡ c)
+updates_one r s p q = (says_one _ (λ x. x) (λ x. refl) r s (p.answer ∙ sym q.answer), p.exit ∙ sym q.exit)
 
 -- A sound allocator that is lent is sound afterwards, refused or not.
-pub generates_sound : {a b : IdAllocator} {r : NextId} → Sound a → Generates a r b → Sound b
+pub generates_sound : {a b : IdAllocator} {r : Result ℕ Refusal} → Sound a → Generates a r b → Sound b
 generates_sound {a} s p = subst Sound (sym p.exit) (go (generated a) refl)
   where
     go : (x : Answer (ℕ × IdAllocator)) → generated a ≡ x → Sound (next_of a x)
     go (gives q) e = generate_sound a e
     go (refuses n) e = s
 
-pub updates_sound : {a b : IdAllocator} {start count : ℕ} {r : Updated} → Sound a → Updates a start count r b → Sound b
+pub updates_sound : {a b : IdAllocator} {start count : ℕ} {r : Result Unit Refusal} → Sound a → Updates a start count r b → Sound b
 updates_sound {a} {start = start} {count = count} s p = subst Sound (sym p.exit) (go (updated a start count) refl)
   where
     go : (x : Answer IdAllocator) → updated a start count ≡ x → Sound (taken_up a x)
@@ -137,12 +108,12 @@ updates_sound {a} {start = start} {count = count} s p = subst Sound (sym p.exit)
     go (refuses n) e = s
 
 -- Lent calls in a row, call i from state i to the next: they find and leave the allocators that calls by value hand on,
-pub lent_state : (state : ℕ → IdAllocator) (said : ℕ → NextId) → ((i : ℕ) → Generates (state i) (said i) (state (suc i))) → (i : ℕ) → state i ≡ after_calls i (state 0)
+pub lent_state : (state : ℕ → IdAllocator) (said : ℕ → Result ℕ Refusal) → ((i : ℕ) → Generates (state i) (said i) (state (suc i))) → (i : ℕ) → state i ≡ after_calls i (state 0)
 unfolding after_calls
 lent_state state said each zero = refl
 lent_state state said each (suc i) = (each i).exit ∙ ap (λ (a : IdAllocator). next_of a (generated a)) (lent_state state said each i)
 
 -- and give the same ids and refusals. So what `Run` and `EveryId` say of calls in a row, they say of lent calls.
-pub lent_call : (state : ℕ → IdAllocator) (said : ℕ → NextId) → ((i : ℕ) → Generates (state i) (said i) (state (suc i))) → (i : ℕ) → says_next (said i) ≡ call i (state 0)
+pub lent_call : (state : ℕ → IdAllocator) (said : ℕ → Result ℕ Refusal) → ((i : ℕ) → Generates (state i) (said i) (state (suc i))) → (i : ℕ) → says_next (said i) ≡ call i (state 0)
 unfolding call
 lent_call state said each i = (each i).answer ∙ ap (λ (a : IdAllocator). id_of (generated a)) (lent_state state said each i)

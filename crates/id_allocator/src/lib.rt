@@ -24,7 +24,7 @@ ghost use Rattle.std.specs.Prelude.{◌≡◌, ◌≤◌};
 ghost use Rattle.id_allocator.specs.Ids.{bits, lowest_bit, sound, no_ids};
 ghost use Rattle.id_allocator.specs.Promises.{MakesIds, GivesId, TakesRange};
 
-pub use lent::{IdTurn, NextId, RangeTurn, Updated, generate_id, update_xid_range};
+pub use lent::{generate_id, update_xid_range};
 use refusal::Refusal;
 
 // Ids are below 2^32.
@@ -41,22 +41,11 @@ pub struct IdAllocator {
     pub step: u64,
 }
 
-// The answer of `new` and of `update_xid_range`.
+// What `generate_id` gives: the id, and the allocator to go on with.
 #[derive(Clone, Copy)]
-pub enum Ids {
-    // The allocator to go on with.
-    Ready(IdAllocator),
-    // 10 for `new`; 9, 11 or 12 for `update_xid_range`.
-    Refused(Refusal),
-}
-
-// The answer of `generate_id`.
-#[derive(Clone, Copy)]
-pub enum Generated {
-    // The id, and the allocator to go on with.
-    Id(u32, IdAllocator),
-    // 9 or 11.
-    Refused(Refusal),
+pub struct Generated {
+    pub id: u32,
+    pub next: IdAllocator,
 }
 
 // The right-most set bit, as the Rust finds it: of 0b110 this is 0b010.
@@ -105,63 +94,53 @@ fn is_none(start: u32, count: u32) -> bool
 impl IdAllocator {
     // Create an allocator. The arguments are the `resource_id_base` and the `resource_id_mask` that
     // the server sent in its setup. Refuses a mask of 0.
-    pub fn new(base: u32, mask: u32) -> Ids
+    pub fn new(base: u32, mask: u32) -> Result<IdAllocator, Refusal>
         ensures { MakesIds base mask result }
     {
         if mask == 0 {
-            return Ids::Refused(Refusal::ZeroMask);
+            return Err(Refusal::ZeroMask);
         }
         let next = base as u64;
         let last = (base | mask) as u64;
         let step = lowest_bit(mask) as u64;
-        Ids::Ready(IdAllocator {
-            next: next,
-            last: last,
-            step: step,
-        })
+        Ok(IdAllocator { next, last, step })
     }
 
     // Generate the next id. Refuses when no id is left.
-    pub fn generate_id(self) -> Generated
+    pub fn generate_id(self) -> Result<Generated, Refusal>
         ensures { GivesId self result }
     {
         if !is_sound(self) {
-            return Generated::Refused(Refusal::BadRoom);
+            return Err(Refusal::BadRoom);
         }
         if self.next > self.last {
-            return Generated::Refused(Refusal::IdsExhausted);
+            return Err(Refusal::IdsExhausted);
         }
         let id = self.next as u32;
-        let next = self.next + self.step;
-        Generated::Id(
-            id,
-            IdAllocator {
-                next: next,
-                last: self.last,
-                step: self.step,
-            },
-        )
+        let mut next = self;
+        next.next += self.step;
+        Ok(Generated { id, next })
     }
 
     // Go on with the ids of a GetXIDRange reply, its start and its count. Refuses a range without
     // ids, and one that does not end below 2^32.
-    pub fn update_xid_range(self, start: u32, count: u32) -> Ids
+    pub fn update_xid_range(self, start: u32, count: u32) -> Result<IdAllocator, Refusal>
         ensures { TakesRange self start count result }
     {
         if !is_sound(self) {
-            return Ids::Refused(Refusal::BadRoom);
+            return Err(Refusal::BadRoom);
         }
         if is_none(start, count) {
-            return Ids::Refused(Refusal::IdsExhausted);
+            return Err(Refusal::IdsExhausted);
         }
         let span = (count as u64 - 1) * self.step;
         let last = start as u64 + span;
         if last >= LIMIT {
-            return Ids::Refused(Refusal::BadRange);
+            return Err(Refusal::BadRange);
         }
-        Ids::Ready(IdAllocator {
+        Ok(IdAllocator {
             next: start as u64,
-            last: last,
+            last,
             step: self.step,
         })
     }

@@ -1,5 +1,5 @@
 -- The short way in: an event whose record goes behind the window as it stands, and that this is the step. Assumes nothing.
-use Rattle.std.specs.Prelude.{◌≡◌, true, false, List, ℕ, ◌+◌, ◌≤◌}
+use Rattle.std.specs.Prelude.{◌≡◌, true, false, List, ℕ, ◌+◌, ◌≤◌, Option, Some, None, Result, Ok}
 use Rattle.std.proofs.Math.Path.{refl, ap}
 use Rattle.std.proofs.Common.{sym, ◌∙◌, arith}
 use Rattle.std.proofs.Math.ListN.{length}
@@ -8,7 +8,6 @@ use Rattle.octets.specs.Logic.{both}
 use Rattle.refusal.specs.Answer.{Answer, gives, refuse, pass}
 use Rattle.sequence.specs.Numbering.{last_number, says_full}
 use Rattle.sequence.specs.declared.SequenceNumber.{SequenceNumber}
-use Rattle.sequence.specs.declared.Full.{Full}
 use Rattle.packet.specs.Packet.{least_packet, most_packet, code_of, packet_class, is_event}
 use Rattle.held.specs.Head.{header_size, held, event}
 use Rattle.held.specs.Reading.{used}
@@ -19,13 +18,13 @@ use Rattle.model.specs.Model as Model
 use Rattle.model.specs.Reading.{rooms}
 use Rattle.model.specs.declared.Connection.{Connection}
 use Rattle.model.specs.declared.Place.TheVariants as Place
-use Rattle.intake.specs.declared.event.Plain.{Plain}
 use Rattle.filing.specs.Plan.{task, packet_number_in, asked_in, over_room, plan_by, plan_of, numbered_state}
 use Rattle.filing.specs.Planned.{plan_file}
 use Rattle.filing.specs.Theorems.{event_place, event_claims}
 use Rattle.model.specs.Moved.{moved_state}
 use Rattle.intake.specs.Exact.{Takeable, filing, carried_out, enqueue_exact}
 use Rattle.intake.specs.Steps.{file_event}
+use Rattle.refusal.specs.declared.Refusal.{Refusal}
 
 -- what is asked of the state: the window lies in its store, and the last written is a full number
 pub record Writable (c : Connection) (s : List ℕ) : Type 0 where
@@ -45,9 +44,9 @@ pub record PlainEvent (c : Connection) (s p : List ℕ) (n : ℕ) : Type 0 where
   pub asked : ahead (code_of p) n c.written ≡ false
   pub stays_there : stays c.window s (header_size + length p) ≡ true
 
-abbrev pub IsPlain : Connection → List ℕ → List ℕ → Plain → Type 0
-IsPlain c s p (Plain.Event n) = PlainEvent c s p n.0
-IsPlain c s p Plain.Other = Unit {0}
+abbrev pub IsPlain : Connection → List ℕ → List ℕ → Option SequenceNumber → Type 0
+IsPlain c s p (Some n) = PlainEvent c s p n.0
+IsPlain c s p None = Unit {0}
 
 -- THE SHORT WAY leaves what the step gives, whatever the rooms that it is not lent.
 pub record PlainStep (c : Connection) (s p : List ℕ) (n : ℕ) (a : Connection) (s' : List ℕ) : Type 0 where
@@ -55,7 +54,7 @@ pub record PlainStep (c : Connection) (s p : List ℕ) (n : ℕ) (a : Connection
 
 -- ---- laws
 
-pub plain_numbered : (c : Connection) (s p : List ℕ) (x : Full) → says_full x ≡ packet_number_in c p → (n : SequenceNumber) → x ≡ Full.Number n
+pub plain_numbered : (c : Connection) (s p : List ℕ) (x : Result SequenceNumber Refusal) → says_full x ≡ packet_number_in c p → (n : SequenceNumber) → x ≡ Ok n
     → ahead (code_of p) n.0 c.written ≡ false → is_event (packet_class p) ≡ true → least_packet ≤ length p → length p ≤ most_packet → stays c.window s (header_size + length p) ≡ true → PlainEvent c s p n.0
 plain_numbered c s p x e n g a h least most t = record { event = h; least = least; most = most; number = ap says_full (sym g) ∙ e; asked = a; stays_there = t }
 

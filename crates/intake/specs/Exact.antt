@@ -1,5 +1,5 @@
 -- A packet taken in, exactly. Assumes nothing.
-use Rattle.std.specs.Prelude.{◌≡◌, true, List, ℕ, ◌≤◌, ◌<◌, length}
+use Rattle.std.specs.Prelude.{◌≡◌, true, List, ℕ, ◌≤◌, ◌<◌, length, Result}
 use Rattle.refusal.specs.Answer.{Answer, gives, pass}
 use Rattle.requests.specs.Room.{capacity}
 use Rattle.held.specs.Head.{held, reply, event}
@@ -16,6 +16,7 @@ use Rattle.model.specs.declared.Connection.{Connection}
 use Rattle.model.specs.declared.Enqueued.{Enqueued}
 use Rattle.model.specs.declared.Place.{Place}
 use Rattle.filing.specs.Plan.{plan_of, numbered_state}
+use Rattle.refusal.specs.declared.Refusal.{Refusal}
 
 -- ---- the state
 
@@ -65,5 +66,5 @@ unfoldable pub enqueue_exact : Connection → Rooms → List ℕ → Answer (Don
 enqueue_exact c r p = pass (plan_of c r.requests p) (λ t. gives (carried_out c r p t))
 
 -- THE STEP is exact.
-pub record EnqueueStep (c : Connection) (q s f p : List ℕ) (a : Enqueued) (s' f' : List ℕ) : Type 0 where
+pub record EnqueueStep (c : Connection) (q s f p : List ℕ) (a : Result Enqueued Refusal) (s' f' : List ℕ) : Type 0 where
   pub exact : Exact same (enqueue_exact c (rooms q s f) p) (rooms q s f) (says_enqueued a) (rooms q s' f')

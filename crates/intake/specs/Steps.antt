@@ -1,11 +1,10 @@
 -- How filing and the step come out, each way. Assumes nothing.
-use Rattle.std.specs.Prelude.{◌≡◌, List, ℕ, ◌<◌, length}
+use Rattle.std.specs.Prelude.{◌≡◌, List, ℕ, ◌<◌, length, Result, Ok, Err}
 use Rattle.std.proofs.Common.{sym, ◌∙◌, subst, arith}
 use Rattle.std.proofs.Math.Path.{ap}
 use Rattle.refusal.specs.Answer.{gives, pass}
 use Rattle.refusal.specs.Numbers.{number_of}
 use Rattle.refusal.specs.declared.Refusal.{Refusal}
-use Rattle.sequence.specs.declared.SequenceNumber.{SequenceNumber}
 use Rattle.held.specs.Head.{held, reply, event}
 use Rattle.held.specs.Moves.{Leaves, appended}
 use Rattle.held.specs.declared.Window.{Window}
@@ -13,12 +12,10 @@ use Rattle.descriptors.specs.Room as Slots
 use Rattle.descriptors.specs.declared.Counts.{Counts}
 use Rattle.packet.specs.Packet.{code_of}
 use Rattle.packet.specs.Class.{says_class}
-use Rattle.packet.specs.declared.Class.{Class}
 use Rattle.model.specs.Model.{Filing}
 use Rattle.model.specs.Reading.{rooms}
 use Rattle.model.specs.Promise.{exact_refused, exact_given, same}
 use Rattle.model.specs.declared.Connection.{Connection}
-use Rattle.model.specs.declared.Enqueued.TheVariants as Enqueued
 use Rattle.model.specs.declared.Place.{Place}
 use Rattle.filing.specs.declared.Plan.{Plan}
 use Rattle.filing.specs.Plan.{says_plan, plan_of, numbered_state}
@@ -68,38 +65,38 @@ module _ (c : Connection) (s f : List ℕ) (place : Place) (k : ℕ) (p : List �
 
 -- ---- the step
 
-module _ (c : Connection) (q s f p : List ℕ) (x : Plan) (e : says_plan x ≡ plan_of c q p) where
-  pub step_stop : (r : Refusal) → x ≡ Plan.Stop r → EnqueueStep c q s f p (Enqueued.Refused r) s f
+module _ (c : Connection) (q s f p : List ℕ) (x : Result Plan Refusal) (e : says_plan x ≡ plan_of c q p) where
+  pub step_stop : (r : Refusal) → x ≡ Err r → EnqueueStep c q s f p (Err r) s f
   unfolding enqueue_exact pass
   step_stop r g = record {
     exact = exact_refused same (enqueue_exact c (rooms q s f) p) (rooms q s f) (number_of r) (ap (λ z. pass z (λ t. gives (carried_out c (rooms q s f) p t))) (ap says_plan (sym g) ∙ e));
   }
 
-  module _ (place : Place) (n : SequenceNumber) (k : ℕ) (j : Class) (g : x ≡ Plan.File place n k j) where
-    pub step_planned : Planned c q p (record { place = place; number = n.0; claimed = k; class = says_class j })
+  module _ (t : Plan) (g : x ≡ Ok t) where
+    pub step_planned : Planned c q p (record { place = t.place; number = t.number.0; claimed = t.fds; class = says_class t.class })
     step_planned = planned c q p _ (ap says_plan (sym g) ∙ e)
 
     pub step_some : 0 < length p
     step_some = omega (arith, step_planned.least)
 
-    module _ (next : Connection) (N : next ≡ numbered_state c (code_of p) n.0) where
-      pub step_may : Takeable c q s f → MayFile next s f place k (length p)
+    module _ (next : Connection) (N : next ≡ numbered_state c (code_of p) t.number.0) where
+      pub step_may : Takeable c q s f → MayFile next s f t.place t.fds (length p)
       step_may R =
           let P = step_planned in
-          subst (λ (y : Connection). MayFile y s f place k (length p)) (sym N)
+          subst (λ (y : Connection). MayFile y s f t.place t.fds (length p)) (sym N)
           (record {
             slots = R.slots;
             some = P.some;
             room = λ h. record { order = R.order; within = R.within; most = P.most; room = omega (arith, P.room h, R.store) };
           })
 
-      pub step_file : (a : Connection) (s' f' : List ℕ) → FileDone next s f place k p a s' f' → EnqueueStep c q s f p (Enqueued.Filed place n j a) s' f'
+      pub step_file : (a : Connection) (s' f' : List ℕ) → FileDone next s f t.place t.fds p a s' f' → EnqueueStep c q s f p (Ok (record { place = t.place; number = t.number; class = t.class; connection = a })) s' f'
       unfolding enqueue_exact carried_out pass
       step_file a s' f' d =
-          let v : Filing = record { place = place; number = n.0; class = says_class j } in
-          let z : record { value = v; state = a; left = rooms q s' f' } ≡ filed_as place (numbered_state c (code_of p) n.0) (rooms q s f) k p =
-          (λ i. record { value = record { place = place; number = (sym N i).read; class = step_planned.class_is i }; state = a; left = rooms q s' f' }) ∙ d.done q ∙ ap (λ (y : Connection). filed_as place y (rooms q s f) k p) N in
+          let v : Filing = record { place = t.place; number = t.number.0; class = says_class t.class } in
+          let z : record { value = v; state = a; left = rooms q s' f' } ≡ filed_as t.place (numbered_state c (code_of p) t.number.0) (rooms q s f) t.fds p =
+          (λ i. record { value = record { place = t.place; number = (sym N i).read; class = step_planned.class_is i }; state = a; left = rooms q s' f' }) ∙ d.done q ∙ ap (λ (y : Connection). filed_as t.place y (rooms q s f) t.fds p) N in
           record {
             exact = exact_given same (enqueue_exact c (rooms q s f) p) (rooms q s f) (record { value = v; state = a; left = rooms q s' f' })
-                (ap gives z ∙ ap (λ y. pass y (λ t. gives (carried_out c (rooms q s f) p t))) (ap says_plan (sym g) ∙ e));
+                (ap gives z ∙ ap (λ y. pass y (λ u. gives (carried_out c (rooms q s f) p u))) (ap says_plan (sym g) ∙ e));
           }

@@ -9,7 +9,7 @@ use Rattle.held.specs.Theorems as Held
 use Rattle.descriptors.specs.Theorems as Fds
 use Rattle.packet.specs.Laws.{number_bounds}
 use Rattle.model.specs.Client.{Client, arriving, set_waiting}
-use Rattle.model.specs.Model.{claimed, filed, Filing, numbered, Task, take_in, enqueue_packet}
+use Rattle.model.specs.Model.{filed, Filing, numbered, Task, take_in, enqueue_packet}
 use Rattle.model.specs.Model as Model
 use Rattle.model.specs.Reading.{Rooms, slots_of, reads}
 use Rattle.model.specs.Promise.{Done, model_of, model_pass}

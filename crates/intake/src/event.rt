@@ -8,33 +8,21 @@ ghost use Rattle.intake.specs.Event.{Writable, IsPlain, PlainEvent, PlainStep};
 
 use held::Label;
 use model::{Connection, moved};
-use sequence::{Full, SequenceNumber};
+use sequence::SequenceNumber;
 
-// What an event is: one that goes the short way, with that number, or another.
-#[derive(Clone, Copy)]
-pub enum Plain {
-    Event(SequenceNumber),
-    Other,
-}
-
-pub fn plain_of(c: Connection, store: &[u8], packet: &[u8]) -> Plain
+pub fn plain_of(c: Connection, store: &[u8], packet: &[u8]) -> Option<SequenceNumber>
     requires { Writable c store.now × (least_packet ≤ length packet.now) × (length packet.now ≤ most_packet) × (is_event (packet_class packet.now) ≡ true) }
     ensures { IsPlain c store.now packet.now result }
 {
     let window = c.window;
     if !held::stays(store, window, held::HEADER + packet.len()) {
-        return Plain::Other;
+        return None;
     }
-    match packet::number_after(c.order, SequenceNumber(c.read), packet) {
-        Full::Number(number) => {
-            if filing::is_ahead(packet[0], number.0, c.written) {
-                Plain::Other
-            } else {
-                Plain::Event(number)
-            }
-        }
-        Full::Refused(_) => Plain::Other,
+    let number = packet::number_after(c.order, SequenceNumber(c.read), packet).ok()?;
+    if filing::is_ahead(packet[0], number.0, c.written) {
+        return None;
     }
+    Some(number)
 }
 
 // Such an event is taken in.

@@ -12,10 +12,10 @@ mod event;
 ghost use Rattle.std.specs.Prelude.{length};
 ghost use Rattle.intake.specs.Exact.{Takeable, MayFile, FileDone, EnqueueStep};
 
-pub use event::{Plain, plain_of, take_plain};
-use filing::Plan;
+pub use event::{plain_of, take_plain};
 use held::Label;
 use model::{Connection, Enqueued, Place, moved};
+use refusal::Refusal;
 
 // A packet is filed under the last number read, with so many descriptors.
 fn file(
@@ -35,7 +35,7 @@ fn file(
     match place {
         Place::Replies => {
             let label = Label {
-                number: number,
+                number,
                 fds: claim,
                 kind: held::IN_REPLIES,
             };
@@ -45,7 +45,7 @@ fn file(
         }
         Place::Events => {
             let label = Label {
-                number: number,
+                number,
                 fds: 0,
                 kind: held::IN_EVENTS,
             };
@@ -68,16 +68,17 @@ pub fn enqueue_packet(
     store: &mut [u8],
     slots: &mut [u32],
     packet: &[u8],
-) -> Enqueued
+) -> Result<Enqueued, Refusal>
     requires { Takeable c requests.now store.old slots.old }
     ensures { EnqueueStep c requests.now store.old slots.old packet.now result store.new slots.new }
 {
-    match filing::plan_of(c, requests, packet) {
-        Plan::File(place, number, claim, class) => {
-            let next = filing::numbered(c, packet[0], number.0);
-            let filed = file(next, store, slots, place, claim, packet);
-            Enqueued::Filed(place, number, class, filed)
-        }
-        Plan::Stop(refusal) => Enqueued::Refused(refusal),
-    }
+    let plan = filing::plan_of(c, requests, packet)?;
+    let next = filing::numbered(c, packet[0], plan.number.0);
+    let connection = file(next, store, slots, plan.place, plan.fds, packet);
+    Ok(Enqueued {
+        place: plan.place,
+        number: plan.number,
+        class: plan.class,
+        connection,
+    })
 }

@@ -1,57 +1,39 @@
 // The handshake.
-use crate::{Leaves, Turned, moves, refused, roomed};
-use connect::{Advanced, Capacity, Connect, Made};
+use crate::{moves, roomed};
+use connect::{Advanced, Connect};
 use refusal::Refusal;
-use text::Answer;
+use text::{Answer, Span, Word};
 
 // Its buffer.
 fn buffer<'a>(bytes: &'a [u8]) -> &'a [u8] {
     text::cut(bytes, crate::SETUP, crate::END)
 }
 
-fn with(leaves: Leaves, handshake: Connect, answer: Answer) -> Turned {
-    let mut next = leaves;
-    next.handshake = handshake;
-    Turned {
-        leaves: next,
-        answer: answer,
-    }
-}
-
-pub(crate) fn new(leaves: Leaves, order: u8, bytes: &[u8]) -> Turned {
-    match Connect::new(order, buffer(bytes)) {
-        Made::Handshake(handshake) => with(leaves, handshake, text::say(text::OK)),
-        Made::Refused(refusal) => refused(leaves, refusal),
-    }
+pub(crate) fn new(now: &mut Connect, order: u8, bytes: &[u8]) -> Result<Answer, Refusal> {
+    *now = Connect::new(order, buffer(bytes))?;
+    Ok(text::say(Word::Ok))
 }
 
 // How many bytes the handshake's part takes.
-fn room(handshake: Connect, bytes: &[u8]) -> usize {
-    match handshake.remaining_capacity(buffer(bytes)) {
-        Capacity::Bytes(n) => n,
-        Capacity::Refused(_) => 0,
-    }
+fn room(now: Connect, bytes: &[u8]) -> usize {
+    now.remaining_capacity(buffer(bytes)).unwrap_or(0)
 }
 
-// The bytes from one index to another, put into the handshake's part if it takes them.
-pub(crate) fn fill(leaves: Leaves, bytes: &mut [u8], from: usize, end: usize) -> Turned {
-    let handshake = leaves.handshake;
-    let n = moves::count(from, end);
-    if room(handshake, bytes) < n {
-        return refused(leaves, Refusal::OverAdvance);
+// Bytes of the run, put into the handshake's part if it takes them.
+pub(crate) fn fill(now: Connect, run: &mut [u8], bytes: Span) -> Result<Answer, Refusal> {
+    if room(now, run) < bytes.length() {
+        return Err(Refusal::OverAdvance);
     }
-    moves::put(bytes, from, text::behind(crate::SETUP, handshake.filled), n);
-    Turned {
-        leaves: leaves,
-        answer: text::say(text::OK),
-    }
+    moves::put(run, bytes, crate::SETUP.saturating_add(now.filled));
+    Ok(text::say(Word::Ok))
 }
 
-pub(crate) fn advance(leaves: Leaves, bytes: &[u8], n: usize) -> Turned {
-    let handshake = leaves.handshake;
-    match handshake.advance(buffer(bytes), n) {
-        Advanced::NotYet(next) => with(leaves, next, roomed(text::FALSE, room(next, bytes))),
-        Advanced::Complete(next) => with(leaves, next, roomed(text::TRUE, room(next, bytes))),
-        Advanced::Refused(refusal) => refused(leaves, refusal),
-    }
+pub(crate) fn advance(now: &mut Connect, bytes: &[u8], n: usize) -> Result<Answer, Refusal> {
+    let handshake = *now;
+    let (word, next) = match handshake.advance(buffer(bytes), n)? {
+        Advanced::NotYet(next) => (Word::False, next),
+        Advanced::Complete(next) => (Word::True, next),
+    };
+    *now = next;
+    Ok(roomed(word, room(next, bytes)))
 }

@@ -1,6 +1,5 @@
 // Inside: a packet reader, a handshake and an allocator of ids, for a program that reads calls from
-// a script. State and answer come back side by side, and a refused call hands back the state that it
-// was given.
+// a script. They are lent to a call, and a refused one leaves them as they were.
 //
 // One lent run of bytes holds the buffers of reader and handshake, each at its own place, and the
 // bytes that a script puts into them somewhere behind. No call has a `requires`: where the run is
@@ -17,8 +16,8 @@ use id_allocator::IdAllocator;
 use packet_reader::PacketReader;
 pub use reader::{Buffered, Fed, feed, room};
 use refusal::Refusal;
-use script::Op;
-use text::Answer;
+use script::Leaf;
+use text::{Answer, Word};
 
 // Where the reader's buffer begins, where the longest ends and that of the handshake begins, and
 // where that ends.
@@ -32,13 +31,7 @@ pub const END: usize = 393220;
 pub struct Leaves {
     pub reader: Buffered,
     pub handshake: Connect,
-    pub ids: IdAllocator,
-}
-
-#[derive(Clone, Copy)]
-pub struct Turned {
-    pub leaves: Leaves,
-    pub answer: Answer,
+    pub ids: Option<IdAllocator>,
 }
 
 // What a script finds before its first line: a reader and a handshake in an order, and no ids.
@@ -46,66 +39,42 @@ pub fn fresh(order: u8) -> Leaves {
     Leaves {
         reader: Buffered {
             reader: PacketReader {
-                order: order,
+                order,
                 filled: 0,
                 target: packet::LEAST_PACKET,
             },
             room: SETUP - READER,
         },
         handshake: Connect {
-            order: order,
+            order,
             filled: 0,
             target: connect::HEAD,
         },
-        ids: IdAllocator {
-            next: 0,
-            last: 0,
-            step: 0,
-        },
+        ids: None,
     }
 }
 
 // A call. New readers and handshakes have the given order.
-pub fn make(leaves: Leaves, op: Op, order: u8, bytes: &mut [u8]) -> Turned {
-    let code = op.code;
-    let a = op.a;
-    let b = op.b;
-    match code {
-        script::READER => {
-            return reader::new(leaves, order, bytes);
-        }
-        script::ROOM => {
-            return reader::left(leaves, bytes);
-        }
-        script::FILL => {
-            return reader::fill(leaves, bytes, a as usize, b as usize);
-        }
-        script::ADVANCE => {
-            return reader::advance(leaves, bytes, a as usize);
-        }
-        script::HELLO => {
-            return handshake::new(leaves, order, bytes);
-        }
-        script::HFILL => {
-            return handshake::fill(leaves, bytes, a as usize, b as usize);
-        }
-        script::HADVANCE => {
-            return handshake::advance(leaves, bytes, a as usize);
-        }
-        _ => {
-            return ids::make(leaves, op);
-        }
-    }
+pub fn make(leaves: &mut Leaves, leaf: Leaf, order: u8, bytes: &mut [u8]) -> Answer {
+    done(leaves, leaf, order, bytes).unwrap_or_else(text::refusal)
 }
 
-pub(crate) fn refused(leaves: Leaves, refusal: Refusal) -> Turned {
-    Turned {
-        leaves: leaves,
-        answer: text::refusal(refusal),
+fn done(leaves: &mut Leaves, leaf: Leaf, order: u8, bytes: &mut [u8]) -> Result<Answer, Refusal> {
+    match leaf {
+        Leaf::Reader => reader::new(&mut leaves.reader, order, bytes),
+        Leaf::Room => reader::left(leaves.reader, bytes),
+        Leaf::Fill(span) => reader::fill(leaves.reader, bytes, span),
+        Leaf::Advance(n) => reader::advance(&mut leaves.reader, bytes, n),
+        Leaf::Hello => handshake::new(&mut leaves.handshake, order, bytes),
+        Leaf::HelloFill(span) => handshake::fill(leaves.handshake, bytes, span),
+        Leaf::HelloAdvance(n) => handshake::advance(&mut leaves.handshake, bytes, n),
+        Leaf::Ids { base, mask } => ids::begin(&mut leaves.ids, base, mask),
+        Leaf::Generate => ids::generate(&mut leaves.ids),
+        Leaf::Range { start, count } => ids::range(&mut leaves.ids, start, count),
     }
 }
 
 // A word, and the room that is left.
-pub(crate) fn roomed(word: u64, room: usize) -> Answer {
-    text::also(word, text::ROOM, room as u64)
+pub(crate) fn roomed(word: Word, room: usize) -> Answer {
+    text::also(Some(word), Word::Room, room as u64)
 }

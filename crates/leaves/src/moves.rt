@@ -1,23 +1,11 @@
 // Moves within the run of bytes.
+use text::Span;
 
-// The n bytes from an index on, put to another, where both runs are there.
-pub(crate) fn put(bytes: &mut [u8], from: usize, to: usize, n: usize) {
-    if bytes.len() < n {
+// Bytes of it, put to an index, where both runs are there.
+pub(crate) fn put(run: &mut [u8], bytes: Span, to: usize) {
+    let n = bytes.length();
+    if run.len() < n || run.len() - n < bytes.from || run.len() - n < to {
         return;
     }
-    if bytes.len() - n < from {
-        return;
-    }
-    if bytes.len() - n < to {
-        return;
-    }
-    octets::slide(bytes, from, to, n);
-}
-
-// How many bytes there are from one index to another.
-pub(crate) fn count(from: usize, end: usize) -> usize {
-    if end < from {
-        return 0;
-    }
-    end - from
+    octets::slide(run, bytes.from, to, n);
 }

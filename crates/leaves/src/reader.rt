@@ -1,9 +1,8 @@
 // The packet reader.
-use crate::{Leaves, Turned, moves, refused, roomed};
-use packet::Class;
-use packet_reader::{Advanced, Capacity, Made, PacketReader};
+use crate::{moves, roomed};
+use packet_reader::{Advanced, Framed, PacketReader};
 use refusal::Refusal;
-use text::Answer;
+use text::{Answer, Span, Word};
 
 // A reader, and how long its buffer is.
 #[derive(Clone, Copy)]
@@ -14,123 +13,79 @@ pub struct Buffered {
 
 // A buffer of so many bytes.
 fn buffer<'a>(room: usize, bytes: &'a [u8]) -> &'a [u8] {
-    text::cut(bytes, crate::READER, text::behind(crate::READER, room))
-}
-
-fn on(now: Buffered, reader: PacketReader) -> Buffered {
-    let mut next = now;
-    next.reader = reader;
-    next
-}
-
-fn with(leaves: Leaves, reader: Buffered, answer: Answer) -> Turned {
-    let mut next = leaves;
-    next.reader = reader;
-    Turned {
-        leaves: next,
-        answer: answer,
-    }
+    Span::at(crate::READER, room).of(bytes)
 }
 
 // One with the longest buffer.
-pub(crate) fn new(leaves: Leaves, order: u8, bytes: &[u8]) -> Turned {
+pub(crate) fn new(now: &mut Buffered, order: u8, bytes: &[u8]) -> Result<Answer, Refusal> {
     let room = crate::SETUP - crate::READER;
-    match PacketReader::new(order, buffer(room, bytes)) {
-        Made::Reader(reader) => with(
-            leaves,
-            Buffered {
-                reader: reader,
-                room: room,
-            },
-            text::say(text::OK),
-        ),
-        Made::Refused(refusal) => refused(leaves, refusal),
-    }
+    let reader = PacketReader::new(order, buffer(room, bytes))?;
+    *now = Buffered { reader, room };
+    Ok(text::say(Word::Ok))
+}
+
+fn capacity(now: Buffered, bytes: &[u8]) -> Result<usize, Refusal> {
+    let reader = now.reader;
+    reader.remaining_capacity(buffer(now.room, bytes))
 }
 
 // How many bytes the reader's part takes.
 pub fn room(now: Buffered, bytes: &[u8]) -> usize {
+    capacity(now, bytes).unwrap_or(0)
+}
+
+pub(crate) fn left(now: Buffered, bytes: &[u8]) -> Result<Answer, Refusal> {
+    let n = capacity(now, bytes)?;
+    Ok(text::count(Some(Word::Room), n as u64))
+}
+
+// Bytes of the run, put into the reader's part if it takes them.
+pub(crate) fn fill(now: Buffered, run: &mut [u8], bytes: Span) -> Result<Answer, Refusal> {
+    if room(now, run) < bytes.length() {
+        return Err(Refusal::OverAdvance);
+    }
+    put(now.reader, run, bytes);
+    Ok(text::say(Word::Ok))
+}
+
+fn put(reader: PacketReader, run: &mut [u8], bytes: Span) {
+    moves::put(run, bytes, crate::READER.saturating_add(reader.filled));
+}
+
+pub(crate) fn advance(now: &mut Buffered, bytes: &[u8], n: usize) -> Result<Answer, Refusal> {
+    match step(now, bytes, n)? {
+        Some(framed) => Ok(text::shown(Some(Word::Packet), crate::READER, framed.length)),
+        None => Ok(roomed(Word::None, room(*now, bytes))),
+    }
+}
+
+// So many bytes more are filled; the packet, if they made one whole.
+fn step(now: &mut Buffered, bytes: &[u8], n: usize) -> Result<Option<Framed>, Refusal> {
     let reader = now.reader;
-    match reader.remaining_capacity(buffer(now.room, bytes)) {
-        Capacity::Bytes(n) => n,
-        Capacity::Refused(_) => 0,
+    match reader.advance(buffer(now.room, bytes), n)? {
+        Advanced::NotYet(next) => {
+            now.reader = next;
+            Ok(None)
+        }
+        Advanced::Packet(length, class, next) => {
+            now.reader = next;
+            Ok(Some(Framed { length, class }))
+        }
     }
 }
 
-pub(crate) fn left(leaves: Leaves, bytes: &[u8]) -> Turned {
-    let now = leaves.reader;
-    let reader = now.reader;
-    match reader.remaining_capacity(buffer(now.room, bytes)) {
-        Capacity::Bytes(n) => Turned {
-            leaves: leaves,
-            answer: text::count(text::ROOM, n as u64),
-        },
-        Capacity::Refused(refusal) => refused(leaves, refusal),
-    }
-}
-
-// The bytes from one index to another, put into the reader's part if it takes them.
-pub(crate) fn fill(leaves: Leaves, bytes: &mut [u8], from: usize, end: usize) -> Turned {
-    let now = leaves.reader;
-    let n = moves::count(from, end);
-    if room(now, bytes) < n {
-        return refused(leaves, Refusal::OverAdvance);
-    }
-    put(now.reader, bytes, from, n);
-    Turned {
-        leaves: leaves,
-        answer: text::say(text::OK),
-    }
-}
-
-fn put(reader: PacketReader, bytes: &mut [u8], from: usize, n: usize) {
-    let to = text::behind(crate::READER, reader.filled);
-    moves::put(bytes, from, to, n);
-}
-
-pub(crate) fn advance(leaves: Leaves, bytes: &[u8], n: usize) -> Turned {
-    let now = leaves.reader;
-    let reader = now.reader;
-    match reader.advance(buffer(now.room, bytes), n) {
-        Advanced::NotYet(next) => waiting(leaves, on(now, next), bytes),
-        Advanced::Packet(len, _, next) => with(
-            leaves,
-            on(now, next),
-            text::shown(text::PACKET, crate::READER, len),
-        ),
-        Advanced::Refused(refusal) => refused(leaves, refusal),
-    }
-}
-
-fn waiting(leaves: Leaves, next: Buffered, bytes: &[u8]) -> Turned {
-    with(leaves, next, roomed(text::NONE, room(next, bytes)))
-}
-
-// What some bytes came to: how many were used, and the reader to go on with; and a packet of so
-// many bytes at the start of its buffer, with its class, where they made one whole.
+// What some bytes came to: how many were used, and the packet at the start of the reader's buffer
+// where they made one whole.
 #[derive(Clone, Copy)]
-pub enum Fed {
-    NotYet(usize, Buffered),
-    Packet(usize, usize, Class, Buffered),
-    Refused(Refusal),
+pub struct Fed {
+    pub used: usize,
+    pub packet: Option<Framed>,
 }
 
-// The bytes from one index to another, as many of them as the reader's part takes.
-pub fn feed(now: Buffered, bytes: &mut [u8], from: usize, end: usize) -> Fed {
-    let n = least(room(now, bytes), moves::count(from, end));
-    let reader = now.reader;
-    put(reader, bytes, from, n);
-    happened(now, n, reader.advance(buffer(now.room, bytes), n))
-}
-
-fn happened(now: Buffered, n: usize, answer: Advanced) -> Fed {
-    match answer {
-        Advanced::NotYet(next) => Fed::NotYet(n, on(now, next)),
-        Advanced::Packet(len, class, next) => Fed::Packet(n, len, class, on(now, next)),
-        Advanced::Refused(refusal) => Fed::Refused(refusal),
-    }
-}
-
-fn least(a: usize, b: usize) -> usize {
-    if a < b { a } else { b }
+// Bytes of the run, as many of them as the reader's part takes.
+pub fn feed(now: &mut Buffered, run: &mut [u8], bytes: Span) -> Result<Fed, Refusal> {
+    let used = room(*now, run).min(bytes.length());
+    put(now.reader, run, bytes.take(used));
+    let packet = step(now, run, used)?;
+    Ok(Fed { used, packet })
 }

@@ -15,7 +15,7 @@ use Rattle.model.specs.Client.{Held, Client, used, inside}
 use Rattle.model.specs.Deciding.{filed_by}
 use Rattle.model.proofs.Deciding.{enqueue_chain}
 use Rattle.model.specs.Model as Model
-use Rattle.model.specs.Model.{has_reply, joining, send_request, enqueue_fds, take_closed, packet_number, asked_of, claimed, take_in, enqueue_packet, discard_reply, Found, at, find, Taken, PollReply, taken_by, poll_for_reply_or_error, checked_by, poll_check, replied_by, poll_for_reply, event_by, poll_for_event}
+use Rattle.model.specs.Model.{has_reply, send_request, enqueue_fds, take_closed, packet_number, asked_of, claimed, enqueue_packet, discard_reply, Found, at, find, Taken, PollReply, taken_by, poll_for_reply_or_error, checked_by, poll_check, replied_by, poll_for_reply, event_by, poll_for_event}
 use Rattle.model.specs.Batch.{Turn, goes, stops, Many, onward, on_turn, many, Stop, ended, refused, meaningless, model_turn}
 use Rattle.model.specs.SendRequests.{send_requests}
 use Rattle.model.specs.PollForEvents.{turns, Lent, lent, room_for, handing, event_turn, Handings, or_refused, handed, poll_for_events}

@@ -1,5 +1,5 @@
 -- THE THEOREMS over whole calls, statements alone: each is proved by a law of another file. Assumes nothing.
-use Rattle.std.specs.Prelude.{true, List, ◌∷◌, ◌++◌, ◌↔◌, ◌≡◌, refl, ℕ, ◌+◌, ◌-◌, ◌≤◌, length, take, drop}
+use Rattle.std.specs.Prelude.{true, List, ◌∷◌, ◌++◌, ◌↔◌, ◌≡◌, refl, ℕ, ◌+◌, ◌-◌, ◌≤◌, length, take, drop, Result}
 use Rattle.std.proofs.Common.{sym}
 use Rattle.octets.specs.Put.{put}
 use Rattle.refusal.specs.Answer.{Answer, gives, refuses}
@@ -26,7 +26,6 @@ use Rattle.model.specs.Feed.{Feeding, bytes_taken}
 use Rattle.model.specs.declared.Connection.{Connection}
 use Rattle.model.specs.declared.DiscardMode.{DiscardMode}
 use Rattle.model.specs.declared.ReplyFdKind.{ReplyFdKind}
-use Rattle.model.specs.declared.Next.{Next}
 use Rattle.batch.specs.Feed.{enqueue_packets}
 use Rattle.savepoint.specs.Calls.{Laid, Values, Saves, Restores}
 use Rattle.connection.specs.Calls.{Opens, Discards, PollsReply, SendsMany, PollsEvents}
@@ -57,6 +56,7 @@ use Rattle.ledger.proofs.Many as ManyLaws
 use Rattle.ledger.specs.Again as Again
 use Rattle.ledger.proofs.StateLaws as StateLaws
 use Rattle.ledger.specs.Needed as Part
+use Rattle.refusal.specs.declared.Refusal.{Refusal}
 
 -- ---- 1. SOUND EXACTLY
 
@@ -163,7 +163,7 @@ module _ (c : Connection) (r : Rooms) (n : ℕ) where
 -- ---- 6. ONE OUTCOME: there is one, and only one; a refusal leaves all as found
 
 -- Any two answers that the promise of `new` allows are equal.
-pub new_one : (o : ℕ) (r : Rooms) (a b : Next) → Opens o r (says_next a) → Opens o r (says_next b) → a ≡ b
+pub new_one : (o : ℕ) (r : Rooms) (a b : Result Connection Refusal) → Opens o r (says_next a) → Opens o r (says_next b) → a ≡ b
 new_one o r a b p q = opens_one o r a b p q
 
 -- Whatever state and rooms any other public call is given, there is an outcome that its promise allows,

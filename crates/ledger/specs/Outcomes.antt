@@ -1,22 +1,22 @@
 -- Any two outcomes that the promise of a public call allows are equal: the answers themselves, the rooms and every lent output; and a refusal leaves all as found. Assumes nothing.
 use Rattle.std.proofs.Math.Path.{◌≡◌}
-use Rattle.std.specs.Prelude.{refl, ℕ}
+use Rattle.std.specs.Prelude.{refl, ℕ, Bool, Result}
 use Rattle.std.proofs.Common.{sym, ap, ◌∙◌, arith}
 use Rattle.refusal.specs.Answer.{Answer, gives, refuses}
 use Rattle.model.specs.Promise.{Done, answer_of, rooms_of, guarded}
 use Rattle.model.specs.Reading.{Rooms}
-use Rattle.model.specs.Says.{says_next, says_sent, says_enqueued, says_polled, says_poll_reply, says_event, says_closed, says_prepared, next_one, sent_one_lem, enqueued_one, polled_one, poll_reply_one, event_one, closed_one, prepared_one}
+use Rattle.model.specs.Says.{says_next, says_sent, says_enqueued, says_polled, says_poll_reply, says_closed, says_prepared, next_one, sent_one_lem, enqueued_one, polled_one, poll_reply_one, closed_one, prepared_one}
 use Rattle.model.specs.Feed.{says_fed, fed_one}
 use Rattle.model.specs.SaysBatch.{says_sent_many, says_events, sent_many_one, events_one}
 use Rattle.model.specs.declared.Connection.{Connection}
-use Rattle.model.specs.declared.Prepared.{Prepared}
 use Rattle.connection.specs.Theorems.{one_outcome}
 use Rattle.session.specs.Ask.{Ask, send_request_ask, enqueue_fds_ask, enqueue_packet_ask, discard_reply_ask, poll_for_reply_or_error_ask, poll_check_for_reply_or_error, poll_for_reply_ask, poll_for_event_with_sequence, take_closed_fds, prepare_check_for_reply_or_error, send_requests_ask, enqueue_packets_ask, poll_for_events_ask, form, Value, Outputs, told, Answers}
 use Rattle.session.specs.AskLaws.{outputs_of, has_form}
+use Rattle.refusal.specs.declared.Refusal.{Refusal}
 
 -- ---- what a call answers
 
--- an enum, what it says of the state that the call was given, and that two that say the same are equal
+-- a type of answers, what one says of the state that the call was given, and that two that say the same are equal
 pub record Spoken (B : Type 0) : Type 1 where
   pub Enum : Type 0
   pub says : Connection → Enum → Answer (B × Connection)
@@ -35,7 +35,7 @@ unfolding told stated
 told_stated c (gives v) = refl
 told_stated c (refuses n) = refl
 
-pub stated_one : (c : Connection) (a b : Prepared) → stated c (says_prepared a) ≡ stated c (says_prepared b) → a ≡ b
+pub stated_one : (c : Connection) (a b : Result Bool Refusal) → stated c (says_prepared a) ≡ stated c (says_prepared b) → a ≡ b
 stated_one c a b e = prepared_one a b (sym (told_stated c (says_prepared a)) ∙ ap told e ∙ told_stated c (says_prepared b))
 
 abbrev pub spoken : (x : Ask) → Spoken (Value x)
@@ -46,9 +46,9 @@ spoken (discard_reply_ask n mode) = spoken_by says_next next_one
 spoken (poll_for_reply_or_error_ask n out fds) = spoken_by says_polled polled_one
 spoken (poll_check_for_reply_or_error n out) = spoken_by says_poll_reply poll_reply_one
 spoken (poll_for_reply_ask n out) = spoken_by says_poll_reply poll_reply_one
-spoken (poll_for_event_with_sequence out) = spoken_by says_event event_one
+spoken (poll_for_event_with_sequence out) = spoken_by says_polled polled_one
 spoken (take_closed_fds out) = spoken_by says_closed closed_one
-spoken (prepare_check_for_reply_or_error n) = record { Enum = Prepared; says = λ c a. stated c (says_prepared a); one = stated_one }
+spoken (prepare_check_for_reply_or_error n) = record { Enum = Result Bool Refusal; says = λ c a. stated c (says_prepared a); one = stated_one }
 spoken (send_requests_ask bytes) = spoken_by says_sent_many sent_many_one
 spoken (enqueue_packets_ask bytes) = spoken_by says_fed fed_one
 spoken (poll_for_events_ask out marks) = spoken_by says_events events_one

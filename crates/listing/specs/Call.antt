@@ -1,10 +1,11 @@
 -- What a call lists. Assumes nothing.
-use Rattle.std.specs.Prelude.{◌≡◌, Bool, List, [], ◌++◌, ℕ, zero, suc, ◌+◌, ◌-◌, ◌≤◌, ltb, length, take, drop}
+use Rattle.std.specs.Prelude.{◌≡◌, Bool, List, [], ◌++◌, ℕ, zero, suc, ◌+◌, ◌-◌, ◌≤◌, ltb, length, take, drop, Option, None, Some, Result, Ok, Err}
 use Rattle.octets.specs.Logic.{choose}
 use Rattle.octets.specs.Bytes.{little_order}
 use Rattle.octets.specs.Put.{put}
 use Rattle.refusal.specs.Answer.{Answer, gives, refuses}
 use Rattle.refusal.specs.Numbers.{number_of}
+use Rattle.refusal.specs.declared.Refusal.{Refusal}
 use Rattle.packet.specs.Packet.{code_of, number_after}
 use Rattle.packet_reader.specs.Front.{Front, nothing, part, long, whole, front_of}
 use Rattle.listing.specs.Text.{first_line, line_of, end_line, refused_line}
@@ -51,10 +52,10 @@ ahead_by read s (whole n class) = numbered_of read (take n s)
 unfoldable pub ahead_of : ℕ → List ℕ → Ahead
 ahead_of read s = ahead_by read s (front_of little_order s)
 
-abbrev pub says_next : Next → Ahead
-says_next Next.Part = none
-says_next (Next.Refused r) = refused (number_of r)
-says_next (Next.Packet n m) = packet n m.0
+abbrev pub says_next : Result (Option Next) Refusal → Ahead
+says_next (Ok None) = none
+says_next (Err r) = refused (number_of r)
+says_next (Ok (Some n)) = packet n.size n.number.0
 
 -- ---- What a call comes to
 

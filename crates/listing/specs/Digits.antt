@@ -1,11 +1,40 @@
--- The digits that `number::decimal` gives are those of the text. Assumes nothing.
-use Rattle.std.specs.Prelude.{◌≡◌, [], ◌∷◌, ◌++◌, ℕ, zero, suc, ◌+◌, ◌-◌, ◌*◌, ◌/◌, ◌%◌, ◌^◌, ◌≤◌, ◌<◌, ltb}
-use Rattle.std.proofs.Common.{subst, arith, Fits, lt-ltb, le-ltb}
+-- The digits of a number in the text: as the library writes them, and as the last ones of a number. Assumes nothing.
+use Rattle.std.specs.Prelude.{◌≡◌, List, [], ◌∷◌, ◌++◌, ℕ, zero, suc, ◌+◌, ◌-◌, ◌*◌, ◌/◌, ◌%◌, ◌^◌, ◌≤◌, ◌<◌, ltb}
+use Rattle.std.proofs.Common.{subst, ap, ◌∙◌, sym, arith, Fits, lt-ltb, le-ltb}
+use Rattle.std.proofs.lemmas.Fmt.{decimal_by_steps}
+use Rattle.std.specs.Fmt.{decimal as written}
 use Rattle.std.proofs.Math.Nat.{pow-succ', one-le-pow, pow-le-pow_right}
 use Rattle.std.proofs.Math.Decide.{dec_le}
 use Rattle.std.specs.Int.{w64}
 use Rattle.listing.specs.Number.{last_digits, IsDigitCount, hex_digit_ascii}
 use Rattle.listing.specs.Text.{digits_in, decimal}
+
+-- more turns than a number has digits change nothing
+turns_enough : (k j n : ℕ) → n < k → n < j → digits_in k (ltb n 10) n ≡ digits_in j (ltb n 10) n
+unfolding digits_in
+turns_enough zero j n f g = absurd (let z : ⊥ = omega arith in z)
+turns_enough (suc k) zero n f g = absurd (let z : ⊥ = omega arith in z)
+turns_enough (suc k) (suc j) n f g =
+    elim (dec_le 10 n) [
+      | yes l ↦
+          let r = turns_enough k j (n / 10) (omega arith) (omega arith) in
+          simp (le-ltb n 10 l) (ap (λ (d : List ℕ). d ++ ((48 + n % 10) ∷ [])) r)
+      | no q ↦ let l : n < 10 = omega arith in simp (lt-ltb n 10 l)
+    ]
+
+decimal_low : (n : ℕ) → n < 10 → decimal n ≡ (48 + n) ∷ []
+unfolding decimal digits_in
+decimal_low n h = simp (lt-ltb n 10 h)
+
+decimal_step : (n : ℕ) → 10 ≤ n → decimal n ≡ decimal (n / 10) ++ ((48 + n % 10) ∷ [])
+unfolding decimal digits_in
+decimal_step n h =
+    simp (le-ltb n 10 h) (ap (λ (d : List ℕ). d ++ ((48 + n % 10) ∷ [])) (turns_enough n (suc (n / 10)) (n / 10) (omega arith) (omega arith)))
+
+-- WHAT THE LIBRARY WRITES of a number is its decimal.
+pub written_is : (n : ℕ) → n < 2 ^ 64 → written n ≡ decimal n
+written_is n h =
+    decimal_by_steps (λ m ds. ds ≡ decimal m) (λ m l. sym (decimal_low m l)) (λ m ds l e. ap (λ (d : List ℕ). d ++ ((48 + m % 10) ∷ [])) e ∙ sym (decimal_step m l)) n h
 
 -- a power more is ten times as much
 ten : (k : ℕ) → 10 ^ suc k ≡ 10 * 10 ^ k

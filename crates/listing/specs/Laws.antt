@@ -1,15 +1,13 @@
 -- Laws of lines as they are written, and of what bytes begin with. Assumes nothing.
-use Rattle.std.specs.Prelude.{◌≡◌, refl, Bool, true, false, List, [], ◌∷◌, ◌++◌, ℕ, ◌+◌, ◌≤◌, ◌<◌, length, take, set}
+use Rattle.std.specs.Prelude.{◌≡◌, refl, Bool, true, false, List, [], ◌∷◌, ◌++◌, ℕ, ◌+◌, ◌≤◌, ◌<◌, length, take, set, Option, Some, Result, Ok, Err}
 use Rattle.std.proofs.Common.{sym, ◌∙◌, subst, arith, length-append, length-take-le, lt-ltb, le-ltb}
 use Rattle.std.proofs.Math.Path.{ap}
-use Rattle.listing.specs.Number.{last_digits, IsDigitCount}
 use Rattle.octets.specs.Logic.{choose}
 use Rattle.octets.specs.Bytes.{little_order}
 use Rattle.octets.specs.Put.{put, length_put, put_none, put_put, set_behind}
 use Rattle.refusal.specs.Answer.{Answer, gives, refuses}
 use Rattle.refusal.specs.declared.Refusal.{Refusal}
 use Rattle.sequence.specs.Numbering.{says_full}
-use Rattle.sequence.specs.declared.Full.{Full}
 use Rattle.sequence.specs.declared.SequenceNumber.{SequenceNumber}
 use Rattle.packet.specs.Packet.{least_packet, number_after}
 use Rattle.packet.specs.Class.{says_class}
@@ -17,7 +15,6 @@ use Rattle.packet.specs.declared.Class.{Class}
 use Rattle.packet_reader.specs.Front.{Front, nothing, part, long, whole, front_of, says_begins, tells_whole}
 use Rattle.packet_reader.specs.declared.Begins.{Begins}
 use Rattle.listing.specs.Text.{decimal, item, first_line, line_of, end_line, refused_line}
-use Rattle.listing.specs.Digits.{decimal_is}
 use Rattle.listing.specs.Call.{item_most, line_most, Wrote, none, refused, packet, with_number, numbered_of, ahead_by, ahead_of, says_next, opening, closing, closes, waits, start, after, room, Lists}
 use Rattle.listing.specs.declared.Stage.{Stage}
 use Rattle.listing.specs.declared.Wants.{Wants}
@@ -42,11 +39,10 @@ wrote_long m s s₁ at a u p h = ap length p.stands ∙ length_put s at u (omega
 pub item_room : (out out₁ : List ℕ) (at k : ℕ) (t : List ℕ) → at + item_most ≤ length out → k ≤ 20 → k ≡ length t → out₁ ≡ put out at t → at + k < length out₁
 item_room out out₁ at k t h f l p = omega (arith, ap length p, length_put out at t (omega arith))
 
-pub item_wrote : (out out₁ : List ℕ) (at n b k : ℕ) (t : List ℕ) → at + item_most ≤ length out → k ≤ 20 → IsDigitCount 10 1 n k → t ≡ last_digits 10 k n → k ≡ length t
-    → out₁ ≡ put out at t → Wrote item_most out at (item n b) (at + k + 1) (set out₁ (at + k) b)
+pub item_wrote : (out out₁ : List ℕ) (at n b k : ℕ) (t : List ℕ) → at + item_most ≤ length out → k ≤ 20 → t ≡ decimal n → k ≡ length t → out₁ ≡ put out at t
+    → Wrote item_most out at (item n b) (at + k + 1) (set out₁ (at + k) b)
 unfolding item
-item_wrote out out₁ at n b k t h f g e l p =
-    let d : t ≡ decimal n = e ∙ decimal_is n k g in
+item_wrote out out₁ at n b k t h f d l p =
     let m : length (decimal n) ≡ k = sym (l ∙ ap length d) in
     let j : length (decimal n ++ (b ∷ [])) ≡ k + 1 = length-append (decimal n) (b ∷ []) ∙ (omega arith) in
     record {
@@ -122,19 +118,19 @@ module _ (read : ℕ) (s : List ℕ) (g : Begins) (e : says_begins g ≡ front_o
   unfolding ahead_by
   ahead_long h = ahead_by_lem Begins.Long h
 
-  pub ahead_whole : (n : ℕ) (k : Class) → g ≡ Begins.Whole n k → (a : Next) → says_next a ≡ numbered_of read (take n s) → says_next a ≡ ahead_of read s
+  pub ahead_whole : (n : ℕ) (k : Class) → g ≡ Begins.Whole n k → (a : Result (Option Next) Refusal) → says_next a ≡ numbered_of read (take n s) → says_next a ≡ ahead_of read s
   unfolding ahead_by
   ahead_whole n k h a p = p ∙ ahead_by_lem (Begins.Whole n k) h
 
   pub whole_fits : (n : ℕ) (k : Class) → g ≡ Begins.Whole n k → (least_packet ≤ n) × (n ≤ length s)
   whole_fits n k h = let w = tells_whole little_order s n (says_class k) (ap says_begins (sym h) ∙ e) in (w.least, w.fits)
 
-module _ (read : ℕ) (p : List ℕ) (g : Full) (e : says_full g ≡ number_after little_order read p) where
-  pub numbered_gives : (n : SequenceNumber) → g ≡ Full.Number n → says_next (Next.Packet (length p) n) ≡ numbered_of read p
+module _ (read : ℕ) (p : List ℕ) (g : Result SequenceNumber Refusal) (e : says_full g ≡ number_after little_order read p) where
+  pub numbered_gives : (n : SequenceNumber) → g ≡ Ok n → says_next (Ok (Some (record { size = length p; number = n }))) ≡ numbered_of read p
   unfolding numbered_of with_number
   numbered_gives n h = ap (with_number (length p)) (ap says_full (sym h) ∙ e)
 
-  pub numbered_refuses : (r : Refusal) → g ≡ Full.Refused r → says_next (Next.Refused r) ≡ numbered_of read p
+  pub numbered_refuses : (r : Refusal) → g ≡ Err r → says_next (Err r) ≡ numbered_of read p
   unfolding numbered_of with_number
   numbered_refuses r h = ap (with_number (length p)) (ap says_full (sym h) ∙ e)
 

@@ -8,7 +8,6 @@
 #![tactic(auto)]
 
 mod lines;
-mod number;
 
 ghost use Rattle.std.specs.Prelude.{◌≤◌, length, take};
 ghost use Rattle.listing.specs.Call.{opening, call_of, point_of, Lists, Turns};
@@ -88,16 +87,12 @@ pub fn list(place: Stage, buf: &mut [u8], held: usize, over: bool, out: &mut [u8
     ensures { Turns (call_of over (length out.old) (point_of place) (take held buf.old)) buf.old held out.old result buf.new out.new }
 {
     let listed = call(place, &buf[..held], over, out);
-    let used = listed.used;
-    let written = listed.written;
-    let next = listed.place;
-    let wants = listed.wants;
-    let left = held - used;
-    octets::slide(buf, used, 0, left);
+    let left = held - listed.used;
+    octets::slide(buf, listed.used, 0, left);
     Turn {
         held: left,
-        written: written,
-        place: next,
-        wants: wants,
+        written: listed.written,
+        place: listed.place,
+        wants: listed.wants,
     }
 }

@@ -5,10 +5,11 @@ ghost use Rattle.packet.specs.Packet.{least_packet};
 ghost use Rattle.listing.specs.Text.{newline, item as text_item, line_of, refused_line};
 ghost use Rattle.listing.specs.Call.{item_most, line_most, Wrote, ahead_of, numbered_of, says_next, Lists, closing as call_closing, closes, row_of};
 
-use super::{Stage, Wants, number};
+use super::{Stage, Wants};
+use itoa::Buffer;
 use packet_reader::Begins;
 use refusal::Refusal;
-use sequence::{Full, SequenceNumber};
+use sequence::SequenceNumber;
 
 // The most bytes of a line: three numbers of 20 digits, and the byte behind each.
 pub const MOST_LINE: usize = 63;
@@ -27,10 +28,10 @@ fn item(out: &mut [u8], at: usize, n: u64, behind: u8) -> usize
     requires { at + item_most ≤ length out.old }
     ensures { Wrote item_most out.old at (text_item n behind) result out.new }
 {
-    let mut text = [0u8; 20];
-    let k = number::decimal(n, &mut text);
-    octets::copy_in(out, at, &text[..k]);
-    let end = at + k;
+    let mut digits = Buffer::new();
+    let text = digits.format(n).as_bytes();
+    octets::copy_in(out, at, text);
+    let end = at + text.len();
     out[end] = behind;
     end + 1
 }
@@ -54,33 +55,33 @@ fn last(out: &mut [u8], at: usize, word: &[u8], n: u64) -> usize
     item(out, at + word.len(), n, b'\n')
 }
 
-// What bytes begin with after a last read: no whole packet, one that is refused, or a packet of so
-// many bytes and its number.
+// A packet: so many bytes, and its number.
 #[derive(Clone, Copy)]
-pub enum Next {
-    Part,
-    Refused(Refusal),
-    Packet(usize, SequenceNumber),
+pub struct Next {
+    pub size: usize,
+    pub number: SequenceNumber,
 }
 
 // A whole packet.
-fn numbered(read: SequenceNumber, packet: &[u8]) -> Next
+fn numbered(read: SequenceNumber, packet: &[u8]) -> Result<Option<Next>, Refusal>
     requires { least_packet ≤ length packet.now }
     ensures { says_next result ≡ numbered_of read.0 packet.now }
 {
-    match packet::number_after(octets::LITTLE, read, packet) {
-        Full::Number(number) => Next::Packet(packet.len(), number),
-        Full::Refused(refusal) => Next::Refused(refusal),
-    }
+    let number = packet::number_after(octets::LITTLE, read, packet)?;
+    Ok(Some(Next {
+        size: packet.len(),
+        number,
+    }))
 }
 
-fn ahead(read: SequenceNumber, bytes: &[u8]) -> Next
+// What bytes begin with after a last read, if it is a whole packet.
+fn ahead(read: SequenceNumber, bytes: &[u8]) -> Result<Option<Next>, Refusal>
     ensures { says_next result ≡ ahead_of read.0 bytes.now }
 {
     match packet_reader::front(octets::LITTLE, bytes) {
-        Begins::Nothing => Next::Part,
-        Begins::Part => Next::Part,
-        Begins::Long => Next::Refused(Refusal::LongPacket),
+        Begins::Nothing => Ok(None),
+        Begins::Part => Ok(None),
+        Begins::Long => Err(Refusal::LongPacket),
         Begins::Whole(n, _) => numbered(read, &bytes[..n]),
     }
 }
@@ -100,14 +101,14 @@ fn closing(
     if over {
         let end = last(out, at, b"end ", left as u64);
         return Listed {
-            used: used,
+            used,
             written: end,
             place: Stage::Ended,
             wants: Wants::Nothing,
         };
     }
     Listed {
-        used: used,
+        used,
         written: at,
         place: Stage::After(read),
         wants: Wants::Bytes,
@@ -121,14 +122,15 @@ fn refused(refusal: Refusal, out: &mut [u8], used: usize, at: usize) -> Listed
 {
     let end = last(out, at, b"refused ", refusal.number() as u64);
     Listed {
-        used: used,
+        used,
         written: end,
         place: Stage::Ended,
         wants: Wants::Nothing,
     }
 }
 
-// Lines of as many packets as are there and find room, and the last line where it is due.
+// Lines of as many packets as are there and find room, and the last line where it is due. The loop
+// stays a `while`: it counts no index, and goes on by the room that is left.
 pub fn lines(start: SequenceNumber, bytes: &[u8], over: bool, out: &mut [u8]) -> Listed
     ensures { Lists (row_of over (length out.old) start.0 bytes.now) 0 0 out.old result out.new }
 {
@@ -137,21 +139,17 @@ pub fn lines(start: SequenceNumber, bytes: &[u8], over: bool, out: &mut [u8]) ->
     let mut end = 0;
     while MOST_LINE <= out.len() - end {
         match ahead(read, &bytes[used..]) {
-            Next::Packet(size, number) => {
+            Ok(Some(Next { size, number })) => {
                 end = line(out, end, bytes[used], size, number.0);
                 used += size;
                 read = number;
             }
-            Next::Part => {
-                return closing(read, bytes.len() - used, over, out, used, end);
-            }
-            Next::Refused(refusal) => {
-                return refused(refusal, out, used, end);
-            }
+            Ok(None) => return closing(read, bytes.len() - used, over, out, used, end),
+            Err(refusal) => return refused(refusal, out, used, end),
         }
     }
     Listed {
-        used: used,
+        used,
         written: end,
         place: Stage::After(read),
         wants: Wants::Room,

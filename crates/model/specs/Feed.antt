@@ -1,7 +1,7 @@
 -- What a row of packets comes to, and what the answer of `enqueue_packets` says. Assumes nothing.
-use Rattle.std.specs.Prelude.{◌≡◌, refl, List, [], ◌∷◌, ℕ, ◌+◌, length}
+use Rattle.std.specs.Prelude.{◌≡◌, refl, List, [], ◌∷◌, ℕ, ◌+◌, length, Result}
 use Rattle.std.proofs.Common.{ap}
-use Rattle.refusal.specs.Answer.{Answer, gives, refuses, decides}
+use Rattle.refusal.specs.Answer.{Answer, gives, refuses, says, says_one}
 use Rattle.refusal.specs.Numbers.{number_of, refusal_of, listed}
 use Rattle.model.specs.Client.{Client}
 use Rattle.model.specs.Model.{Filing}
@@ -10,6 +10,7 @@ use Rattle.model.specs.Batch.{Turn, goes, stops, Site, site}
 use Rattle.model.specs.declared.Connection.{Connection}
 use Rattle.model.specs.declared.Halt.{Halt}
 use Rattle.model.specs.declared.Fed.{Fed}
+use Rattle.refusal.specs.declared.Refusal.{Refusal}
 
 -- what stops it: no byte is left, part of a packet is left, or the next packet is refused
 pub data Stopped : Type 0 where
@@ -59,9 +60,8 @@ says_halt Halt.End = ended
 says_halt Halt.Part = partial
 says_halt (Halt.Refused r) = refused (number_of r)
 
-abbrev pub says_fed : Fed → Answer (ShownFed × Connection)
-says_fed (Fed.Taken n k h c) = gives (record { bytes = n; packets = k; stopped = says_halt h }, c)
-says_fed (Fed.Refused r) = refuses (number_of r)
+abbrev pub says_fed : Result Fed Refusal → Answer (ShownFed × Connection)
+says_fed = says (λ x. (record { bytes = x.bytes; packets = x.packets; stopped = says_halt x.halt }, x.connection))
 
 -- Two answers that say the same are equal.
 back_halt : Stopped → Halt
@@ -75,10 +75,6 @@ back_halt_lem Halt.End = refl
 back_halt_lem Halt.Part = refl
 back_halt_lem (Halt.Refused r) = ap Halt.Refused (listed r)
 
-back_fed : Answer (ShownFed × Connection) → Fed
-back_fed (gives x) = Fed.Taken x.0.bytes x.0.packets (back_halt x.0.stopped) x.1
-back_fed (refuses n) = Fed.Refused (refusal_of n)
-
-pub fed_one : (a b : Fed) → says_fed a ≡ says_fed b → a ≡ b
-unfolding back_fed
-fed_one = decides says_fed back_fed (elim [ Fed.Taken n k h c ↦ ap (λ (x : Halt). Fed.Taken n k x c) (back_halt_lem h) | Fed.Refused r ↦ ap Fed.Refused (listed r) ])
+pub fed_one : (a b : Result Fed Refusal) → says_fed a ≡ says_fed b → a ≡ b
+fed_one = says_one _ (λ x. record { bytes = x.0.bytes; packets = x.0.packets; halt = back_halt x.0.stopped; connection = x.1 })
+    (λ f. ap (λ (h : Halt). record { bytes = f.bytes; packets = f.packets; halt = h; connection = f.connection }) (back_halt_lem f.halt))

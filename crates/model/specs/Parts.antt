@@ -1,5 +1,5 @@
 -- What the runs of `Examples.antt` do not show, computed: the state's parts, rows of calls, how state and rooms are read, when they are sound, and what answers say. Each row is failed by the nearest other readings. Assumes nothing.
-use Rattle.std.specs.Prelude.{◌≡◌, Bool, true, false, List, [], ◌∷◌, ◌++◌, ℕ, ◌+◌, replicate}
+use Rattle.std.specs.Prelude.{◌≡◌, Bool, true, false, List, [], ◌∷◌, ◌++◌, ℕ, ◌+◌, replicate, Ok, Err, Some, None}
 use Rattle.std.proofs.Math.Path.{refl}
 use Rattle.octets.specs.Logic.{choose, both, either}
 use Rattle.octets.specs.Bytes.{legal, bytes_of, number_in, low_bytes, low_number, turned}
@@ -36,19 +36,10 @@ use Rattle.model.specs.Encoding.{reply_row, event_row}
 use Rattle.model.specs.declared.Connection.{Connection}
 use Rattle.model.specs.declared.Handed.{Handed}
 use Rattle.model.specs.declared.Place.TheVariants as Place
-use Rattle.model.specs.declared.Next.TheVariants as Next
-use Rattle.model.specs.declared.Sent.TheVariants as Sent
-use Rattle.model.specs.declared.Enqueued.TheVariants as Enqueued
-use Rattle.model.specs.declared.Polled.TheVariants as Polled
 use Rattle.model.specs.declared.PollReply.TheVariants as PollReply
-use Rattle.model.specs.declared.Event.TheVariants as Event
-use Rattle.model.specs.declared.Closed.TheVariants as Closed
-use Rattle.model.specs.declared.Prepared.TheVariants as Prepared
 use Rattle.model.specs.declared.Stop.TheVariants as Stop
-use Rattle.model.specs.declared.SentMany.TheVariants as SentMany
-use Rattle.model.specs.declared.Events.TheVariants as Events
 use Rattle.model.specs.declared.Halt.TheVariants as Halt
-use Rattle.model.specs.declared.Fed.TheVariants as Fed
+use Rattle.refusal.specs.declared.Refusal.{Refusal}
 
 -- ---- the state
 
@@ -198,20 +189,20 @@ shows = (refl, refl, refl, refl, refl, refl, refl, refl, refl, refl, refl, refl,
 pub such : Says.Under 5 (handed 5 2 3 Class.Event) × Says.Bare (handed 5 2 0 Class.Event) × Says.IfShown (Says.Under 5) (Says.packet (handed 5 2 3 Class.Event)) × Says.IfPolled Says.Bare (Says.reply (handed 5 2 0 Class.Event))
 such = (refl, refl, refl, refl)
 
--- what the enums say
+-- what the results say
 module _ (c : Connection) where
-  pub says : (Says.says_next (Next.State c) ≡ gives (tt, c)) × (Says.says_sent (Sent.Number (record { 0 = 7 }) c) ≡ gives (7, c)) × (Says.says_enqueued (Enqueued.Filed Place.Dropped (record { 0 = 7 }) Class.Generic c) ≡ gives (record { place = Place.Dropped; number = 7; class = Packet.generic false }, c))
-      × (Says.says_polled (Polled.Packet (handed 5 2 3 Class.Event) c) ≡ gives (Says.packet (handed 5 2 3 Class.Event), c)) × (Says.says_polled (Polled.Nothing c) ≡ gives (Says.none, c))
-      × (Says.says_poll_reply (PollReply.TryAgain c) ≡ gives (Says.again, c)) × (Says.says_poll_reply (PollReply.NoReply c) ≡ gives (Says.no_reply, c)) × (Says.says_poll_reply (PollReply.Reply (handed 5 2 3 Class.Event) c) ≡ gives (Says.reply (handed 5 2 3 Class.Event), c))
-      × (Says.says_event (Event.Packet (handed 5 2 0 Class.Event) c) ≡ gives (Says.packet (handed 5 2 0 Class.Event), c)) × (Says.says_event (Event.Nothing c) ≡ gives (Says.none, c)) × (Says.says_closed (Closed.Taken 6 c) ≡ gives (6, c)) × (Says.says_prepared (Prepared.Answer true) ≡ gives true)
+  pub says : (Says.says_next (Ok c) ≡ gives (tt, c)) × (Says.says_sent (Ok (record { number = (record { 0 = 7 }); connection = c })) ≡ gives (7, c)) × (Says.says_enqueued (Ok (record { place = Place.Dropped; number = (record { 0 = 7 }); class = Class.Generic; connection = c })) ≡ gives (record { place = Place.Dropped; number = 7; class = Packet.generic false }, c))
+      × (Says.says_polled (Ok (record { packet = Some (handed 5 2 3 Class.Event); connection = c })) ≡ gives (Says.packet (handed 5 2 3 Class.Event), c)) × (Says.says_polled (Ok (record { packet = None; connection = c })) ≡ gives (Says.none, c))
+      × (Says.says_poll_reply (Ok (PollReply.TryAgain c)) ≡ gives (Says.again, c)) × (Says.says_poll_reply (Ok (PollReply.NoReply c)) ≡ gives (Says.no_reply, c)) × (Says.says_poll_reply (Ok (PollReply.Reply (handed 5 2 3 Class.Event) c)) ≡ gives (Says.reply (handed 5 2 3 Class.Event), c))
+      × (Says.says_polled (Ok (record { packet = Some (handed 5 2 0 Class.Event); connection = c })) ≡ gives (Says.packet (handed 5 2 0 Class.Event), c)) × (Says.says_polled (Ok (record { packet = None; connection = c })) ≡ gives (Says.none, c)) × (Says.says_closed (Ok (record { count = 6; connection = c })) ≡ gives (6, c)) × (Says.says_prepared (Ok true) ≡ gives true)
   says = (refl, refl, refl, refl, refl, refl, refl, refl, refl, refl, refl, refl)
 
-  pub says_many : (says_sent_many (SentMany.Sent 3 (record { 0 = 9 }) Stop.NoKind c) ≡ gives (record { count = 3; last = 9; stopped = Batch.meaningless }, c)) × (says_events (Events.Handed 2 68 Stop.End c) ≡ gives (record { count = 2; bytes = 68; stopped = Batch.ended }, c))
-      × (says_fed (Fed.Taken 68 2 Halt.Part c) ≡ gives (record { bytes = 68; packets = 2; stopped = Feed.partial }, c)) × (says_halt Halt.End ≡ Feed.ended)
+  pub says_many : (says_sent_many (Ok (record { count = 3; last = (record { 0 = 9 }); stop = Stop.NoKind; connection = c })) ≡ gives (record { count = 3; last = 9; stopped = Batch.meaningless }, c)) × (says_events (Ok (record { count = 2; bytes = 68; stop = Stop.End; connection = c })) ≡ gives (record { count = 2; bytes = 68; stopped = Batch.ended }, c))
+      × (says_fed (Ok (record { bytes = 68; packets = 2; halt = Halt.Part; connection = c })) ≡ gives (record { bytes = 68; packets = 2; stopped = Feed.partial }, c)) × (says_halt Halt.End ≡ Feed.ended)
   says_many = (refl, refl, refl, refl)
 
 -- and a refusal by its number
-pub says_refused : (Says.says_next (Next.Refused Refusal.NoRoom) ≡ refuses 5) × (Says.says_sent (Sent.Refused Refusal.SyncFirst) ≡ refuses 6) × (Says.says_enqueued (Enqueued.Refused Refusal.FewDescriptors) ≡ refuses 4) × (Says.says_polled (Polled.Refused Refusal.OutShort) ≡ refuses 8)
-    × (Says.says_poll_reply (PollReply.Refused Refusal.OutShort) ≡ refuses 8) × (Says.says_event (Event.Refused Refusal.BadRoom) ≡ refuses 9) × (Says.says_closed (Closed.Refused Refusal.OutShort) ≡ refuses 8) × (Says.says_prepared (Prepared.Refused Refusal.BadRoom) ≡ refuses 9)
-    × (says_sent_many (SentMany.Refused Refusal.BadRoom) ≡ refuses 9) × (says_events (Events.Refused Refusal.OutShort) ≡ refuses 8) × (says_fed (Fed.Refused Refusal.BadRoom) ≡ refuses 9) × (says_halt (Halt.Refused Refusal.NumberEnd) ≡ Feed.refused 3)
+pub says_refused : (Says.says_next (Err Refusal.NoRoom) ≡ refuses 5) × (Says.says_sent (Err Refusal.SyncFirst) ≡ refuses 6) × (Says.says_enqueued (Err Refusal.FewDescriptors) ≡ refuses 4) × (Says.says_polled (Err Refusal.OutShort) ≡ refuses 8)
+    × (Says.says_poll_reply (Err Refusal.OutShort) ≡ refuses 8) × (Says.says_polled (Err Refusal.BadRoom) ≡ refuses 9) × (Says.says_closed (Err Refusal.OutShort) ≡ refuses 8) × (Says.says_prepared (Err Refusal.BadRoom) ≡ refuses 9)
+    × (says_sent_many (Err Refusal.BadRoom) ≡ refuses 9) × (says_events (Err Refusal.OutShort) ≡ refuses 8) × (says_fed (Err Refusal.BadRoom) ≡ refuses 9) × (says_halt (Halt.Refused Refusal.NumberEnd) ≡ Feed.refused 3)
 says_refused = (refl, refl, refl, refl, refl, refl, refl, refl, refl, refl, refl, refl)

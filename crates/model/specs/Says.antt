@@ -1,23 +1,20 @@
 -- What the answers of the calls say: the values of each case, with the state handed back, or the number of the refusal. Assumes nothing.
-use Rattle.std.specs.Prelude.{◌≡◌, refl, Bool, List, [], ℕ, length}
-use Rattle.std.proofs.Common.{ap}
-use Rattle.refusal.specs.Answer.{Answer, gives, refuses, decides}
-use Rattle.refusal.specs.Numbers.{number_of, refusal_of, listed}
+use Rattle.std.specs.Prelude.{◌≡◌, refl, Bool, List, [], ℕ, length, Result, Option, Some, None, Ok}
+use Rattle.std.proofs.Common.{ap, ◌∙◌}
+use Rattle.refusal.specs.Answer.{Answer, says, says_one}
 use Rattle.packet.specs.Packet.{packet_class}
 use Rattle.packet.specs.Class.{says_class, classed, class_back}
 use Rattle.model.specs.Client.{Held}
 use Rattle.model.specs.Model as Model
 use Rattle.model.specs.Model.{Filing}
 use Rattle.model.specs.declared.Connection.{Connection}
-use Rattle.model.specs.declared.Next.{Next}
 use Rattle.model.specs.declared.Sent.{Sent}
 use Rattle.model.specs.declared.Enqueued.{Enqueued}
 use Rattle.model.specs.declared.Handed.{Handed}
 use Rattle.model.specs.declared.Polled.{Polled}
 use Rattle.model.specs.declared.PollReply.{PollReply}
-use Rattle.model.specs.declared.Event.{Event}
 use Rattle.model.specs.declared.Closed.{Closed}
-use Rattle.model.specs.declared.Prepared.{Prepared}
+use Rattle.refusal.specs.declared.Refusal.{Refusal}
 
 -- ---- what is shown of a packet that is handed out
 
@@ -75,119 +72,77 @@ bytes_of_poll Model.try_again = []
 bytes_of_poll Model.no_reply = []
 bytes_of_poll (Model.reply h) = h.packet
 
--- ---- what the enums say
+-- ---- what the results say
 
-abbrev pub says_next : Next → Answer (Unit × Connection)
-says_next (Next.State c) = gives (tt, c)
-says_next (Next.Refused r) = refuses (number_of r)
+abbrev pub says_next : Result Connection Refusal → Answer (Unit × Connection)
+says_next = says (λ c. (tt, c))
 
-abbrev pub says_sent : Sent → Answer (ℕ × Connection)
-says_sent (Sent.Number n c) = gives (n.0, c)
-says_sent (Sent.Refused r) = refuses (number_of r)
+abbrev pub says_sent : Result Sent Refusal → Answer (ℕ × Connection)
+says_sent = says (λ x. (x.number.0, x.connection))
 
-abbrev pub says_enqueued : Enqueued → Answer (Filing × Connection)
-says_enqueued (Enqueued.Filed p n k c) = gives (record { place = p; number = n.0; class = says_class k }, c)
-says_enqueued (Enqueued.Refused r) = refuses (number_of r)
+abbrev pub says_enqueued : Result Enqueued Refusal → Answer (Filing × Connection)
+says_enqueued = says (λ x. (record { place = x.place; number = x.number.0; class = says_class x.class }, x.connection))
 
-abbrev pub says_polled : Polled → Answer (Shown × Connection)
-says_polled (Polled.Packet z c) = gives (packet z, c)
-says_polled (Polled.Nothing c) = gives (none, c)
-says_polled (Polled.Refused r) = refuses (number_of r)
+abbrev pub shown_of : Option Handed → Shown
+shown_of None = none
+shown_of (Some z) = packet z
 
-abbrev pub says_poll_reply : PollReply → Answer (ShownPoll × Connection)
-says_poll_reply (PollReply.TryAgain c) = gives (again, c)
-says_poll_reply (PollReply.NoReply c) = gives (no_reply, c)
-says_poll_reply (PollReply.Reply z c) = gives (reply z, c)
-says_poll_reply (PollReply.Refused r) = refuses (number_of r)
+abbrev pub says_polled : Result Polled Refusal → Answer (Shown × Connection)
+says_polled = says (λ x. (shown_of x.packet, x.connection))
 
-abbrev pub says_event : Event → Answer (Shown × Connection)
-says_event (Event.Packet z c) = gives (packet z, c)
-says_event (Event.Nothing c) = gives (none, c)
-says_event (Event.Refused r) = refuses (number_of r)
+abbrev pub reply_of : PollReply → ShownPoll × Connection
+reply_of (PollReply.TryAgain c) = (again, c)
+reply_of (PollReply.NoReply c) = (no_reply, c)
+reply_of (PollReply.Reply z c) = (reply z, c)
 
-abbrev pub says_closed : Closed → Answer (ℕ × Connection)
-says_closed (Closed.Taken n c) = gives (n, c)
-says_closed (Closed.Refused r) = refuses (number_of r)
+abbrev pub says_poll_reply : Result PollReply Refusal → Answer (ShownPoll × Connection)
+says_poll_reply = says reply_of
 
-abbrev pub says_prepared : Prepared → Answer Bool
-says_prepared (Prepared.Answer b) = gives b
-says_prepared (Prepared.Refused r) = refuses (number_of r)
+abbrev pub says_closed : Result Closed Refusal → Answer (ℕ × Connection)
+says_closed = says (λ x. (x.count, x.connection))
+
+abbrev pub says_prepared : Result Bool Refusal → Answer Bool
+says_prepared = says (λ b. b)
 
 -- ---- Two answers that say the same are equal.
 
-back_next : Answer (Unit × Connection) → Next
-back_next (gives x) = Next.State x.1
-back_next (refuses n) = Next.Refused (refusal_of n)
+pub next_one : (a b : Result Connection Refusal) → says_next a ≡ says_next b → a ≡ b
+next_one = says_one _ (λ x. x.1) (λ c. refl)
 
-pub next_one : (a b : Next) → says_next a ≡ says_next b → a ≡ b
-unfolding back_next
-next_one = decides says_next back_next (elim [ Next.State c ↦ refl | Next.Refused r ↦ ap Next.Refused (listed r) ])
+pub sent_one_lem : (a b : Result Sent Refusal) → says_sent a ≡ says_sent b → a ≡ b
+sent_one_lem = says_one _ (λ x. record { number = record { 0 = x.0 }; connection = x.1 }) (λ s. refl)
 
-back_sent : Answer (ℕ × Connection) → Sent
-back_sent (gives x) = Sent.Number (record { 0 = x.0 }) x.1
-back_sent (refuses n) = Sent.Refused (refusal_of n)
+pub enqueued_one : (a b : Result Enqueued Refusal) → says_enqueued a ≡ says_enqueued b → a ≡ b
+enqueued_one = says_one _ (λ x. record { place = x.0.place; number = record { 0 = x.0.number }; class = classed x.0.class; connection = x.1 })
+    (λ e. ap (λ k. record { place = e.place; number = e.number; class = k; connection = e.connection }) (class_back e.class))
 
-pub sent_one_lem : (a b : Sent) → says_sent a ≡ says_sent b → a ≡ b
-unfolding back_sent
-sent_one_lem = decides says_sent back_sent (elim [ Sent.Number n c ↦ refl | Sent.Refused r ↦ ap Sent.Refused (listed r) ])
+pub closed_one : (a b : Result Closed Refusal) → says_closed a ≡ says_closed b → a ≡ b
+closed_one = says_one _ (λ x. record { count = x.0; connection = x.1 }) (λ c. refl)
 
-back_enqueued : Answer (Filing × Connection) → Enqueued
-back_enqueued (gives x) = Enqueued.Filed x.0.place (record { 0 = x.0.number }) (classed x.0.class) x.1
-back_enqueued (refuses n) = Enqueued.Refused (refusal_of n)
+packet_of : Shown → Option Handed
+packet_of none = None
+packet_of (packet z) = Some z
 
-pub enqueued_one : (a b : Enqueued) → says_enqueued a ≡ says_enqueued b → a ≡ b
-unfolding back_enqueued
-enqueued_one = decides says_enqueued back_enqueued (elim [ Enqueued.Filed p n k c ↦ ap (λ x. Enqueued.Filed p n x c) (class_back k) | Enqueued.Refused r ↦ ap Enqueued.Refused (listed r) ])
+packet_back : (z : Option Handed) → packet_of (shown_of z) ≡ z
+unfolding packet_of
+packet_back None = refl
+packet_back (Some z) = refl
 
-back_closed : Answer (ℕ × Connection) → Closed
-back_closed (gives x) = Closed.Taken x.0 x.1
-back_closed (refuses n) = Closed.Refused (refusal_of n)
+pub polled_one : (a b : Result Polled Refusal) → says_polled a ≡ says_polled b → a ≡ b
+polled_one = says_one _ (λ x. record { packet = packet_of x.0; connection = x.1 }) (λ p. ap (λ z. record { packet = z; connection = p.connection }) (packet_back p.packet))
 
-pub closed_one : (a b : Closed) → says_closed a ≡ says_closed b → a ≡ b
-unfolding back_closed
-closed_one = decides says_closed back_closed (elim [ Closed.Taken n c ↦ refl | Closed.Refused r ↦ ap Closed.Refused (listed r) ])
+poll_of : ShownPoll × Connection → PollReply
+poll_of (again, c) = PollReply.TryAgain c
+poll_of (no_reply, c) = PollReply.NoReply c
+poll_of (reply z, c) = PollReply.Reply z c
 
-polled_of : Shown → Connection → Polled
-polled_of none c = Polled.Nothing c
-polled_of (packet z) c = Polled.Packet z c
+pub poll_reply_one : (a b : Result PollReply Refusal) → says_poll_reply a ≡ says_poll_reply b → a ≡ b
+unfolding poll_of
+poll_reply_one = says_one _ poll_of (elim [ PollReply.TryAgain c ↦ refl | PollReply.NoReply c ↦ refl | PollReply.Reply z c ↦ refl ])
 
-back_polled : Answer (Shown × Connection) → Polled
-back_polled (gives x) = polled_of x.0 x.1
-back_polled (refuses n) = Polled.Refused (refusal_of n)
+pub prepared_one : (a b : Result Bool Refusal) → says_prepared a ≡ says_prepared b → a ≡ b
+prepared_one = says_one _ (λ b. b) (λ b. refl)
 
-pub polled_one : (a b : Polled) → says_polled a ≡ says_polled b → a ≡ b
-unfolding back_polled polled_of
-polled_one = decides says_polled back_polled (elim [ Polled.Packet z c ↦ refl | Polled.Nothing c ↦ refl | Polled.Refused r ↦ ap Polled.Refused (listed r) ])
-
-poll_of : ShownPoll → Connection → PollReply
-poll_of again c = PollReply.TryAgain c
-poll_of no_reply c = PollReply.NoReply c
-poll_of (reply z) c = PollReply.Reply z c
-
-back_poll_reply : Answer (ShownPoll × Connection) → PollReply
-back_poll_reply (gives x) = poll_of x.0 x.1
-back_poll_reply (refuses n) = PollReply.Refused (refusal_of n)
-
-pub poll_reply_one : (a b : PollReply) → says_poll_reply a ≡ says_poll_reply b → a ≡ b
-unfolding back_poll_reply poll_of
-poll_reply_one = decides says_poll_reply back_poll_reply (elim [ PollReply.TryAgain c ↦ refl | PollReply.NoReply c ↦ refl | PollReply.Reply z c ↦ refl | PollReply.Refused r ↦ ap PollReply.Refused (listed r) ])
-
-event_of : Shown → Connection → Event
-event_of none c = Event.Nothing c
-event_of (packet z) c = Event.Packet z c
-
-back_event : Answer (Shown × Connection) → Event
-back_event (gives x) = event_of x.0 x.1
-back_event (refuses n) = Event.Refused (refusal_of n)
-
-pub event_one : (a b : Event) → says_event a ≡ says_event b → a ≡ b
-unfolding back_event event_of
-event_one = decides says_event back_event (elim [ Event.Packet z c ↦ refl | Event.Nothing c ↦ refl | Event.Refused r ↦ ap Event.Refused (listed r) ])
-
-back_prepared : Answer Bool → Prepared
-back_prepared (gives b) = Prepared.Answer b
-back_prepared (refuses n) = Prepared.Refused (refusal_of n)
-
-pub prepared_one : (a b : Prepared) → says_prepared a ≡ says_prepared b → a ≡ b
-unfolding back_prepared
-prepared_one = decides says_prepared back_prepared (elim [ Prepared.Answer b ↦ refl | Prepared.Refused r ↦ ap Prepared.Refused (listed r) ])
+-- what a poll gave, by what it handed out
+pub polled_is : {a : Result Polled Refusal} {p : Polled} {z : Option Handed} → a ≡ Ok p → p.packet ≡ z → a ≡ Ok (record { packet = z; connection = p.connection })
+polled_is {p = p} e h = e ∙ ap (λ (x : Option Handed). Ok (record { packet = x; connection = p.connection })) h

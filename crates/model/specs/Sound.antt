@@ -1,5 +1,5 @@
 -- 01, Rooms: when a state is sound with its rooms. Assumes nothing.
-use Rattle.std.specs.Prelude.{◌≡◌, refl, Bool, true, false, not, List, ℕ, ◌+◌, ◌-◌, ◌≤◌, ◌<◌, leb, eqb, length}
+use Rattle.std.specs.Prelude.{◌≡◌, refl, Bool, true, false, not, List, ℕ, ◌+◌, ◌-◌, ◌≤◌, ◌<◌, leb, eqb, length, Some, None}
 use Rattle.std.proofs.Common.{sym, ap, ◌∙◌, leb-true, eqb-true, le-leb, eq-eqb, arith}
 use Rattle.std.proofs.lemmas.Bool.{not-true, not-false}
 use Rattle.octets.specs.Logic.{choose, both, both_left, both_right, both_yes, both_on}
@@ -12,7 +12,6 @@ use Rattle.held.specs.Head.{most_store}
 use Rattle.held.specs.Reading as Store
 use Rattle.held.specs.Theorems as Held
 use Rattle.held.specs.Walk.{walked}
-use Rattle.held.specs.declared.Walked.TheVariants as Walked
 use Rattle.held.specs.declared.Window.{Window}
 use Rattle.descriptors.specs.Room as Slots
 use Rattle.model.specs.Model.{least_store}
@@ -164,20 +163,20 @@ unfolding soundb both
 rooms_left c r o q l n s = simp (o, q, eq-eqb (length r.store) c.room l, is_numbers c n, s)
 
 -- what a walk over the store tells
-pub walked_sound : (read : ℕ) (w : Window) (held : ℕ) (s : List ℕ) (n : ℕ) → Walked.Sound n ≡ walked read w s → eqb n held ≡ holdsb read w held s
+pub walked_sound : (read : ℕ) (w : Window) (held : ℕ) (s : List ℕ) (n : ℕ) → Some n ≡ walked read w s → eqb n held ≡ holdsb read w held s
 unfolding walked holdsb choose both
 walked_sound read w held s n e = go (Store.soundb read w s) e
   where
-    go : (t : Bool) → Walked.Sound n ≡ choose t (Walked.Sound (Store.fds_in (Store.replies w s))) Walked.Unsound
+    go : (t : Bool) → Some n ≡ choose t (Some (Store.fds_in (Store.replies w s))) None
         → eqb n held ≡ both t (eqb (Store.fds_in (Store.replies w s)) held)
     go true q = let z : n ≡ Store.fds_in (Store.replies w s) = cc in ap (λ (m : ℕ). eqb m held) z
     go false q = absurd (let z : ◌≡◌ {A = ℕ} 0 1 = cc in omega arith)
 
-pub walked_unsound : (read : ℕ) (w : Window) (held : ℕ) (s : List ℕ) → Walked.Unsound ≡ walked read w s → false ≡ holdsb read w held s
+pub walked_unsound : (read : ℕ) (w : Window) (held : ℕ) (s : List ℕ) → None ≡ walked read w s → false ≡ holdsb read w held s
 unfolding walked holdsb choose both
 walked_unsound read w held s e = go (Store.soundb read w s) e
   where
-    go : (t : Bool) → Walked.Unsound ≡ choose t (Walked.Sound (Store.fds_in (Store.replies w s))) Walked.Unsound
+    go : (t : Bool) → None ≡ choose t (Some (Store.fds_in (Store.replies w s))) None
         → false ≡ both t (eqb (Store.fds_in (Store.replies w s)) held)
     go true q = absurd (let z : ◌≡◌ {A = ℕ} 0 1 = cc in omega arith)
     go false q = refl

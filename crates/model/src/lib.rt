@@ -9,13 +9,16 @@
 mod soundness;
 
 ghost use Rattle.std.specs.Prelude.{◌≡◌};
+ghost use Rattle.model.specs.Model.{mode_of};
 ghost use Rattle.model.specs.Moved.{moved_state};
+ghost use Rattle.model.specs.declared.Halt.{Halt};
 ghost use Rattle.model.specs.SendRequests.{kind_of};
 
 use descriptors::Counts;
 use held::Window;
 use packet::Class;
 use refusal::Refusal;
+use requests::Mode;
 use sequence::SequenceNumber;
 pub use soundness::{LEAST_STORE, is_sound};
 
@@ -28,16 +31,16 @@ pub enum ReplyFdKind {
 }
 
 // The kind of a number: 0 without a reply, 1 with one, any other with one and descriptors.
-pub fn kind_of(kind: u8) -> ReplyFdKind
-    ensures { result ≡ kind_of kind }
-{
-    if kind == 0 {
-        return ReplyFdKind::NoReply;
+impl From<u8> for ReplyFdKind {
+    ghost from_gives = { λ n k. k ≡ kind_of n };
+
+    fn from(kind: u8) -> ReplyFdKind {
+        match kind {
+            0 => ReplyFdKind::NoReply,
+            1 => ReplyFdKind::ReplyWithoutFds,
+            _ => ReplyFdKind::ReplyWithFds,
+        }
     }
-    if kind == 1 {
-        return ReplyFdKind::ReplyWithoutFds;
-    }
-    ReplyFdKind::ReplyWithFds
 }
 
 // What is to happen to the answer of a request.
@@ -47,6 +50,18 @@ pub enum DiscardMode {
     DiscardReply,
     // The reply goes, and so does an error.
     DiscardReplyAndError,
+}
+
+// What becomes of a request whose answers are discarded.
+impl From<DiscardMode> for Mode {
+    ghost from_gives = { λ mode m. m ≡ mode_of mode };
+
+    fn from(mode: DiscardMode) -> Mode {
+        match mode {
+            DiscardMode::DiscardReply => Mode::DiscardReply,
+            DiscardMode::DiscardReplyAndError => Mode::DiscardReplyAndError,
+        }
+    }
 }
 
 // Where a packet was filed.
@@ -78,39 +93,28 @@ pub fn moved(c: Connection, window: Window, counts: Counts) -> Connection
     ensures { result ≡ moved_state c window counts }
 {
     Connection {
-        order: c.order,
-        capacity: c.capacity,
-        room: c.room,
-        written: c.written,
-        expected: c.expected,
-        read: c.read,
-        first: c.first,
-        window: window,
-        counts: counts,
+        window,
+        counts,
+        ..c
     }
 }
 
 // ---- what the calls answer: each hands back the state to go on with, and a refusal none
 
-// `new`, `enqueue_fds` and `discard_reply`.
-#[derive(Clone, Copy)]
-pub enum Next {
-    State(Connection),
-    Refused(Refusal),
-}
-
 // `send_request`: the number of the request.
 #[derive(Clone, Copy)]
-pub enum Sent {
-    Number(SequenceNumber, Connection),
-    Refused(Refusal),
+pub struct Sent {
+    pub number: SequenceNumber,
+    pub connection: Connection,
 }
 
 // `enqueue_packet`: where the packet was filed, under which number, and its class.
 #[derive(Clone, Copy)]
-pub enum Enqueued {
-    Filed(Place, SequenceNumber, Class, Connection),
-    Refused(Refusal),
+pub struct Enqueued {
+    pub place: Place,
+    pub number: SequenceNumber,
+    pub class: Class,
+    pub connection: Connection,
 }
 
 // What is handed out of a held packet: its number, how many bytes and descriptors of it are in the
@@ -123,12 +127,12 @@ pub struct Handed {
     pub class: Class,
 }
 
-// `poll_for_reply_or_error`: a packet of the number is in the outputs, with its descriptors.
+// `poll_for_reply_or_error`: a packet of the number is in the outputs, with its descriptors; and
+// `poll_for_event_with_sequence`: an event is in the output; it has no descriptors.
 #[derive(Clone, Copy)]
-pub enum Polled {
-    Packet(Handed, Connection),
-    Nothing(Connection),
-    Refused(Refusal),
+pub struct Polled {
+    pub packet: Option<Handed>,
+    pub connection: Connection,
 }
 
 // `poll_check_for_reply_or_error` and `poll_for_reply`: a packet of the number is in the output,
@@ -138,29 +142,13 @@ pub enum PollReply {
     TryAgain(Connection),
     NoReply(Connection),
     Reply(Handed, Connection),
-    Refused(Refusal),
-}
-
-// `poll_for_event_with_sequence`: an event is in the output; it has no descriptors.
-#[derive(Clone, Copy)]
-pub enum Event {
-    Packet(Handed, Connection),
-    Nothing(Connection),
-    Refused(Refusal),
 }
 
 // `take_closed_fds`: so many descriptors are in the output.
 #[derive(Clone, Copy)]
-pub enum Closed {
-    Taken(usize, Connection),
-    Refused(Refusal),
-}
-
-// `prepare_check_for_reply_or_error`.
-#[derive(Clone, Copy)]
-pub enum Prepared {
-    Answer(bool),
-    Refused(Refusal),
+pub struct Closed {
+    pub count: usize,
+    pub connection: Connection,
 }
 
 // ---- what calls that make many steps answer: how far they came, what stopped them, and the state
@@ -176,16 +164,20 @@ pub enum Stop {
 
 // `send_requests`: how many were sent, the last number written, and what stopped it.
 #[derive(Clone, Copy)]
-pub enum SentMany {
-    Sent(usize, SequenceNumber, Stop, Connection),
-    Refused(Refusal),
+pub struct SentMany {
+    pub count: usize,
+    pub last: SequenceNumber,
+    pub stop: Stop,
+    pub connection: Connection,
 }
 
 // `poll_for_events`: how many events are in the outputs, and how many bytes their packets are.
 #[derive(Clone, Copy)]
-pub enum Events {
-    Handed(usize, usize, Stop, Connection),
-    Refused(Refusal),
+pub struct Events {
+    pub count: usize,
+    pub bytes: usize,
+    pub stop: Stop,
+    pub connection: Connection,
 }
 
 // What stopped a row of packets: no byte is left, part of a packet is left, or the next packet is
@@ -197,9 +189,19 @@ pub enum Halt {
     Refused(Refusal),
 }
 
+impl From<Refusal> for Halt {
+    ghost from_gives = { λ r h. h ≡ Halt.Refused r };
+
+    fn from(refusal: Refusal) -> Halt {
+        Halt::Refused(refusal)
+    }
+}
+
 // `enqueue_packets`: so many bytes were taken, so many packets, and what stopped it.
 #[derive(Clone, Copy)]
-pub enum Fed {
-    Taken(usize, usize, Halt, Connection),
-    Refused(Refusal),
+pub struct Fed {
+    pub bytes: usize,
+    pub packets: usize,
+    pub halt: Halt,
+    pub connection: Connection,
 }

@@ -11,7 +11,7 @@ ghost use Rattle.model.specs.Reading.{rooms};
 ghost use Rattle.model.specs.Sound.{soundb, holdsb, limitsb, runb, window_of};
 
 use crate::Connection;
-use held::{Walked, Window};
+use held::Window;
 
 // The fewest bytes of a packet store: those of one record with the least packet. The most are the
 // walk's own.
@@ -110,12 +110,9 @@ fn rooms_sound(
 fn held_sound(store: &[u8], start: usize, end: usize, read: u64, held: usize) -> bool
     ensures { result ≡ holdsb read (window_of start end) held store.now }
 {
-    let window = Window {
-        start: start,
-        end: end,
-    };
+    let window = Window { start, end };
     match held::walk(store, window, read) {
-        Walked::Sound(sum) => sum == held,
-        Walked::Unsound => false,
+        Some(sum) => sum == held,
+        None => false,
     }
 }

@@ -74,7 +74,7 @@ low_bytes_mod (suc n) x =
     let b : x % 2 ^ (8 * suc n) / 256 ≡ x / 256 % 2 ^ (8 * n) = ap (λ (m : ℕ). x % 2 ^ m / 256) (eight n) ∙ field x (8 * n) 8 in
     (λ k. a k ∷ low_bytes n (b k)) ∙ ap (λ (l : List ℕ). x % 256 ∷ l) (low_bytes_mod n (x / 256))
 
-low_number_low_bytes : (n x : ℕ) → x < 2 ^ (8 * n) → low_number (low_bytes n x) ≡ x
+pub low_number_low_bytes : (n x : ℕ) → x < 2 ^ (8 * n) → low_number (low_bytes n x) ≡ x
 unfolding low_number low_bytes
 low_number_low_bytes zero x h = omega arith
 low_number_low_bytes (suc n) x h =

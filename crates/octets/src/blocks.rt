@@ -1,6 +1,8 @@
 // Blocks of 32 bytes, held as four numbers between reading and writing.
 //
-// The compiler makes two instructions of reading a block and two of writing it.
+// The compiler makes two instructions of reading a block and two of writing it. An array of 32 bytes
+// in their place goes through memory: a slide of 16 KiB then takes 3.9 times as long as memmove, and
+// the goal is 3 (docs/BENCH.md).
 ghost use Rattle.std.specs.Prelude.{◌≡◌, ◌+◌, ◌≤◌, length};
 ghost use Rattle.octets.specs.Put.{put, cut};
 ghost use Rattle.octets.specs.Field.{four};
@@ -27,12 +29,7 @@ pub fn get_block(s: &[u8], at: usize) -> Block
     let b = get_u64(LITTLE, s, at + 8);
     let c = get_u64(LITTLE, s, at + 16);
     let d = get_u64(LITTLE, s, at + 24);
-    Block {
-        a: a,
-        b: b,
-        c: c,
-        d: d,
-    }
+    Block { a, b, c, d }
 }
 
 // A block over the bytes from index at on.

@@ -1,8 +1,9 @@
 // Moves within one slice, and copies between two.
 //
-// A run of 32 to 64 bytes is its first block and its last one, which may share bytes. Both are read
-// before either is written, so it may overlap the place it goes to. A longer run goes in turns of 64
-// bytes, from the end that is safe, and what the turns leave goes byte by byte.
+// A run of 32 to 64 bytes is moved as its first block and its last one, which may share bytes. Both
+// are read before either is written, so it may overlap the place it goes to. A longer run goes in
+// turns of 64 bytes, from the end that is safe, and what the turns leave by the library's
+// `copy_within`, which goes byte by byte.
 ghost use Rattle.std.specs.Prelude.{◌≡◌, ◌+◌, ◌-◌, ◌≤◌, ◌++◌, length};
 ghost use Rattle.octets.specs.Put.{put, cut};
 
@@ -42,32 +43,12 @@ fn slide_left(s: &mut [u8], from: usize, to: usize, n: usize)
     requires { (to ≤ from) × (from + n ≤ length s.old) }
     ensures { s.new ≡ put s.old to (cut from n s.old) }
 {
-    let done = turns_left(s, from, to, n);
-    bytes_left(s, from + done, to + done, n - done);
-}
-
-// In turns of 64 bytes: how many are in place.
-fn turns_left(s: &mut [u8], from: usize, to: usize, n: usize) -> usize
-    requires { (to ≤ from) × (from + n ≤ length s.old) }
-    ensures { (result ≤ n) × (s.new ≡ put s.old to (cut from result s.old)) }
-{
-    let mut i = 0;
-    while TURN <= n - i {
-        slide_ends(s, from + i, to + i, TURN);
-        i += TURN;
+    for i in 0..n / TURN {
+        let at = TURN * i;
+        slide_ends(s, from + at, to + at, TURN);
     }
-    i
-}
-
-fn bytes_left(s: &mut [u8], from: usize, to: usize, n: usize)
-    requires { (to ≤ from) × (from + n ≤ length s.old) }
-    ensures { s.new ≡ put s.old to (cut from n s.old) }
-{
-    let mut i = 0;
-    while i < n {
-        s[to + i] = s[from + i];
-        i += 1;
-    }
+    let done = n - n % TURN;
+    s.copy_within(from + done..from + n, to + done);
 }
 
 // From the right, for to at least from.
@@ -75,32 +56,12 @@ fn slide_right(s: &mut [u8], from: usize, to: usize, n: usize)
     requires { (from ≤ to) × (to + n ≤ length s.old) }
     ensures { s.new ≡ put s.old to (cut from n s.old) }
 {
-    let left = turns_right(s, from, to, n);
-    bytes_right(s, from, to, left);
-}
-
-// In turns of 64 bytes: how many are left.
-fn turns_right(s: &mut [u8], from: usize, to: usize, n: usize) -> usize
-    requires { (from ≤ to) × (to + n ≤ length s.old) }
-    ensures { (result ≤ n) × (s.new ≡ put s.old (to + result) (cut (from + result) (n - result) s.old)) }
-{
-    let mut i = n;
-    while TURN <= i {
-        i -= TURN;
-        slide_ends(s, from + i, to + i, TURN);
+    let rest = n % TURN;
+    for i in (0..n / TURN).rev() {
+        let at = rest + TURN * i;
+        slide_ends(s, from + at, to + at, TURN);
     }
-    i
-}
-
-fn bytes_right(s: &mut [u8], from: usize, to: usize, n: usize)
-    requires { (from ≤ to) × (to + n ≤ length s.old) }
-    ensures { s.new ≡ put s.old to (cut from n s.old) }
-{
-    let mut i = n;
-    while 0 < i {
-        i -= 1;
-        s[to + i] = s[from + i];
-    }
+    s.copy_within(from..from + rest, to);
 }
 
 // All of src over dst from index at on.
@@ -108,49 +69,8 @@ pub fn copy_in(dst: &mut [u8], at: usize, src: &[u8])
     requires { at + length src.now ≤ length dst.old }
     ensures { dst.new ≡ put dst.old at src.now }
 {
-    let n = src.len();
-    if SIZE <= n && n <= TURN {
-        copy_ends(dst, at, src, 0, n);
-        return;
-    }
-    let done = copy_turns(dst, at, src);
-    copy_bytes(dst, at + done, &src[done..n]);
-}
-
-// The n bytes of src from index from on, in two blocks.
-fn copy_ends(dst: &mut [u8], at: usize, src: &[u8], from: usize, n: usize)
-    requires { (32 ≤ n) × (n ≤ 64) × (from + n ≤ length src.now) × (at + n ≤ length dst.old) }
-    ensures { dst.new ≡ put dst.old at (cut from n src.now) }
-{
-    let rest = n - SIZE;
-    let first = get_block(src, from);
-    let last = get_block(src, from + rest);
-    put_block(dst, at, first);
-    put_block(dst, at + rest, last);
-}
-
-// In turns of 64 bytes: how many are in place.
-fn copy_turns(dst: &mut [u8], at: usize, src: &[u8]) -> usize
-    requires { at + length src.now ≤ length dst.old }
-    ensures { (result ≤ length src.now) × (dst.new ≡ put dst.old at (cut 0 result src.now)) }
-{
-    let mut i = 0;
-    while TURN <= src.len() - i {
-        copy_ends(dst, at + i, src, i, TURN);
-        i += TURN;
-    }
-    i
-}
-
-fn copy_bytes(dst: &mut [u8], at: usize, src: &[u8])
-    requires { at + length src.now ≤ length dst.old }
-    ensures { dst.new ≡ put dst.old at src.now }
-{
-    let mut i = 0;
-    while i < src.len() {
-        dst[at + i] = src[i];
-        i += 1;
-    }
+    let end = at + src.len();
+    dst[at..end].copy_from_slice(src);
 }
 
 // The n bytes of src from index from on over the first of dst.
@@ -167,7 +87,5 @@ pub fn rotate(s: &mut [u8], at: usize, mid: usize, end: usize)
     requires { (at ≤ mid) × (mid ≤ end) × (end ≤ length s.old) }
     ensures { s.new ≡ put s.old at (cut mid (end - mid) s.old ++ cut at (mid - at) s.old) }
 {
-    s[at..mid].reverse();
-    s[mid..end].reverse();
-    s[at..end].reverse();
+    s[at..end].rotate_left(mid - at);
 }

@@ -10,7 +10,8 @@ ghost use Rattle.sequence.specs.Numbering.{says_full};
 ghost use Rattle.packet.specs.Class.{says_class};
 ghost use Rattle.packet.specs.Packet.{least_packet, class_of, has_length, is_error, is_reply, is_plain, class_number, unnumbered, wire_number, number_after};
 
-use sequence::{Full, SequenceNumber, WireNumber};
+use refusal::Refusal;
+use sequence::{SequenceNumber, WireNumber};
 
 // The fewest and the most bytes of a packet.
 pub const LEAST_PACKET: usize = 32;
@@ -71,67 +72,41 @@ pub fn class_of(code: u8) -> Class
 pub fn has_length(class: Class) -> bool
     ensures { result ≡ has_length (says_class class) }
 {
-    match class {
-        Class::Error => false,
-        Class::Reply => true,
-        Class::Event => false,
-        Class::SentEvent => false,
-        Class::Generic => true,
-        Class::SentGeneric => true,
-    }
+    matches!(class, Class::Reply | Class::Generic | Class::SentGeneric)
 }
 
 pub fn is_error(class: Class) -> bool
     ensures { result ≡ is_error (says_class class) }
 {
-    match class {
-        Class::Error => true,
-        Class::Reply => false,
-        Class::Event => false,
-        Class::SentEvent => false,
-        Class::Generic => false,
-        Class::SentGeneric => false,
-    }
+    matches!(class, Class::Error)
 }
 
 pub fn is_reply(class: Class) -> bool
     ensures { result ≡ is_reply (says_class class) }
 {
-    match class {
-        Class::Error => false,
-        Class::Reply => true,
-        Class::Event => false,
-        Class::SentEvent => false,
-        Class::Generic => false,
-        Class::SentGeneric => false,
-    }
+    matches!(class, Class::Reply)
 }
 
 // An event without a length of its own, whoever made it.
 pub fn is_plain(class: Class) -> bool
     ensures { result ≡ is_plain (says_class class) }
 {
-    match class {
-        Class::Error => false,
-        Class::Reply => false,
-        Class::Event => true,
-        Class::SentEvent => true,
-        Class::Generic => false,
-        Class::SentGeneric => false,
-    }
+    matches!(class, Class::Event | Class::SentEvent)
 }
 
 // The number that stands for a class where no enum can be handed on.
-pub fn class_number(class: Class) -> u8
-    ensures { result ≡ class_number (says_class class) }
-{
-    match class {
-        Class::Error => 0,
-        Class::Reply => 1,
-        Class::Event => 2,
-        Class::SentEvent => 3,
-        Class::Generic => 4,
-        Class::SentGeneric => 5,
+impl From<Class> for u8 {
+    ghost from_gives = { λ class n. n ≡ class_number (says_class class) };
+
+    fn from(class: Class) -> u8 {
+        match class {
+            Class::Error => 0,
+            Class::Reply => 1,
+            Class::Event => 2,
+            Class::SentEvent => 3,
+            Class::Generic => 4,
+            Class::SentGeneric => 5,
+        }
     }
 }
 
@@ -142,7 +117,8 @@ pub fn is_unnumbered(code: u8) -> bool
     code % SENT == KEYMAP_NOTIFY
 }
 
-// The 16 bits of its number that a packet carries.
+// The 16 bits of its number that a packet carries. A packet stays a slice, and that it has 32 bytes a
+// clause: a type with that invariant would ask more of callers, and be built where each just tested it.
 pub fn wire_number(order: u8, packet: &[u8]) -> WireNumber
     requires { least_packet ≤ length packet.now }
     ensures { result ≡ wire_number order packet.now }
@@ -152,12 +128,16 @@ pub fn wire_number(order: u8, packet: &[u8]) -> WireNumber
 
 // The number that a packet is filed under after the last read: that one where it carries none,
 // otherwise its full number. Refused by 3.
-pub fn number_after(order: u8, read: SequenceNumber, packet: &[u8]) -> Full
+pub fn number_after(
+    order: u8,
+    read: SequenceNumber,
+    packet: &[u8],
+) -> Result<SequenceNumber, Refusal>
     requires { least_packet ≤ length packet.now }
     ensures { says_full result ≡ number_after order read.0 packet.now }
 {
     if is_unnumbered(packet[0]) {
-        return Full::Number(read);
+        return Ok(read);
     }
     sequence::full_number(read, wire_number(order, packet))
 }

@@ -1,5 +1,5 @@
 -- THE PROMISES of the public calls: what a contract says of the answer r, and that any two answers that it allows are equal. Of `buffer` that is `Lent` (`Reader.antt`). Assumes nothing.
-use Rattle.std.specs.Prelude.{◌≡◌, List, ℕ, length}
+use Rattle.std.specs.Prelude.{◌≡◌, List, ℕ, length, Result}
 use Rattle.std.proofs.Common.{sym, ap, ◌∙◌}
 use Rattle.packet.specs.Class.{says_class, class_one}
 use Rattle.packet_reader.specs.Frame.{Frame, frame}
@@ -8,10 +8,9 @@ use Rattle.packet_reader.specs.Reader.{made, capacity, unfilled, advanced, says_
 use Rattle.packet_reader.specs.declared.Framed.{Framed}
 use Rattle.packet_reader.specs.declared.Begins.{Begins}
 use Rattle.packet_reader.specs.declared.PacketReader.{PacketReader}
-use Rattle.packet_reader.specs.declared.Span.{Span}
-use Rattle.packet_reader.specs.declared.Made.{Made}
-use Rattle.packet_reader.specs.declared.Capacity.{Capacity}
+use Rattle.octets.specs.declared.Span.{Span}
 use Rattle.packet_reader.specs.declared.Advanced.{Advanced}
+use Rattle.refusal.specs.declared.Refusal.{Refusal}
 
 -- `frame`
 abbrev pub says_framed : Framed → Frame
@@ -37,18 +36,18 @@ module _ (order : ℕ) (bytes : List ℕ) where
 
 -- `PacketReader::new`
 module _ (order : ℕ) (buf : List ℕ) where
-  abbrev pub Makes : Made → Type 0
+  abbrev pub Makes : Result PacketReader Refusal → Type 0
   Makes r = says_made r ≡ made order (length buf)
 
-  pub makes_one : (a b : Made) → Makes a → Makes b → a ≡ b
+  pub makes_one : (a b : Result PacketReader Refusal) → Makes a → Makes b → a ≡ b
   makes_one a b x y = made_one a b (x ∙ sym y)
 
 -- `remaining_capacity`
 module _ (reader : PacketReader) (buf : List ℕ) where
-  abbrev pub Remains : Capacity → Type 0
+  abbrev pub Remains : Result ℕ Refusal → Type 0
   Remains r = says_capacity r ≡ capacity reader buf
 
-  pub remains_one : (a b : Capacity) → Remains a → Remains b → a ≡ b
+  pub remains_one : (a b : Result ℕ Refusal) → Remains a → Remains b → a ≡ b
   remains_one a b x y = capacity_one a b (x ∙ sym y)
 
 -- `unfilled`
@@ -61,8 +60,8 @@ module _ (reader : PacketReader) (buf : List ℕ) where
 
 -- `advance`
 module _ (reader : PacketReader) (buf : List ℕ) (amount : ℕ) where
-  abbrev pub Advances : Advanced → Type 0
+  abbrev pub Advances : Result Advanced Refusal → Type 0
   Advances r = says_advanced r ≡ advanced reader buf amount
 
-  pub advances_one : (a b : Advanced) → Advances a → Advances b → a ≡ b
+  pub advances_one : (a b : Result Advanced Refusal) → Advances a → Advances b → a ≡ b
   advances_one a b x y = advanced_one a b (x ∙ sym y)

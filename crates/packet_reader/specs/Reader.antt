@@ -1,20 +1,18 @@
 -- The reader over its lent buffer: when it is sound, and what its calls answer. Assumes nothing.
-use Rattle.std.specs.Prelude.{◌≡◌, refl, Bool, not, List, ℕ, ◌+◌, ◌-◌, leb, ltb, eqb, length, take}
+use Rattle.std.specs.Prelude.{◌≡◌, refl, Bool, not, List, ℕ, ◌+◌, ◌-◌, leb, ltb, eqb, length, take, Result}
 use Rattle.std.proofs.Common.{sym, ap, ◌∙◌}
 use Rattle.std.specs.Borrow.{MutBor}
 use Rattle.octets.specs.Logic.{choose, both}
 use Rattle.octets.specs.Bytes.{legal}
 use Rattle.octets.specs.Put.{cut}
-use Rattle.refusal.specs.Answer.{Answer, gives, refuses, refuse, decides}
-use Rattle.refusal.specs.Numbers.{number_of, refusal_of, listed}
+use Rattle.refusal.specs.Answer.{Answer, gives, refuse, says, says_one}
 use Rattle.packet.specs.Packet.{least_packet, most_packet, PacketClass, packet_class}
 use Rattle.packet.specs.Class.{says_class, classed, class_back}
 use Rattle.packet_reader.specs.Frame.{aim}
 use Rattle.packet_reader.specs.declared.PacketReader.{PacketReader}
-use Rattle.packet_reader.specs.declared.Span.{Span}
-use Rattle.packet_reader.specs.declared.Made.{Made}
-use Rattle.packet_reader.specs.declared.Capacity.{Capacity}
+use Rattle.octets.specs.declared.Span.{Span}
 use Rattle.packet_reader.specs.declared.Advanced.{Advanced}
+use Rattle.refusal.specs.declared.Refusal.{Refusal}
 
 -- 01, Rooms: a packet buffer has 32 to 65,536 bytes
 abbrev pub most_buffer : ℕ
@@ -72,47 +70,36 @@ unfoldable pub advanced : PacketReader → List ℕ → ℕ → Answer Progress
 advanced r s amount =
     refuse (not (soundb r s)) 9 (refuse (ltb (r.target - r.filled) amount) 7 (reached r.order s (r.filled + amount)))
 
--- what the enums say
-abbrev pub says_made : Made → Answer PacketReader
-says_made (Made.Reader r) = gives r
-says_made (Made.Refused r) = refuses (number_of r)
+-- what the results say
+abbrev pub says_made : Result PacketReader Refusal → Answer PacketReader
+says_made = says (λ r. r)
 
-abbrev pub says_capacity : Capacity → Answer ℕ
-says_capacity (Capacity.Bytes n) = gives n
-says_capacity (Capacity.Refused r) = refuses (number_of r)
+abbrev pub says_capacity : Result ℕ Refusal → Answer ℕ
+says_capacity = says (λ n. n)
 
-abbrev pub says_advanced : Advanced → Answer Progress
-says_advanced (Advanced.NotYet r) = gives (waits r)
-says_advanced (Advanced.Packet n k r) = gives (whole n (says_class k) r)
-says_advanced (Advanced.Refused r) = refuses (number_of r)
+abbrev pub says_progress : Advanced → Progress
+says_progress (Advanced.NotYet r) = waits r
+says_progress (Advanced.Packet n k r) = whole n (says_class k) r
+
+abbrev pub says_advanced : Result Advanced Refusal → Answer Progress
+says_advanced = says says_progress
 
 -- ---- laws
 
 -- Two answers that say the same are equal.
-back_made : Answer PacketReader → Made
-back_made (gives r) = Made.Reader r
-back_made (refuses n) = Made.Refused (refusal_of n)
+pub made_one : (a b : Result PacketReader Refusal) → says_made a ≡ says_made b → a ≡ b
+made_one = says_one _ (λ r. r) (λ x. refl)
 
-pub made_one : (a b : Made) → says_made a ≡ says_made b → a ≡ b
-unfolding back_made
-made_one = decides says_made back_made (elim [ Made.Reader r ↦ refl | Made.Refused r ↦ ap Made.Refused (listed r) ])
+pub capacity_one : (a b : Result ℕ Refusal) → says_capacity a ≡ says_capacity b → a ≡ b
+capacity_one = says_one _ (λ n. n) (λ x. refl)
 
-back_capacity : Answer ℕ → Capacity
-back_capacity (gives n) = Capacity.Bytes n
-back_capacity (refuses n) = Capacity.Refused (refusal_of n)
+back_progress : Progress → Advanced
+back_progress (waits r) = Advanced.NotYet r
+back_progress (whole n k r) = Advanced.Packet n (classed k) r
 
-pub capacity_one : (a b : Capacity) → says_capacity a ≡ says_capacity b → a ≡ b
-unfolding back_capacity
-capacity_one = decides says_capacity back_capacity (elim [ Capacity.Bytes n ↦ refl | Capacity.Refused r ↦ ap Capacity.Refused (listed r) ])
-
-back_advanced : Answer Progress → Advanced
-back_advanced (gives (waits r)) = Advanced.NotYet r
-back_advanced (gives (whole n k r)) = Advanced.Packet n (classed k) r
-back_advanced (refuses n) = Advanced.Refused (refusal_of n)
-
-pub advanced_one : (a b : Advanced) → says_advanced a ≡ says_advanced b → a ≡ b
-unfolding back_advanced
-advanced_one = decides says_advanced back_advanced (elim [ Advanced.NotYet r ↦ refl | Advanced.Packet n k r ↦ ap (λ x. Advanced.Packet n x r) (class_back k) | Advanced.Refused r ↦ ap Advanced.Refused (listed r) ])
+pub advanced_one : (a b : Result Advanced Refusal) → says_advanced a ≡ says_advanced b → a ≡ b
+unfolding back_progress
+advanced_one = says_one _ back_progress (elim [ Advanced.NotYet r ↦ refl | Advanced.Packet n k r ↦ ap (λ x. Advanced.Packet n x r) (class_back k) ])
 
 -- Any two parts that `buffer` may lend show the same and stand in the same place.
 pub lent_one : {r : PacketReader} {b p q : MutBor (List ℕ)} → Lent r b p → Lent r b q → (p.now ≡ q.now) × (p.ref_ptr ≡ q.ref_ptr)

@@ -9,7 +9,7 @@ use Rattle.packet_reader.specs.Frame.{aim}
 use Rattle.refusal.specs.Answer.{gives, gives_past, gives_rest}
 use Rattle.packet_reader.specs.Reader.{most_buffer, room, soundb, capacity, unfilled, Progress, advanced}
 use Rattle.packet_reader.specs.declared.PacketReader.{PacketReader}
-use Rattle.packet_reader.specs.declared.Span.{Span}
+use Rattle.octets.specs.declared.Span.{Span}
 
 -- 01, Rooms: what a sound reader is
 pub record Sound (r : PacketReader) (s : List ℕ) : Type 0 where

@@ -15,6 +15,7 @@ ghost use Rattle.packet_reader.specs.Frame.{length_as, aim};
 ghost use Rattle.packet_reader.specs.Reader.{fresh as reader_fresh, soundb, Lent};
 ghost use Rattle.packet_reader.specs.Promises.{Frames, Fronts, Makes, Remains, Lies, Advances};
 
+pub use octets::Span;
 use packet::Class;
 use refusal::Refusal;
 
@@ -36,7 +37,7 @@ pub fn frame(code: u8, field: u32) -> Framed
     let class = packet::class_of(code);
     Framed {
         length: length_as(class, field),
-        class: class,
+        class,
     }
 }
 
@@ -107,6 +108,10 @@ pub fn front(order: u8, bytes: &[u8]) -> Begins
 }
 
 // A reader's state: byte order, bytes filled, and the bytes that the packet will have.
+//
+// `connect::Connect` has the same three numbers. One generic type for the two is no plainer: its trait
+// would need the least and the most length, the aim with its laws, and what a whole one comes to (a
+// class and a fresh reader here, a handshake that stays there), for two instances of five methods.
 #[derive(Clone, Copy)]
 pub struct PacketReader {
     pub order: u8,
@@ -114,61 +119,42 @@ pub struct PacketReader {
     pub target: usize,
 }
 
-// A part of a buffer: where it starts, and where the bytes behind it start.
-#[derive(Clone, Copy)]
-pub struct Span {
-    pub start: usize,
-    pub end: usize,
-}
-
-#[derive(Clone, Copy)]
-pub enum Made {
-    Reader(PacketReader),
-    Refused(Refusal),
-}
-
-#[derive(Clone, Copy)]
-pub enum Capacity {
-    Bytes(usize),
-    Refused(Refusal),
-}
-
 // What counting filled bytes comes to: the packet isn't whole yet, or it is, with so many bytes at
-// the start of the buffer and of that class, and the reader begins anew.
+// the start of the buffer and of that class, and the reader begins anew. Two cases, and no option
+// beside a reader: `Progress` and the theorems over it have these two.
 #[derive(Clone, Copy)]
 pub enum Advanced {
     NotYet(PacketReader),
     Packet(usize, Class, PacketReader),
-    Refused(Refusal),
 }
 
 impl PacketReader {
     // A reader with nothing filled. Refused by 9 for a buffer that has not 32 to 65,536 bytes, then
     // by 13.
-    pub fn new(order: u8, buf: &[u8]) -> Made
+    pub fn new(order: u8, buf: &[u8]) -> Result<PacketReader, Refusal>
         ensures { Makes order buf.now result }
     {
         if buf.len() < packet::LEAST_PACKET {
-            return Made::Refused(Refusal::BadRoom);
+            return Err(Refusal::BadRoom);
         }
         if MOST_BUFFER < buf.len() {
-            return Made::Refused(Refusal::BadRoom);
+            return Err(Refusal::BadRoom);
         }
         if !octets::is_legal(order) {
-            return Made::Refused(Refusal::BadOrder);
+            return Err(Refusal::BadOrder);
         }
-        Made::Reader(fresh(order))
+        Ok(fresh(order))
     }
 
     // How many bytes the part has that `buffer` lends. Refused by 9 where the reader is not sound
     // beside its buffer: the number that `buffer`, which lends an empty part then, can't give.
-    pub fn remaining_capacity(self, buf: &[u8]) -> Capacity
+    pub fn remaining_capacity(self, buf: &[u8]) -> Result<usize, Refusal>
         ensures { Remains self buf.now result }
     {
         if !is_sound(self, buf) {
-            return Capacity::Refused(Refusal::BadRoom);
+            return Err(Refusal::BadRoom);
         }
-        Capacity::Bytes(self.target - self.filled)
+        Ok(self.target - self.filled)
     }
 
     // Where the part of the buffer lies that is to be filled next: from the filled bytes to the
@@ -197,29 +183,29 @@ impl PacketReader {
 
     // Counts amount bytes of the lent part as filled. Refused by 9 for an unsound reader, 7 for
     // more than the part has, and 2 where the packet would be longer than the buffer.
-    pub fn advance(self, buf: &[u8], amount: usize) -> Advanced
+    pub fn advance(self, buf: &[u8], amount: usize) -> Result<Advanced, Refusal>
         ensures { Advances self buf.now amount result }
     {
         if !is_sound(self, buf) {
-            return Advanced::Refused(Refusal::BadRoom);
+            return Err(Refusal::BadRoom);
         }
         if self.target - self.filled < amount {
-            return Advanced::Refused(Refusal::OverAdvance);
+            return Err(Refusal::OverAdvance);
         }
         let order = self.order;
         let filled = self.filled + amount;
         let target = aim_of(order, buf, filled);
         if buf.len() < target {
-            return Advanced::Refused(Refusal::LongPacket);
+            return Err(Refusal::LongPacket);
         }
         if filled < target {
-            return Advanced::NotYet(PacketReader {
-                order: order,
-                filled: filled,
-                target: target,
-            });
+            return Ok(Advanced::NotYet(PacketReader {
+                order,
+                filled,
+                target,
+            }));
         }
-        Advanced::Packet(target, packet::class_of(buf[0]), fresh(order))
+        Ok(Advanced::Packet(target, packet::class_of(buf[0]), fresh(order)))
     }
 }
 
@@ -227,7 +213,7 @@ fn fresh(order: u8) -> PacketReader
     ensures { result ≡ reader_fresh order }
 {
     PacketReader {
-        order: order,
+        order,
         filled: 0,
         target: packet::LEAST_PACKET,
     }

@@ -13,11 +13,9 @@ use std::io::Read;
 // The buffer has twice the bytes of the longest packet: where bytes are wanted less than one packet
 // is held, so there is room behind it.
 fn main(rt: HostRuntime) -> io::Result<()> {
-    let mut space = [0u8; 131072];
-    let buf: &mut [u8] = &mut space;
-    let mut text = [0u8; 65536];
-    let out: &mut [u8] = &mut text;
-    run(&rt, &mut rt.stdin(), buf, out)
+    let mut buf = [0u8; 131072];
+    let mut out = [0u8; 65536];
+    run(&rt, &mut rt.stdin(), &mut buf, &mut out)
 }
 
 // More bytes behind those held; how many are held then. None come where the input can't be read.
@@ -25,38 +23,30 @@ fn more(input: &mut impl Read, buf: &mut [u8], held: usize) -> usize
     requires { held ≤ length buf.old }
     ensures { (held ≤ result) × (result ≤ length buf.new) }
 {
-    let end = buf.len();
-    let part = &mut buf[held..end];
-    match input.read(part) {
+    match input.read(&mut buf[held..]) {
         Ok(n) => held + n,
         Err(_) => held,
     }
 }
 
-// A proved loop has to end, so it counts turns down from a number that no run uses up.
+// A proved loop has to end, so it has so many turns that no run uses them up.
 fn run(rt: &impl Print, input: &mut impl Read, buf: &mut [u8], out: &mut [u8]) -> io::Result<()> {
     let mut place = Stage::Start;
     let mut held = 0;
     let mut over = false;
-    let mut turns = u64::MAX;
-    while turns > 0 {
-        turns -= 1;
+    for _ in 0..u64::MAX {
         let turn = listing::list(place, buf, held, over, out);
-        let written = turn.written;
-        rt.write_all(&out[..written])?;
+        rt.write_all(&out[..turn.written])?;
         place = turn.place;
         held = turn.held;
-        let wants = turn.wants;
-        match wants {
+        match turn.wants {
             Wants::Bytes => {
                 let filled = more(input, buf, held);
                 over = filled == held;
                 held = filled;
             }
             Wants::Room => {}
-            Wants::Nothing => {
-                return Ok(());
-            }
+            Wants::Nothing => return Ok(()),
         }
     }
     Ok(())

@@ -1,5 +1,5 @@
 -- The polls, exactly: what each answers and leaves, byte by byte. Assumes nothing.
-use Rattle.std.specs.Prelude.{◌≡◌, Bool, List, [], ℕ, ◌+◌, ltb, length, get_or}
+use Rattle.std.specs.Prelude.{◌≡◌, Bool, List, [], ℕ, ◌+◌, ltb, length, get_or, Option, Some, None, Result}
 use Rattle.octets.specs.Logic.{choose, either}
 use Rattle.octets.specs.Put.{cut}
 use Rattle.refusal.specs.Answer.{Answer, gives, refuse}
@@ -7,7 +7,6 @@ use Rattle.held.specs.Head.{header_size}
 use Rattle.held.specs.Find.{found_reply, found_event}
 use Rattle.held.specs.Moves.{Left, left, removed, demoted}
 use Rattle.held.specs.declared.Spot.{Spot}
-use Rattle.held.specs.declared.Found.{Found}
 use Rattle.descriptors.specs.Room as Slots
 use Rattle.model.specs.Client.{Held, held_packet}
 use Rattle.model.specs.Model as Model
@@ -17,12 +16,12 @@ use Rattle.model.specs.Model.{Taken}
 use Rattle.model.specs.Reading.{Rooms, rooms, slots_of}
 use Rattle.model.specs.Moved.{moved_state}
 use Rattle.model.specs.Promise.{Done, Exact, output_of}
-use Rattle.model.specs.Says.{shown_taken, shown_poll, bytes_of_taken, descriptors_of_taken, bytes_of_poll, says_polled, says_poll_reply, says_event}
+use Rattle.model.specs.Says.{shown_taken, shown_poll, bytes_of_taken, descriptors_of_taken, bytes_of_poll, says_polled, says_poll_reply}
 use Rattle.model.specs.declared.Connection.{Connection}
 use Rattle.model.specs.declared.Handed.{Handed}
 use Rattle.model.specs.declared.Polled.{Polled}
 use Rattle.model.specs.declared.PollReply.{PollReply}
-use Rattle.model.specs.declared.Event.{Event}
+use Rattle.refusal.specs.declared.Refusal.{Refusal}
 
 -- what is left where nothing moves, and where records and descriptors did
 abbrev pub stays : {A : Type 0} → A → Connection → Rooms → Done A
@@ -70,18 +69,18 @@ closing c r p = Slots.close_held p.before p.fds (slots_of c r)
 
 -- ---- `poll_for_event_with_sequence`: the oldest event; nothing found, then 8
 
-abbrev pub event_from : Connection → Rooms → ℕ → Found → Answer (Done Taken)
-event_from c r bytes Found.Nothing = gives (stays Model.none c r)
-event_from c r bytes (Found.At p) = refuse (ltb bytes p.len) 8 (gives (moved (Model.packet (event_at r p)) c r (without c r p) (slots_of c r)))
+abbrev pub event_from : Connection → Rooms → ℕ → Option Spot → Answer (Done Taken)
+event_from c r bytes None = gives (stays Model.none c r)
+event_from c r bytes (Some p) = refuse (ltb bytes p.len) 8 (gives (moved (Model.packet (event_at r p)) c r (without c r p) (slots_of c r)))
 
 unfoldable pub event_exact : Connection → Rooms → ℕ → Answer (Done Taken)
 event_exact c r bytes = event_from c r bytes (found_event c.window r.store)
 
 -- ---- `poll_for_reply_or_error`: the oldest packet of a number, with its descriptors
 
-abbrev pub taken_from : Connection → Rooms → ℕ → ℕ → Found → Answer (Done Taken)
-taken_from c r bytes places Found.Nothing = gives (stays Model.none c r)
-taken_from c r bytes places (Found.At p) =
+abbrev pub taken_from : Connection → Rooms → ℕ → ℕ → Option Spot → Answer (Done Taken)
+taken_from c r bytes places None = gives (stays Model.none c r)
+taken_from c r bytes places (Some p) =
     refuse (either (ltb bytes p.len) (ltb places p.fds)) 8 (gives (moved (Model.packet (reply_at c r p)) c r (without c r p) (handing_out c r p)))
 
 unfoldable pub taken_exact : Connection → Rooms → ℕ → ℕ → ℕ → Answer (Done Taken)
@@ -89,9 +88,9 @@ taken_exact c r n bytes places = taken_from c r bytes places (found_reply n c.wi
 
 -- ---- `poll_check_for_reply_or_error`: its descriptors are closed; "NoReply only if last read > number"
 
-abbrev pub checked_from : Connection → Rooms → ℕ → ℕ → Found → Answer (Done Model.PollReply)
-checked_from c r n bytes Found.Nothing = gives (stays (choose (ltb n c.read) Model.no_reply Model.try_again) c r)
-checked_from c r n bytes (Found.At p) = refuse (ltb bytes p.len) 8 (gives (moved (Model.reply (reply_at c r p)) c r (without c r p) (closing c r p)))
+abbrev pub checked_from : Connection → Rooms → ℕ → ℕ → Option Spot → Answer (Done Model.PollReply)
+checked_from c r n bytes None = gives (stays (choose (ltb n c.read) Model.no_reply Model.try_again) c r)
+checked_from c r n bytes (Some p) = refuse (ltb bytes p.len) 8 (gives (moved (Model.reply (reply_at c r p)) c r (without c r p) (closing c r p)))
 
 unfoldable pub checked_exact : Connection → Rooms → ℕ → ℕ → Answer (Done Model.PollReply)
 checked_exact c r n bytes = checked_from c r n bytes (found_reply n c.window r.store)
@@ -101,9 +100,9 @@ checked_exact c r n bytes = checked_from c r n bytes (found_reply n c.window r.s
 abbrev pub error_at : Rooms → Spot → Bool
 error_at r p = is_error (class_at r.store p)
 
-abbrev pub replied_from : Connection → Rooms → ℕ → Found → Answer (Done Model.PollReply)
-replied_from c r bytes Found.Nothing = gives (stays Model.try_again c r)
-replied_from c r bytes (Found.At p) =
+abbrev pub replied_from : Connection → Rooms → ℕ → Option Spot → Answer (Done Model.PollReply)
+replied_from c r bytes None = gives (stays Model.try_again c r)
+replied_from c r bytes (Some p) =
     choose (error_at r p) (gives (moved Model.no_reply c r (turned_event c r p) (closing c r p)))
     (refuse (ltb bytes p.len) 8 (gives (moved (Model.reply (reply_at c r p)) c r (without c r p) (closing c r p))))
 
@@ -112,19 +111,19 @@ replied_exact c r n bytes = replied_from c r bytes (found_reply n c.window r.sto
 
 -- ---- The steps are exact, whatever the rooms that they are not lent.
 
-pub record EventStep (c : Connection) (s out : List ℕ) (a : Event) (s' out' : List ℕ) : Type 0 where
-  pub exact : (q f : List ℕ) → Exact shown_taken (event_exact c (rooms q s f) (length out)) (rooms q s f) (says_event a) (rooms q s' f)
+pub record EventStep (c : Connection) (s out : List ℕ) (a : Result Polled Refusal) (s' out' : List ℕ) : Type 0 where
+  pub exact : (q f : List ℕ) → Exact shown_taken (event_exact c (rooms q s f) (length out)) (rooms q s f) (says_polled a) (rooms q s' f)
   pub output : (q f : List ℕ) → out' ≡ output_of bytes_of_taken (event_exact c (rooms q s f) (length out)) out
 
-pub record TakenStep (c : Connection) (n : ℕ) (s f out fds : List ℕ) (a : Polled) (s' f' out' fds' : List ℕ) : Type 0 where
+pub record TakenStep (c : Connection) (n : ℕ) (s f out fds : List ℕ) (a : Result Polled Refusal) (s' f' out' fds' : List ℕ) : Type 0 where
   pub exact : (q : List ℕ) → Exact shown_taken (taken_exact c (rooms q s f) n (length out) (length fds)) (rooms q s f) (says_polled a) (rooms q s' f')
   pub output : (q : List ℕ) → out' ≡ output_of bytes_of_taken (taken_exact c (rooms q s f) n (length out) (length fds)) out
   pub places : (q : List ℕ) → fds' ≡ output_of descriptors_of_taken (taken_exact c (rooms q s f) n (length out) (length fds)) fds
 
-pub record CheckedStep (c : Connection) (n : ℕ) (s f out : List ℕ) (a : PollReply) (s' f' out' : List ℕ) : Type 0 where
+pub record CheckedStep (c : Connection) (n : ℕ) (s f out : List ℕ) (a : Result PollReply Refusal) (s' f' out' : List ℕ) : Type 0 where
   pub exact : (q : List ℕ) → Exact shown_poll (checked_exact c (rooms q s f) n (length out)) (rooms q s f) (says_poll_reply a) (rooms q s' f')
   pub output : (q : List ℕ) → out' ≡ output_of bytes_of_poll (checked_exact c (rooms q s f) n (length out)) out
 
-pub record RepliedStep (c : Connection) (n : ℕ) (s f out : List ℕ) (a : PollReply) (s' f' out' : List ℕ) : Type 0 where
+pub record RepliedStep (c : Connection) (n : ℕ) (s f out : List ℕ) (a : Result PollReply Refusal) (s' f' out' : List ℕ) : Type 0 where
   pub exact : (q : List ℕ) → Exact shown_poll (replied_exact c (rooms q s f) n (length out)) (rooms q s f) (says_poll_reply a) (rooms q s' f')
   pub output : (q : List ℕ) → out' ≡ output_of bytes_of_poll (replied_exact c (rooms q s f) n (length out)) out

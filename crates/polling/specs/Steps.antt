@@ -1,5 +1,5 @@
 -- How each poll comes out: what its code needs at a place that was found, and that its outcome is the exact one. Assumes nothing.
-use Rattle.std.specs.Prelude.{◌≡◌, Bool, ltb, get_or}
+use Rattle.std.specs.Prelude.{◌≡◌, Bool, ltb, get_or, Some, None, Ok, Err}
 use Rattle.std.proofs.Math.Path.{refl, sym, ap}
 use Rattle.std.proofs.Common.{◌∙◌, subst, arith, lt-ltb, le-ltb}
 use Rattle.std.proofs.Math.Bool.{true, false}
@@ -20,7 +20,6 @@ use Rattle.held.specs.Lies.{FirstReply, FirstEvent, FindsReply, FindsEvent}
 use Rattle.held.specs.Theorems.{find_reply_law, find_event_law, place_law, fits_law, first_law}
 use Rattle.held.specs.declared.Window.{Window}
 use Rattle.held.specs.declared.Spot.{Spot}
-use Rattle.held.specs.declared.Found.TheVariants as Found
 use Rattle.descriptors.specs.Room as Slots
 use Rattle.descriptors.specs.Theorems.{length_holding}
 use Rattle.descriptors.specs.declared.Counts.{Counts}
@@ -36,11 +35,10 @@ use Rattle.model.specs.Says.{handed_with, shown_taken, shown_poll, bytes_of_take
 use Rattle.model.specs.Says as Says
 use Rattle.model.specs.declared.Connection.{Connection}
 use Rattle.model.specs.declared.Handed.{Handed}
-use Rattle.model.specs.declared.Polled.TheVariants as Polled
 use Rattle.model.specs.declared.PollReply.TheVariants as PollReply
-use Rattle.model.specs.declared.Event.TheVariants as Event
 use Rattle.model.specs.Moved.{moved_state}
 use Rattle.polling.specs.Exact.{stays, moved, packet_at, class_at, handed_at, event_at, reply_at, without, turned_event, handing_out, closing, event_from, event_exact, taken_from, taken_exact, checked_from, checked_exact, error_at, replied_from, replied_exact, EventStep, TakenStep, CheckedStep, RepliedStep}
+use Rattle.refusal.specs.declared.Refusal.{Refusal}
 
 -- ---- outcomes
 
@@ -82,7 +80,7 @@ pub record MetEvent : Type 0 where
   pub s : List ℕ
   pub sound : Store.Sound c.read c.window s
   pub p : Spot
-  pub found : Found.At p ≡ found_event c.window s
+  pub found : Some p ≡ found_event c.window s
 
 module _ (met : MetEvent) where
   open met use {c, s, sound as H, p, found as e}
@@ -100,7 +98,7 @@ module _ (met : MetEvent) where
   event_some = omega (arith, event_found.len, (fits_law c.read c.window s H event p [] event_found.it event_found.after event_found.lies).least)
 
   module _ (out : List ℕ) where
-    pub event_short : length out < p.len → EventStep c s out (Event.Refused Refusal.OutShort) s out
+    pub event_short : length out < p.len → EventStep c s out (Err Refusal.OutShort) s out
     unfolding event_exact
     event_short h =
         let z : (q f : List ℕ) → refuses 8 ≡ event_exact c (rooms q s f) (length out) = λ q f. given_refusal _ _ _ (lt-ltb (length out) p.len h) ∙ ap (event_from c (rooms q s f) (length out)) e in
@@ -110,7 +108,7 @@ module _ (met : MetEvent) where
         }
 
     pub event_taken : p.len ≤ length out → (w : Window) (s' out' : List ℕ) (j : Class) (h : Handed) (c' : Connection) → says_class j ≡ class_at s p → Takes c.window s p out w s' out' → h ≡ handed_at p j 0 → c' ≡ moved_state c w c.counts
-        → EventStep c s out (Event.Packet h c') s' out'
+        → EventStep c s out (Ok (record { packet = Some h; connection = c' })) s' out'
     unfolding event_exact handed
     event_taken h w s' out' j x c' J T i g =
         let d : List ℕ → List ℕ → Done Model.Taken = λ q f. moved (Model.packet (event_at (rooms q s f) p)) c (rooms q s f) (without c (rooms q s f) p) (slots_of c (rooms q s f)) in
@@ -123,7 +121,7 @@ module _ (met : MetEvent) where
           output = λ q f. output_as bytes_of_taken _ out out' (d q f) (z q f) T.output;
         }
 
-pub event_none : (c : Connection) (s out : List ℕ) → Found.Nothing ≡ found_event c.window s → EventStep c s out (Event.Nothing c) s out
+pub event_none : (c : Connection) (s out : List ℕ) → None ≡ found_event c.window s → EventStep c s out (Ok (record { packet = None; connection = c })) s out
 unfolding event_exact
 event_none c s out e =
     let z : (q f : List ℕ) → gives (stays Model.none c (rooms q s f)) ≡ event_exact c (rooms q s f) (length out) = λ q f. ap (event_from c (rooms q s f) (length out)) e in
@@ -142,7 +140,7 @@ pub record MetReply : Type 0 where
   pub f : List ℕ
   pub ready : Ready c s f
   pub p : Spot
-  pub found : Found.At p ≡ found_reply n c.window s
+  pub found : Some p ≡ found_reply n c.window s
 
 module _ (met : MetReply) where
   open met use {c, n, s, f, ready as R, p, found as e}
@@ -186,7 +184,7 @@ module _ (met : MetReply) where
   -- ---- `poll_for_reply_or_error`
 
   module _ (out fds : List ℕ) where
-    taken_refused : either (ltb (length out) p.len) (ltb (length fds) p.fds) ≡ true → TakenStep c n s f out fds (Polled.Refused Refusal.OutShort) s f out fds
+    taken_refused : either (ltb (length out) p.len) (ltb (length fds) p.fds) ≡ true → TakenStep c n s f out fds (Err Refusal.OutShort) s f out fds
     unfolding taken_exact
     taken_refused h =
         let z : (q : List ℕ) → refuses 8 ≡ taken_exact c (rooms q s f) n (length out) (length fds) = λ q. given_refusal _ _ _ h ∙ ap (taken_from c (rooms q s f) (length out) (length fds)) e in
@@ -196,18 +194,18 @@ module _ (met : MetReply) where
           places = λ q. output_refused descriptors_of_taken _ fds 8 (z q);
         }
 
-    pub taken_short : length out < p.len → TakenStep c n s f out fds (Polled.Refused Refusal.OutShort) s f out fds
+    pub taken_short : length out < p.len → TakenStep c n s f out fds (Err Refusal.OutShort) s f out fds
     unfolding either
     taken_short h = taken_refused (ap (λ (t : Bool). either t (ltb (length fds) p.fds)) (lt-ltb (length out) p.len h))
 
-    pub taken_narrow : p.len ≤ length out → length fds < p.fds → TakenStep c n s f out fds (Polled.Refused Refusal.OutShort) s f out fds
+    pub taken_narrow : p.len ≤ length out → length fds < p.fds → TakenStep c n s f out fds (Err Refusal.OutShort) s f out fds
     unfolding either
     taken_narrow h k = taken_refused (λ j. either (le-ltb (length out) p.len h j) (lt-ltb (length fds) p.fds k j))
 
     pub taken_given : p.len ≤ length out → p.fds ≤ length fds → (w : Window) (n' : Counts) (s' f' out' fds' : List ℕ) (c' : Connection)
         → Takes c.window s p out w s' out'
         → Slots.Gives (Slots.hand_out p.before p.fds (Slots.room f c.counts)) (Slots.held_run p.before p.fds (Slots.room f c.counts)) fds (Slots.room f' n') fds'
-        → (j : Class) → says_class j ≡ class_at s p → (x : Handed) → x ≡ handed_at p j p.fds → c' ≡ moved_state c w n' → TakenStep c n s f out fds (Polled.Packet x c') s' f' out' fds'
+        → (j : Class) → says_class j ≡ class_at s p → (x : Handed) → x ≡ handed_at p j p.fds → c' ≡ moved_state c w n' → TakenStep c n s f out fds (Ok (record { packet = Some x; connection = c' })) s' f' out' fds'
     unfolding taken_exact handed either
     taken_given h k w n' s' f' out' fds' c' T G j J x i g =
         let d : List ℕ → Done Model.Taken = λ q. moved (Model.packet (reply_at c (rooms q s f) p)) c (rooms q s f) (without c (rooms q s f) p) (handing_out c (rooms q s f) p) in
@@ -225,7 +223,7 @@ module _ (met : MetReply) where
   -- ---- `poll_check_for_reply_or_error`
 
   module _ (out : List ℕ) where
-    pub checked_short : length out < p.len → CheckedStep c n s f out (PollReply.Refused Refusal.OutShort) s f out
+    pub checked_short : length out < p.len → CheckedStep c n s f out (Err Refusal.OutShort) s f out
     unfolding checked_exact
     checked_short h =
         let z : (q : List ℕ) → refuses 8 ≡ checked_exact c (rooms q s f) n (length out) =
@@ -235,7 +233,7 @@ module _ (met : MetReply) where
     pub checked_given : p.len ≤ length out → (w : Window) (n' : Counts) (s' f' out' : List ℕ) (c' : Connection)
         → Takes c.window s p out w s' out'
         → Slots.room f' n' ≡ Slots.close_held p.before p.fds (Slots.room f c.counts)
-        → (j : Class) → says_class j ≡ class_at s p → (x : Handed) → x ≡ handed_at p j 0 → c' ≡ moved_state c w n' → CheckedStep c n s f out (PollReply.Reply x c') s' f' out'
+        → (j : Class) → says_class j ≡ class_at s p → (x : Handed) → x ≡ handed_at p j 0 → c' ≡ moved_state c w n' → CheckedStep c n s f out (Ok (PollReply.Reply x c')) s' f' out'
     unfolding checked_exact handed
     checked_given h w n' s' f' out' c' T G j J x i g =
         let d : List ℕ → Done Model.PollReply = λ q. moved (Model.reply (reply_at c (rooms q s f) p)) c (rooms q s f) (without c (rooms q s f) p) (closing c (rooms q s f) p) in
@@ -256,7 +254,7 @@ module _ (met : MetReply) where
     pub replied_error : (j : Class) → says_class j ≡ class_at s p → is_error (says_class j) ≡ true → (n' : Counts) (s' f' : List ℕ) (c' : Connection)
         → s' ≡ demoted c.window s p
         → Slots.room f' n' ≡ Slots.close_held p.before p.fds (Slots.room f c.counts)
-        → c' ≡ moved_state c c.window n' → RepliedStep c n s f out (PollReply.NoReply c') s' f' out
+        → c' ≡ moved_state c c.window n' → RepliedStep c n s f out (Ok (PollReply.NoReply c')) s' f' out
     unfolding replied_exact choose
     replied_error j x y n' s' f' c' T G g =
         let d : List ℕ → Done Model.PollReply = λ q. moved Model.no_reply c (rooms q s f) (turned_event c (rooms q s f) p) (closing c (rooms q s f) p) in
@@ -269,7 +267,7 @@ module _ (met : MetReply) where
           output = λ q. output_none bytes_of_poll _ out (d q) (z q) refl;
         }
 
-    pub replied_short : (j : Class) → says_class j ≡ class_at s p → is_error (says_class j) ≡ false → length out < p.len → RepliedStep c n s f out (PollReply.Refused Refusal.OutShort) s f out
+    pub replied_short : (j : Class) → says_class j ≡ class_at s p → is_error (says_class j) ≡ false → length out < p.len → RepliedStep c n s f out (Err Refusal.OutShort) s f out
     unfolding replied_exact choose
     replied_short j x y h =
         let z : (q : List ℕ) → refuses 8 ≡ replied_exact c (rooms q s f) n (length out) =
@@ -279,7 +277,7 @@ module _ (met : MetReply) where
     pub replied_given : (j : Class) → says_class j ≡ class_at s p → is_error (says_class j) ≡ false → p.len ≤ length out → (w : Window) (n' : Counts) (s' f' out' : List ℕ) (c' : Connection)
         → Takes c.window s p out w s' out'
         → Slots.room f' n' ≡ Slots.close_held p.before p.fds (Slots.room f c.counts)
-        → (k : Class) → says_class k ≡ class_at s p → (v : Handed) → v ≡ handed_at p k 0 → c' ≡ moved_state c w n' → RepliedStep c n s f out (PollReply.Reply v c') s' f' out'
+        → (k : Class) → says_class k ≡ class_at s p → (v : Handed) → v ≡ handed_at p k 0 → c' ≡ moved_state c w n' → RepliedStep c n s f out (Ok (PollReply.Reply v c')) s' f' out'
     unfolding replied_exact handed choose
     replied_given j x y h w n' s' f' out' c' T G k K v i g =
         let d : List ℕ → Done Model.PollReply = λ q. moved (Model.reply (reply_at c (rooms q s f) p)) c (rooms q s f) (without c (rooms q s f) p) (closing c (rooms q s f) p) in
@@ -294,8 +292,8 @@ module _ (met : MetReply) where
 
 -- ---- nothing of that number
 
-module _ (c : Connection) (n : ℕ) (s f : List ℕ) (e : Found.Nothing ≡ found_reply n c.window s) (out : List ℕ) where
-  pub taken_none : (fds : List ℕ) → TakenStep c n s f out fds (Polled.Nothing c) s f out fds
+module _ (c : Connection) (n : ℕ) (s f : List ℕ) (e : None ≡ found_reply n c.window s) (out : List ℕ) where
+  pub taken_none : (fds : List ℕ) → TakenStep c n s f out fds (Ok (record { packet = None; connection = c })) s f out fds
   unfolding taken_exact
   taken_none fds =
       let z : (q : List ℕ) → gives (stays Model.none c (rooms q s f)) ≡ taken_exact c (rooms q s f) n (length out) (length fds) = λ q. ap (taken_from c (rooms q s f) (length out) (length fds)) e in
@@ -305,21 +303,21 @@ module _ (c : Connection) (n : ℕ) (s f : List ℕ) (e : Found.Nothing ≡ foun
         places = λ q. output_none descriptors_of_taken _ fds _ (z q) refl;
       }
 
-  pub checked_past : n < c.read → CheckedStep c n s f out (PollReply.NoReply c) s f out
+  pub checked_past : n < c.read → CheckedStep c n s f out (Ok (PollReply.NoReply c)) s f out
   unfolding checked_exact choose
   checked_past h =
       let z : (q : List ℕ) → gives (stays Model.no_reply c (rooms q s f)) ≡ checked_exact c (rooms q s f) n (length out) =
       λ q. ap (λ (t : Bool). gives (stays (choose t Model.no_reply Model.try_again) c (rooms q s f))) (sym (lt-ltb n c.read h)) ∙ ap (checked_from c (rooms q s f) n (length out)) e in
       record { exact = λ q. exact_as shown_poll _ (rooms q s f) _ Says.no_reply c (rooms q s f) (z q) refl refl refl; output = λ q. output_none bytes_of_poll _ out _ (z q) refl }
 
-  pub checked_again : c.read ≤ n → CheckedStep c n s f out (PollReply.TryAgain c) s f out
+  pub checked_again : c.read ≤ n → CheckedStep c n s f out (Ok (PollReply.TryAgain c)) s f out
   unfolding checked_exact choose
   checked_again h =
       let z : (q : List ℕ) → gives (stays Model.try_again c (rooms q s f)) ≡ checked_exact c (rooms q s f) n (length out) =
       λ q. ap (λ (t : Bool). gives (stays (choose t Model.no_reply Model.try_again) c (rooms q s f))) (sym (le-ltb n c.read h)) ∙ ap (checked_from c (rooms q s f) n (length out)) e in
       record { exact = λ q. exact_as shown_poll _ (rooms q s f) _ Says.again c (rooms q s f) (z q) refl refl refl; output = λ q. output_none bytes_of_poll _ out _ (z q) refl }
 
-  pub replied_none : RepliedStep c n s f out (PollReply.TryAgain c) s f out
+  pub replied_none : RepliedStep c n s f out (Ok (PollReply.TryAgain c)) s f out
   unfolding replied_exact
   replied_none =
       let z : (q : List ℕ) → gives (stays Model.try_again c (rooms q s f)) ≡ replied_exact c (rooms q s f) n (length out) = λ q. ap (replied_from c (rooms q s f) (length out)) e in

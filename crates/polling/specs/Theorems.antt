@@ -1,5 +1,5 @@
 -- The polls in the model's terms, and the states that they leave. Assumes nothing.
-use Rattle.std.specs.Prelude.{◌≡◌, map, ℕ, ltb}
+use Rattle.std.specs.Prelude.{◌≡◌, map, ℕ, ltb, Option, Some, None}
 use Rattle.std.proofs.Math.Path.{sym, ap}
 use Rattle.std.proofs.Common.{◌∙◌, subst}
 use Rattle.octets.specs.Logic.{choose, either}
@@ -10,7 +10,6 @@ use Rattle.held.specs.Find.{found_reply, found_event}
 use Rattle.held.specs.Moves.{demoted}
 use Rattle.held.specs.Lies.{Other, FindsReply, FindsEvent}
 use Rattle.held.specs.Theorems as Held
-use Rattle.held.specs.declared.Found.{Found}
 use Rattle.descriptors.specs.Room as Slots
 use Rattle.model.specs.Model as Model
 use Rattle.model.specs.Model.{find, taken_by, poll_for_reply_or_error, checked_by, poll_check, replied_by, poll_for_reply, event_by, poll_for_event}
@@ -22,15 +21,16 @@ use Rattle.model.specs.Moved.{moved_state}
 use Rattle.polling.specs.Exact.{reply_at, closing, event_from, event_exact, taken_from, taken_exact, checked_from, checked_exact, error_at, replied_from, replied_exact}
 use Rattle.polling.specs.Rows.{model_choose, find_none}
 use Rattle.polling.specs.Left.{event_is, event_left, event_sound, found_read, taken_left, closed_left, turned_left, taken_sound, closed_sound, turned_sound, same_error, bytes_is, places_is}
+use Rattle.held.specs.declared.Spot.{Spot}
 
 module _ (c : Connection) (r : Rooms) (S : Sound c r) where
   -- ---- the oldest event
 
   module _ (bytes : ℕ) where
-    event_by_lem : (x : Found) → FindsEvent c.window r.store x → model_of (event_from c r bytes x) ≡ poll_for_event (reads c r) bytes
+    event_by_lem : (x : Option Spot) → FindsEvent c.window r.store x → model_of (event_from c r bytes x) ≡ poll_for_event (reads c r) bytes
     unfolding model_of poll_for_event reads
-    event_by_lem Found.Nothing F = sym (ap (λ l. event_by (reads c r) bytes (map event_of l)) F)
-    event_by_lem (Found.At p) F =
+    event_by_lem None F = sym (ap (λ l. event_by (reads c r) bytes (map event_of l)) F)
+    event_by_lem (Some p) F =
         model_refuse (ltb bytes p.len) 8 _
         ∙ (λ k. refuse (ltb bytes (F.len k)) 8 (gives (Model.packet (event_is c r S p F k), event_left c r S p F k)))
         ∙ sym (ap (λ l. event_by (reads c r) bytes (map event_of l)) F.split)
@@ -40,9 +40,9 @@ module _ (c : Connection) (r : Rooms) (S : Sound c r) where
     unfolding event_exact
     event_model = event_by_lem (found_event c.window r.store) (Held.find_event_law c.window r.store)
 
-    event_keeps : (x : Found) → FindsEvent c.window r.store x → (d : Done Model.Taken) → gives d ≡ event_from c r bytes x → Sound d.state d.left
-    event_keeps Found.Nothing F d e = subst (λ (y : Done Model.Taken). Sound y.state y.left) (gives_same (sym e)) S
-    event_keeps (Found.At p) F d e = subst (λ (y : Done Model.Taken). Sound y.state y.left) (gives_same (sym (gives_rest _ _ _ e))) (event_sound c r S p F)
+    event_keeps : (x : Option Spot) → FindsEvent c.window r.store x → (d : Done Model.Taken) → gives d ≡ event_from c r bytes x → Sound d.state d.left
+    event_keeps None F d e = subst (λ (y : Done Model.Taken). Sound y.state y.left) (gives_same (sym e)) S
+    event_keeps (Some p) F d e = subst (λ (y : Done Model.Taken). Sound y.state y.left) (gives_same (sym (gives_rest _ _ _ e))) (event_sound c r S p F)
 
     -- and leaves a sound state.
     pub event_leaves : (d : Done Model.Taken) → gives d ≡ event_exact c r bytes → Sound d.state d.left
@@ -52,7 +52,7 @@ module _ (c : Connection) (r : Rooms) (S : Sound c r) where
   -- ---- the oldest reply of a number
 
   module _ (n : ℕ) where
-    abbrev found : Found
+    abbrev found : Option Spot
     found = found_reply n c.window r.store
 
     found_is : FindsReply n c.window r.store found
@@ -62,10 +62,10 @@ module _ (c : Connection) (r : Rooms) (S : Sound c r) where
     none_read F = find_none n (Store.replies c.window r.store) (Slots.holding (slots_of c r)) F
 
     module _ (bytes places : ℕ) where
-      taken_by_lem : (x : Found) → FindsReply n c.window r.store x → model_of (taken_from c r bytes places x) ≡ poll_for_reply_or_error (reads c r) n bytes places
+      taken_by_lem : (x : Option Spot) → FindsReply n c.window r.store x → model_of (taken_from c r bytes places x) ≡ poll_for_reply_or_error (reads c r) n bytes places
       unfolding model_of poll_for_reply_or_error reads
-      taken_by_lem Found.Nothing F = sym (ap (taken_by (reads c r) bytes places) (none_read F))
-      taken_by_lem (Found.At p) F =
+      taken_by_lem None F = sym (ap (taken_by (reads c r) bytes places) (none_read F))
+      taken_by_lem (Some p) F =
           model_refuse (either (ltb bytes p.len) (ltb places p.fds)) 8 _
           ∙ (λ k. refuse (either (ltb bytes (bytes_is c r S n p F k)) (ltb places (places_is c r S n p F k))) 8 (gives (Model.packet (reply_at c r p), taken_left c r S n p F k)))
           ∙ sym (ap (taken_by (reads c r) bytes places) (found_read c r S n p F))
@@ -75,9 +75,9 @@ module _ (c : Connection) (r : Rooms) (S : Sound c r) where
       unfolding taken_exact
       taken_model = taken_by_lem found found_is
 
-      taken_keeps : (x : Found) → FindsReply n c.window r.store x → (d : Done Model.Taken) → gives d ≡ taken_from c r bytes places x → Sound d.state d.left
-      taken_keeps Found.Nothing F d e = subst (λ (y : Done Model.Taken). Sound y.state y.left) (gives_same (sym e)) S
-      taken_keeps (Found.At p) F d e = subst (λ (y : Done Model.Taken). Sound y.state y.left) (gives_same (sym (gives_rest _ _ _ e))) (taken_sound c r S n p F)
+      taken_keeps : (x : Option Spot) → FindsReply n c.window r.store x → (d : Done Model.Taken) → gives d ≡ taken_from c r bytes places x → Sound d.state d.left
+      taken_keeps None F d e = subst (λ (y : Done Model.Taken). Sound y.state y.left) (gives_same (sym e)) S
+      taken_keeps (Some p) F d e = subst (λ (y : Done Model.Taken). Sound y.state y.left) (gives_same (sym (gives_rest _ _ _ e))) (taken_sound c r S n p F)
 
       -- and leaves a sound state.
       pub taken_leaves : (d : Done Model.Taken) → gives d ≡ taken_exact c r n bytes places → Sound d.state d.left
@@ -85,10 +85,10 @@ module _ (c : Connection) (r : Rooms) (S : Sound c r) where
       taken_leaves d e = taken_keeps found found_is d e
 
     module _ (bytes : ℕ) where
-      checked_by_lem : (x : Found) → FindsReply n c.window r.store x → model_of (checked_from c r n bytes x) ≡ poll_check (reads c r) n bytes
+      checked_by_lem : (x : Option Spot) → FindsReply n c.window r.store x → model_of (checked_from c r n bytes x) ≡ poll_check (reads c r) n bytes
       unfolding model_of poll_check reads
-      checked_by_lem Found.Nothing F = sym (ap (checked_by (reads c r) n bytes) (none_read F))
-      checked_by_lem (Found.At p) F =
+      checked_by_lem None F = sym (ap (checked_by (reads c r) n bytes) (none_read F))
+      checked_by_lem (Some p) F =
           model_refuse (ltb bytes p.len) 8 _
           ∙ (λ k. refuse (ltb bytes (bytes_is c r S n p F k)) 8 (gives (Model.reply (reply_at c r p), closed_left c r S n p F k)))
           ∙ sym (ap (checked_by (reads c r) n bytes) (found_read c r S n p F))
@@ -98,19 +98,19 @@ module _ (c : Connection) (r : Rooms) (S : Sound c r) where
       unfolding checked_exact
       checked_model = checked_by_lem found found_is
 
-      checked_keeps : (x : Found) → FindsReply n c.window r.store x → (d : Done Model.PollReply) → gives d ≡ checked_from c r n bytes x → Sound d.state d.left
-      checked_keeps Found.Nothing F d e = subst (λ (y : Done Model.PollReply). Sound y.state y.left) (gives_same (sym e)) S
-      checked_keeps (Found.At p) F d e = subst (λ (y : Done Model.PollReply). Sound y.state y.left) (gives_same (sym (gives_rest _ _ _ e))) (closed_sound c r S n p F)
+      checked_keeps : (x : Option Spot) → FindsReply n c.window r.store x → (d : Done Model.PollReply) → gives d ≡ checked_from c r n bytes x → Sound d.state d.left
+      checked_keeps None F d e = subst (λ (y : Done Model.PollReply). Sound y.state y.left) (gives_same (sym e)) S
+      checked_keeps (Some p) F d e = subst (λ (y : Done Model.PollReply). Sound y.state y.left) (gives_same (sym (gives_rest _ _ _ e))) (closed_sound c r S n p F)
 
       -- and leaves a sound state.
       pub checked_leaves : (d : Done Model.PollReply) → gives d ≡ checked_exact c r n bytes → Sound d.state d.left
       unfolding checked_exact
       checked_leaves d e = checked_keeps found found_is d e
 
-      replied_by_lem : (x : Found) → FindsReply n c.window r.store x → model_of (replied_from c r bytes x) ≡ poll_for_reply (reads c r) n bytes
+      replied_by_lem : (x : Option Spot) → FindsReply n c.window r.store x → model_of (replied_from c r bytes x) ≡ poll_for_reply (reads c r) n bytes
       unfolding model_of poll_for_reply reads
-      replied_by_lem Found.Nothing F = sym (ap (replied_by (reads c r) bytes) (none_read F))
-      replied_by_lem (Found.At p) F =
+      replied_by_lem None F = sym (ap (replied_by (reads c r) bytes) (none_read F))
+      replied_by_lem (Some p) F =
           model_choose (error_at r p) _ _
           ∙ ap (λ y. choose (error_at r p) (gives (Model.no_reply, reads (moved_state c c.window (closing c r p).counts) (rooms r.requests (demoted c.window r.store p) (closing c r p).slots))) y)
           (model_refuse (ltb bytes p.len) 8 _)
@@ -123,9 +123,9 @@ module _ (c : Connection) (r : Rooms) (S : Sound c r) where
       unfolding replied_exact
       replied_model = replied_by_lem found found_is
 
-      replied_keeps : (x : Found) → FindsReply n c.window r.store x → (d : Done Model.PollReply) → gives d ≡ replied_from c r bytes x → Sound d.state d.left
-      replied_keeps Found.Nothing F d e = subst (λ (y : Done Model.PollReply). Sound y.state y.left) (gives_same (sym e)) S
-      replied_keeps (Found.At p) F d e =
+      replied_keeps : (x : Option Spot) → FindsReply n c.window r.store x → (d : Done Model.PollReply) → gives d ≡ replied_from c r bytes x → Sound d.state d.left
+      replied_keeps None F d e = subst (λ (y : Done Model.PollReply). Sound y.state y.left) (gives_same (sym e)) S
+      replied_keeps (Some p) F d e =
           choose_either (λ (y : Answer (Done Model.PollReply)). gives d ≡ y → Sound d.state d.left) (error_at r p) _ _
           (λ t e. subst (λ (y : Done Model.PollReply). Sound y.state y.left) (gives_same (sym e)) (turned_sound c r S n p F))
           (λ t e. subst (λ (y : Done Model.PollReply). Sound y.state y.left) (gives_same (sym (gives_rest _ _ _ e))) (closed_sound c r S n p F))

@@ -12,31 +12,35 @@ ghost use Rattle.held.specs.Reading as Store;
 ghost use Rattle.model.specs.Sound.{Ready};
 ghost use Rattle.polling.specs.Exact.{handed_at, EventStep, TakenStep, CheckedStep, RepliedStep};
 
-use held::{Found, Spot};
-use model::{Connection, Event, Handed, PollReply, Polled, moved};
+use held::Spot;
+use model::{Connection, Handed, PollReply, Polled, moved};
 use packet::Class;
 use refusal::Refusal;
 use sequence::SequenceNumber;
 
 // The oldest event, with its number. Refused by 8 for an output that is too small.
-pub fn poll_for_event(c: Connection, store: &mut [u8], out: &mut [u8]) -> Event
+pub fn poll_for_event(c: Connection, store: &mut [u8], out: &mut [u8]) -> Result<Polled, Refusal>
     requires { Store.Sound c.read c.window store.old }
     ensures { EventStep c store.old out.old result store.new out.new }
 {
     let window = c.window;
-    match held::find_event(store, window) {
-        Found::At(place) => {
-            let len = place.len;
-            if out.len() < len {
-                return Event::Refused(Refusal::OutShort);
-            }
-            let taken = held::take(store, window, place, out);
-            let class = taken.class;
-            let event = handed_out(place, class, 0);
-            Event::Packet(event, moved(c, taken.window, c.counts))
-        }
-        Found::Nothing => Event::Nothing(c),
+    let Some(place) = held::find_event(store, window) else {
+        return Ok(Polled {
+            packet: None,
+            connection: c,
+        });
+    };
+    let len = place.len;
+    if out.len() < len {
+        return Err(Refusal::OutShort);
     }
+    let taken = held::take(store, window, place, out);
+    let class = taken.class;
+    let event = handed_out(place, class, 0);
+    Ok(Polled {
+        packet: Some(event),
+        connection: moved(c, taken.window, c.counts),
+    })
 }
 
 // The oldest reply or error of a number, with its descriptors. Refused by 8 for an output that is
@@ -48,30 +52,34 @@ pub fn poll_for_reply_or_error(
     number: u64,
     out: &mut [u8],
     fds: &mut [u32],
-) -> Polled
+) -> Result<Polled, Refusal>
     requires { Ready c store.old slots.old }
     ensures { TakenStep c number store.old slots.old out.old fds.old result store.new slots.new out.new fds.new }
 {
     let window = c.window;
     let counts = c.counts;
-    match held::find_reply(store, window, number) {
-        Found::At(place) => {
-            let len = place.len;
-            let n = place.fds as usize;
-            if out.len() < len {
-                return Polled::Refused(Refusal::OutShort);
-            }
-            if fds.len() < n {
-                return Polled::Refused(Refusal::OutShort);
-            }
-            let rest = descriptors::hand_out(slots, counts, place.before, n, fds);
-            let taken = held::take(store, window, place, out);
-            let class = taken.class;
-            let handed = handed_out(place, class, n);
-            Polled::Packet(handed, moved(c, taken.window, rest))
-        }
-        Found::Nothing => Polled::Nothing(c),
+    let Some(place) = held::find_reply(store, window, number) else {
+        return Ok(Polled {
+            packet: None,
+            connection: c,
+        });
+    };
+    let len = place.len;
+    let n = place.fds as usize;
+    if out.len() < len {
+        return Err(Refusal::OutShort);
     }
+    if fds.len() < n {
+        return Err(Refusal::OutShort);
+    }
+    let rest = descriptors::hand_out(slots, counts, place.before, n, fds);
+    let taken = held::take(store, window, place, out);
+    let class = taken.class;
+    let handed = handed_out(place, class, n);
+    Ok(Polled {
+        packet: Some(handed),
+        connection: moved(c, taken.window, rest),
+    })
 }
 
 // The oldest reply or error of a number; its descriptors are closed. Nothing comes any more where
@@ -82,32 +90,28 @@ pub fn poll_check(
     slots: &mut [u32],
     number: u64,
     out: &mut [u8],
-) -> PollReply
+) -> Result<PollReply, Refusal>
     requires { Ready c store.old slots.old }
     ensures { CheckedStep c number store.old slots.old out.old result store.new slots.new out.new }
 {
     let window = c.window;
     let counts = c.counts;
-    match held::find_reply(store, window, number) {
-        Found::At(place) => {
-            let len = place.len;
-            if out.len() < len {
-                return PollReply::Refused(Refusal::OutShort);
-            }
-            let n = place.fds as usize;
-            let rest = descriptors::close_held(slots, counts, place.before, n);
-            let taken = held::take(store, window, place, out);
-            let class = taken.class;
-            let handed = handed_out(place, class, 0);
-            PollReply::Reply(handed, moved(c, taken.window, rest))
+    let Some(place) = held::find_reply(store, window, number) else {
+        if number < c.read {
+            return Ok(PollReply::NoReply(c));
         }
-        Found::Nothing => {
-            if number < c.read {
-                return PollReply::NoReply(c);
-            }
-            PollReply::TryAgain(c)
-        }
+        return Ok(PollReply::TryAgain(c));
+    };
+    let len = place.len;
+    if out.len() < len {
+        return Err(Refusal::OutShort);
     }
+    let n = place.fds as usize;
+    let rest = descriptors::close_held(slots, counts, place.before, n);
+    let taken = held::take(store, window, place, out);
+    let class = taken.class;
+    let handed = handed_out(place, class, 0);
+    Ok(PollReply::Reply(handed, moved(c, taken.window, rest)))
 }
 
 // The oldest reply of a number; its descriptors are closed. An error becomes an event, for which
@@ -118,32 +122,30 @@ pub fn poll_for_reply(
     slots: &mut [u32],
     number: u64,
     out: &mut [u8],
-) -> PollReply
+) -> Result<PollReply, Refusal>
     requires { Ready c store.old slots.old }
     ensures { RepliedStep c number store.old slots.old out.old result store.new slots.new out.new }
 {
     let window = c.window;
     let counts = c.counts;
-    match held::find_reply(store, window, number) {
-        Found::At(place) => {
-            let len = place.len;
-            let n = place.fds as usize;
-            if packet::is_error(held::class_at(store, place.at)) {
-                let rest = descriptors::close_held(slots, counts, place.before, n);
-                held::demote(store, window, place);
-                return PollReply::NoReply(moved(c, window, rest));
-            }
-            if out.len() < len {
-                return PollReply::Refused(Refusal::OutShort);
-            }
-            let rest = descriptors::close_held(slots, counts, place.before, n);
-            let taken = held::take(store, window, place, out);
-            let class = taken.class;
-            let handed = handed_out(place, class, 0);
-            PollReply::Reply(handed, moved(c, taken.window, rest))
-        }
-        Found::Nothing => PollReply::TryAgain(c),
+    let Some(place) = held::find_reply(store, window, number) else {
+        return Ok(PollReply::TryAgain(c));
+    };
+    let len = place.len;
+    let n = place.fds as usize;
+    if packet::is_error(held::class_at(store, place.at)) {
+        let rest = descriptors::close_held(slots, counts, place.before, n);
+        held::demote(store, window, place);
+        return Ok(PollReply::NoReply(moved(c, window, rest)));
     }
+    if out.len() < len {
+        return Err(Refusal::OutShort);
+    }
+    let rest = descriptors::close_held(slots, counts, place.before, n);
+    let taken = held::take(store, window, place, out);
+    let class = taken.class;
+    let handed = handed_out(place, class, 0);
+    Ok(PollReply::Reply(handed, moved(c, taken.window, rest)))
 }
 
 // What is handed out of the record at a place, whose packet has that class, with so many
@@ -155,6 +157,6 @@ fn handed_out(place: Spot, class: Class, fds: usize) -> Handed
         number: SequenceNumber(place.number),
         length: place.len,
         descriptors: fds,
-        class: class,
+        class,
     }
 }

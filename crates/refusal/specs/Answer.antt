@@ -1,6 +1,10 @@
 -- What a call answers, in the rules' own terms. Assumes nothing.
-use Rattle.std.specs.Prelude.{◌≡◌, refl, Bool, true, false, ℕ}
+use Rattle.std.specs.Prelude.{◌≡◌, refl, Bool, true, false, ℕ, Result, Ok, Err}
+use Rattle.std.specs.Result.{IsErrAnd}
 use Rattle.std.proofs.Common.{sym, ap, ◌∙◌, arith}
+use Rattle.std.proofs.lemmas.Result.{err_from_is_err_and}
+use Rattle.refusal.specs.declared.Refusal.{Refusal}
+use Rattle.refusal.specs.Numbers.{number_of, refusal_of, listed}
 
 -- what a call gives, or the number of its refusal
 pub data Answer (A : Type 0) : Type 0 where
@@ -95,6 +99,33 @@ unfolding pass
 pass_pass (gives x) f g = refl
 pass_pass (refuses n) f g = refl
 
--- What an enum says decides it, where it can be read back from what it says: so two answers that a promise allows are equal.
+-- What an answer says decides it, where it can be read back from what it says: so two answers that a promise allows are equal.
 pub decides : {E A : Type 0} (says : E → Answer A) (back : Answer A → E) → ((e : E) → back (says e) ≡ e) → (a b : E) → says a ≡ says b → a ≡ b
 decides says back h a b e = sym (h a) ∙ ap back e ∙ h b
+
+-- ---- what a result says
+
+-- What is given, read in the rules' own terms, or the number of the refusal.
+abbrev pub says : {T A : Type 0} → (T → A) → Result T Refusal → Answer A
+says f (Ok x) = gives (f x)
+says f (Err r) = refuses (number_of r)
+
+-- Two results that say the same are equal, where what is given can be read back.
+pub says_one : {T A : Type 0} (f : T → A) (back : A → T) → ((x : T) → back (f x) ≡ x) → (a b : Result T Refusal) → says f a ≡ says f b → a ≡ b
+says_one {T} {A} f back h = decides (says f) unsay at_once
+  where
+    unsay : Answer A → Result T Refusal
+    unsay (gives x) = Ok (back x)
+    unsay (refuses n) = Err (refusal_of n)
+
+    at_once : (e : Result T Refusal) → unsay (says f e) ≡ e
+    at_once (Ok x) = ap Ok (h x)
+    at_once (Err r) = ap Err (listed r)
+
+-- What a `?` answers of a refusal is that refusal, or what is made of it.
+pub passed_on : {T E : Type 0} {r : Result T E} {e : E} → IsErrAnd r (λ y. y ≡ e) → r ≡ Err e
+passed_on {r = r} p = let q = err_from_is_err_and r p in q.1 ∙ ap Err q.2
+
+-- and where the refusal is known, that one.
+pub refused : {T E : Type 0} {r : Result T E} {e f : E} → IsErrAnd r (λ y. y ≡ e) → e ≡ f → r ≡ Err f
+refused p h = passed_on p ∙ ap Err h

@@ -1,10 +1,10 @@
 // The refusals of the engine, by name and by number.
 //
 // Whatever a caller hands in, a call answers what it gives or one refusal, and a refusal changes
-// neither the state nor one byte lent. Each call that can refuse has an answer enum of its own,
-// whose last case is `Refused(Refusal)`; a call that hands back a part gives an empty one, and a
-// call beside it the number. In `specs/`, `Answer` is what every such enum says in the rules' own
-// terms, the values given or the number of the refusal, and `refuse` puts refusals in order.
+// neither the state nor one byte lent. Each call that can refuse answers a `Result` whose error is
+// `Refusal`; a call that hands back a part gives an empty one, and a call beside it the number. In
+// `specs/`, `Answer` is what every such result says in the rules' own terms, the values given or the
+// number of the refusal, and `refuse` puts refusals in order.
 #![tactic(auto)]
 
 ghost use Rattle.std.specs.Prelude.{◌≡◌};
@@ -53,7 +53,8 @@ pub enum Refusal {
 }
 
 impl Refusal {
-    // The number of a refusal, as programs print it and other languages see it.
+    // The number of a refusal, as programs print it and other languages see it. A method, not a
+    // `From`: it is asked for by its name wherever a refusal is told.
     pub fn number(self) -> u8
         ensures { result ≡ number_of self }
     {

@@ -1,104 +1,84 @@
 // `expect` and `stop`: answers beside what a script expects of them.
+use text::{Page, Span};
 
 // The longest answer that is compared: `text` keeps one of this length in one piece.
 const LONGEST: usize = 262144;
 
-// How many answers were expected, and how many of those differ; whether the next that differs ends
-// the run, and whether one has.
+// How many answers were expected, how many of those differ, and whether that ends the run.
 #[derive(Clone, Copy)]
-pub struct Checks {
-    pub expected: u64,
-    pub differ: u64,
-    pub stop: bool,
-    pub over: bool,
+pub(crate) struct Checks {
+    pub(crate) expected: u64,
+    pub(crate) differ: u64,
+    pub(crate) ends: Ends,
+}
+
+// Whether an answer that differs ends the run: none does, the next does, or one has.
+#[derive(Clone, Copy, PartialEq, Eq)]
+pub(crate) enum Ends {
+    Never,
+    AtNext,
+    Now,
+}
+
+#[derive(Clone, Copy, PartialEq, Eq)]
+pub(crate) enum Verdict {
+    Same,
+    Differs,
+    Long,
 }
 
 pub(crate) fn fresh() -> Checks {
     Checks {
         expected: 0,
         differ: 0,
-        stop: false,
-        over: false,
+        ends: Ends::Never,
     }
 }
 
-#[derive(Clone, Copy)]
-pub enum Verdict {
-    Same,
-    Differs,
-    Long,
+// The last answer beside the bytes of a line. No answer is empty, so an empty one is none.
+pub(crate) fn judge(wanted: Span, page: &Page<'_, impl Print>) -> Verdict {
+    match page.answer() {
+        None => Verdict::Long,
+        Some(answer) => compared(answer, wanted.of(page.run)),
+    }
 }
 
-// The last answer beside the bytes from one index to another. No answer is empty, so an empty one
-// is none.
-pub(crate) fn judge(from: usize, end: usize, bytes: &[u8]) -> Verdict {
-    let answer = text::answer(bytes);
-    if is_long(text::parted(bytes), answer) {
+fn compared(answer: &[u8], wanted: &[u8]) -> Verdict {
+    if LONGEST < answer.len() {
         return Verdict::Long;
     }
-    if answer.len() == 0 {
-        return Verdict::Differs;
-    }
-    if script::same(answer, text::cut(bytes, from, end)) {
+    if !answer.is_empty() && answer == wanted {
         return Verdict::Same;
     }
     Verdict::Differs
 }
 
-fn is_long(parted: bool, answer: &[u8]) -> bool {
-    if parted {
-        return true;
+pub(crate) fn count(checks: &mut Checks, verdict: Verdict) {
+    checks.expected = checks.expected.saturating_add(1);
+    if verdict == Verdict::Same {
+        return;
     }
-    LONGEST < answer.len()
+    checks.differ = checks.differ.saturating_add(1);
+    if checks.ends == Ends::AtNext {
+        checks.ends = Ends::Now;
+    }
 }
 
-pub(crate) fn counted(checks: Checks, verdict: Verdict) -> Checks {
-    let mut next = checks;
-    next.expected = text::up(checks.expected);
+// The verdict on the line of a number.
+pub(crate) fn write(verdict: Verdict, number: u64, page: &mut Page<'_, impl Print>) {
+    page.verdict();
     match verdict {
-        Verdict::Same => {
-            return next;
-        }
-        _ => {
-            next.differ = text::up(checks.differ);
-            next.over = checks.stop;
-            return next;
-        }
+        Verdict::Same => page.word(b"expect ok"),
+        Verdict::Differs => page.counted(b"expect differs at line ", number),
+        Verdict::Long => page.counted(b"expect long at line ", number),
     }
-}
-
-// The verdict on the line of a number, behind what waits.
-pub(crate) fn write(
-    rt: &impl Print,
-    verdict: Verdict,
-    number: u64,
-    waiting: usize,
-    bytes: &mut [u8],
-) -> usize {
-    let a = text::verdict(rt, bytes, waiting);
-    let b = say(rt, verdict, number, a, bytes);
-    text::word(rt, bytes, b, b"\n")
-}
-
-fn say(rt: &impl Print, verdict: Verdict, number: u64, waiting: usize, bytes: &mut [u8]) -> usize {
-    match verdict {
-        Verdict::Same => {
-            return text::word(rt, bytes, waiting, b"expect ok");
-        }
-        Verdict::Differs => {
-            return text::counted(rt, bytes, waiting, b"expect differs at line ", number);
-        }
-        Verdict::Long => {
-            return text::counted(rt, bytes, waiting, b"expect long at line ", number);
-        }
-    }
+    page.word(b"\n");
 }
 
 // What came of all that was expected, if something was.
-pub(crate) fn total(rt: &impl Print, checks: Checks, waiting: usize, bytes: &mut [u8]) -> usize {
-    if checks.expected == 0 {
-        return waiting;
+pub(crate) fn total(checks: Checks, page: &mut Page<'_, impl Print>) {
+    if checks.expected != 0 {
+        page.counted(b" expected ", checks.expected);
+        page.counted(b" differ ", checks.differ);
     }
-    let a = text::counted(rt, bytes, waiting, b" expected ", checks.expected);
-    text::counted(rt, bytes, a, b" differ ", checks.differ)
 }

@@ -9,9 +9,12 @@ mod run;
 
 ghost use Rattle.std.specs.Prelude.{◌≡◌, length};
 
-use model::Next;
+use calls::Rooms;
+use checks::Ends;
 use run::State;
-use script::Input;
+use script::{Input, Line};
+use std::io;
+use text::Page;
 
 // The packet store; and the packets handed out, the buffers of reader and handshake, a savepoint, the
 // input, and the text that is not written yet.
@@ -45,89 +48,65 @@ fn zeros() -> [u8; BYTES]
 }
 
 fn with_rooms(rt: &HostRuntime, store: &mut [u8], bytes: &mut [u8]) {
-    let mut a = [0u8; REQUESTS];
-    let requests: &mut [u8] = &mut a;
-    let mut b = [0u32; SLOTS];
-    let slots: &mut [u32] = &mut b;
-    start(rt, requests, store, slots, bytes);
-}
-
-// Before the first line: a connection as `new` makes it.
-fn start(
-    rt: &HostRuntime,
-    requests: &mut [u8],
-    store: &mut [u8],
-    slots: &mut [u32],
-    bytes: &mut [u8],
-) {
-    match connection::new(octets::LITTLE, requests, store, slots) {
-        Next::State(c) => lines(rt, run::fresh(c), requests, store, slots, bytes),
-        Next::Refused(_) => {}
+    let mut requests = [0u8; REQUESTS];
+    let mut slots = [0u32; SLOTS];
+    let mut rooms = Rooms {
+        requests: &mut requests,
+        store,
+        slots: &mut slots,
+    };
+    let mut page = Page::new(rt, bytes);
+    if let Ok(state) = run::fresh(&rooms) {
+        lines(rt, state, &mut rooms, &mut page);
     }
 }
 
-// The whole input. A proved loop has to end, so it counts turns down from a number that no run uses
-// up.
-fn lines(
-    rt: &HostRuntime,
-    fresh: State,
-    requests: &mut [u8],
-    store: &mut [u8],
-    slots: &mut [u32],
-    bytes: &mut [u8],
-) {
+// The whole input. A proved loop has to end, so it counts turns up to a number that no run comes to.
+fn lines(rt: &HostRuntime, fresh: State, rooms: &mut Rooms<'_>, page: &mut Page<'_, HostRuntime>) {
     let mut state = fresh;
-    let mut place = script::start();
-    let mut turns = u64::MAX;
-    while turns > 0 {
-        turns -= 1;
-        place = next(rt, state, place, bytes);
-        if is_over(place, bytes) {
-            finish(rt, state, place, bytes);
-            return;
+    let mut input = script::start();
+    for _ in 0..u64::MAX {
+        match next(rt, &state, &mut input, page) {
+            Ok(Some(line)) => run::line(&mut state, line, input.lines, rooms, page),
+            Ok(None) => {
+                finish(rt, &state, input.lines, page);
+                return;
+            }
+            // A run that was cut short has no last line.
+            Err(_) => {
+                text::complain(rt, b"replay: the input could not be read\n");
+                return;
+            }
         }
-        state = run::line(rt, state, place, requests, store, slots, bytes);
     }
 }
 
-// The next line, if the run goes on.
-fn next(rt: &HostRuntime, state: State, place: Input, bytes: &mut [u8]) -> Input {
-    let checks = state.checks;
-    if checks.over {
-        return script::stop(place);
+// The next line, if the run goes on. Behind a write that failed nothing is run.
+fn next(
+    rt: &HostRuntime,
+    state: &State,
+    input: &mut Input,
+    page: &mut Page<'_, HostRuntime>,
+) -> io::Result<Option<Line>> {
+    if state.checks.ends == Ends::Now {
+        return Ok(None);
     }
-    script::next(rt, &mut rt.stdin(), place, state.waiting, bytes)
+    let line = script::next(&mut rt.stdin(), input, page)?;
+    Ok(if page.failed { None } else { line })
 }
 
-// Behind a write that failed nothing is run.
-fn is_over(place: Input, bytes: &[u8]) -> bool {
-    if text::failed(bytes) {
-        return true;
-    }
-    !place.more
-}
-
-// A run that was cut short has no last line.
-fn finish(rt: &HostRuntime, state: State, place: Input, bytes: &mut [u8]) {
-    if place.failed {
-        text::complain(rt, b"replay: the input could not be read\n");
-        return;
-    }
-    end(rt, state, place.number, bytes);
-    if text::failed(bytes) {
+fn finish(rt: &HostRuntime, state: &State, lines: u64, page: &mut Page<'_, HostRuntime>) {
+    end(state, lines, page);
+    if page.failed {
         text::complain(rt, b"replay: the output could not be written\n");
     }
 }
 
-// The last line of the output, and everything is written. number is one more than there are lines.
-fn end(rt: &impl Print, state: State, number: u64, bytes: &mut [u8]) {
-    let a = text::counted(rt, bytes, state.waiting, b"end ", before(number));
-    let b = text::counted(rt, bytes, a, b" ", state.ops);
-    let c = checks::total(rt, state.checks, b, bytes);
-    let d = text::word(rt, bytes, c, b"\n");
-    text::flush(rt, bytes, d);
-}
-
-fn before(n: u64) -> u64 {
-    if 0 < n { n - 1 } else { n }
+// The last line of the output, and everything is written.
+fn end(state: &State, lines: u64, page: &mut Page<'_, impl Print>) {
+    page.counted(b"end ", lines);
+    page.counted(b" ", state.ops);
+    checks::total(state.checks, page);
+    page.word(b"\n");
+    page.flush();
 }

@@ -59,13 +59,14 @@ pub fn sized(room: &[u8], k: usize) -> bool
     room.len() == k
 }
 
-// The request of a number.
+// The request of a number. The room stays a lent slice, and that it has a place a clause: C lends it at
+// each call.
 pub fn get(room: &[u8], number: u64) -> Request
     requires { 0 < capacity room.now }
     ensures { result ≡ request_at room.now number }
 {
     let at = slot(room.len(), number);
-    request_of(room[at])
+    Request::from(room[at])
 }
 
 // The request of a number, set.
@@ -74,7 +75,7 @@ pub fn put(room: &mut [u8], number: u64, request: Request)
     ensures { room.new ≡ put_request room.old number request }
 {
     let at = slot(room.len(), number);
-    room[at] = byte_of(request);
+    room[at] = u8::from(request);
 }
 
 // The mode of the request of a number, set; whether it has descriptors stays.
@@ -83,14 +84,7 @@ pub fn put_mode(room: &mut [u8], number: u64, mode: Mode)
     ensures { room.new ≡ put_mode room.old number mode }
 {
     let request = get(room, number);
-    put(
-        room,
-        number,
-        Request {
-            descriptors: request.descriptors,
-            mode: mode,
-        },
-    );
+    put(room, number, Request { mode, ..request });
 }
 
 // Whether each byte of the count requests from number first on is legal.
@@ -115,12 +109,10 @@ fn legal_run(room: &[u8], lo: usize, hi: usize) -> bool
     ensures { result ≡ legal_run (cut lo (hi - lo) room.now) }
 {
     let mut good = true;
-    let mut i = lo;
-    while i < hi {
-        if LAST_BYTE < room[i] {
+    for &byte in &room[lo..hi] {
+        if LAST_BYTE < byte {
             good = false;
         }
-        i += 1;
     }
     good
 }
@@ -136,45 +128,43 @@ fn slot(k: usize, number: u64) -> usize
     (number % (k as u64)) as usize
 }
 
-fn request_of(byte: u8) -> Request
-    ensures { result ≡ request_of byte }
-{
-    let mode = mode_of(byte / 2);
-    Request {
-        descriptors: byte % 2 == 1,
-        mode: mode,
+// The lowest bit of a byte says whether there are descriptors, the others are the mode's number.
+impl From<u8> for Request {
+    ghost from_gives = { λ byte request. request ≡ request_of byte };
+
+    fn from(byte: u8) -> Request {
+        Request {
+            descriptors: byte % 2 == 1,
+            mode: Mode::from(byte / 2),
+        }
     }
 }
 
-fn mode_of(number: u8) -> Mode
-    ensures { result ≡ mode_of number }
-{
-    if number == 0 {
-        return Mode::Keep;
+// A number above 2 is in no legal byte.
+impl From<u8> for Mode {
+    ghost from_gives = { λ number mode. mode ≡ mode_of number };
+
+    fn from(number: u8) -> Mode {
+        match number {
+            0 => Mode::Keep,
+            1 => Mode::DiscardReply,
+            _ => Mode::DiscardReplyAndError,
+        }
     }
-    if number == 1 {
-        return Mode::DiscardReply;
-    }
-    Mode::DiscardReplyAndError
 }
 
-fn byte_of(request: Request) -> u8
-    ensures { result ≡ byte_of request }
-{
-    let mode = request.mode;
-    let number = mode_number(mode);
-    if request.descriptors {
-        return 2 * number + 1;
+impl From<Request> for u8 {
+    ghost from_gives = { λ request byte. byte ≡ byte_of request };
+
+    fn from(request: Request) -> u8 {
+        2 * u8::from(request.mode) + request.descriptors as u8
     }
-    2 * number
 }
 
-fn mode_number(mode: Mode) -> u8
-    ensures { result ≡ mode_number mode }
-{
-    match mode {
-        Mode::Keep => 0,
-        Mode::DiscardReply => 1,
-        Mode::DiscardReplyAndError => 2,
+impl From<Mode> for u8 {
+    ghost from_gives = { λ mode number. number ≡ mode_number mode };
+
+    fn from(mode: Mode) -> u8 {
+        mode as u8
     }
 }

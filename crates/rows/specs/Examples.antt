@@ -2,7 +2,7 @@
 use Rattle.std.specs.Prelude.{◌≡◌, refl, true, false, List, [], ◌∷◌, ℕ}
 use Rattle.octets.specs.Logic.{both, choose}
 use Rattle.model.specs.declared.Connection.{Connection}
-use Rattle.rows.specs.State.{fits, unfit, connection_of, four, connection_row, sent_row, filed_row, polled_row, byte_row, row, reader_of, reader_row, advanced_row, handshake_of, handshake_row, ids_of, ids_row}
+use Rattle.rows.specs.State.{fits, unfit, connection_of, four, connection_row, sent_row, filed_row, polled_row, byte_row, counted_of, row, reader_of, reader_row, advanced_row, handshake_of, handshake_row, ids_of, ids_row}
 
 -- sixteen numbers, of which the first and the last four are given
 abbrev sixteen : ℕ → ℕ → ℕ → ℕ → ℕ → List ℕ
@@ -27,7 +27,7 @@ fitting = (refl, refl, refl, refl, refl, refl, refl, refl, refl)
 pub connections : (connection_of (sixteen 66 0 0 0 0) ≡ state) × (connection_of (sixteen 66 0 0 0 1) ≡ unfit) × (connection_of fifteen ≡ unfit) × (connection_row (sixteen 1 6 7 8 9) state ≡ sixteen 66 0 0 0 0) × (connection_row fifteen state ≡ fifteen)
     × (sent_row (sixteen 66 6 7 8 9) (record { order = 1; capacity = 1; room = 1; written = 24; expected = 25; read = 1; first = 1; window = record { start = 1; end = 1 }; counts = record { closed = 1; held = 1; waiting = 1 } })
     ≡ 66 ∷ 2 ∷ 3 ∷ 24 ∷ 25 ∷ 6 ∷ 7 ∷ 8 ∷ 9 ∷ 10 ∷ 11 ∷ 12 ∷ 6 ∷ 7 ∷ 8 ∷ 9 ∷ [])
-    × (sent_row fifteen state ≡ fifteen) × (four (1 ∷ 2 ∷ 3 ∷ 4 ∷ 5 ∷ 6 ∷ []) 1 7 8 9 10 ≡ 1 ∷ 7 ∷ 8 ∷ 9 ∷ 10 ∷ 6 ∷ [])
+    × (sent_row fifteen state ≡ fifteen) × (four {A = ℕ} (1 ∷ 2 ∷ 3 ∷ 4 ∷ 5 ∷ 6 ∷ []) 1 7 8 9 10 ≡ 1 ∷ 7 ∷ 8 ∷ 9 ∷ 10 ∷ 6 ∷ [])
 unfolding connection_of connection_row sent_row fits both choose
 connections = (refl, refl, refl, refl, refl, refl, refl, refl)
 
@@ -46,3 +46,8 @@ pub threes : (byte_row (255 ∷ 7 ∷ 8 ∷ []) ≡ true) × (byte_row (256 ∷ 
     × (ids_of (256 ∷ 262 ∷ 2 ∷ []) ≡ record { next = 256; last = 262; step = 2 }) × (ids_of (256 ∷ 262 ∷ []) ≡ record { next = 0; last = 0; step = 0 }) × (ids_row (1 ∷ 2 ∷ 3 ∷ []) (record { next = 256; last = 262; step = 2 }) ≡ 256 ∷ 262 ∷ 2 ∷ [])
 unfolding byte_row row reader_of handshake_of ids_of both choose
 threes = (refl, refl, refl, refl, refl, refl, refl, refl, refl, refl, refl, refl, refl, refl, refl)
+
+-- a byte and two numbers, or zeros where the row has none
+pub counts : (◌≡◌ {A = ℕ × ℕ × ℕ} (counted_of (66 ∷ 7 ∷ 8 ∷ [])) (66, 7, 8)) × (◌≡◌ {A = ℕ × ℕ × ℕ} (counted_of (256 ∷ 7 ∷ 8 ∷ [])) (0, 0, 0)) × (◌≡◌ {A = ℕ × ℕ × ℕ} (counted_of (66 ∷ 7 ∷ [])) (0, 0, 0))
+unfolding counted_of byte_row both choose
+counts = (refl, refl, refl)

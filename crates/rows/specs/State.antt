@@ -56,7 +56,7 @@ unfoldable pub connection_of : List ℕ → Connection
 connection_of s = choose (fits s) (connection_at s) unfit
 
 -- four numbers put over those from index at on
-abbrev pub four : List ℕ → ℕ → ℕ → ℕ → ℕ → ℕ → List ℕ
+abbrev pub four : {A : Type 0} → List A → ℕ → A → A → A → A → List A
 four s at a b c d = set (set (set (set s at a) (at + 1) b) (at + 2) c) (at + 3) d
 
 -- the numbers of a state, in their order
@@ -100,6 +100,10 @@ byte_row s = both (eqb (length s) three_slots) (ltb (get_or s 0 0) 256)
 -- a row of three
 unfoldable pub row : List ℕ → ℕ → ℕ → ℕ → List ℕ
 row s a b c = choose (eqb (length s) three_slots) (set (set (set s 0 a) 1 b) 2 c) s
+
+-- the byte and the two numbers of such a row, or zeros
+unfoldable pub counted_of : List ℕ → ℕ × ℕ × ℕ
+counted_of s = choose (byte_row s) (get_or s 0 0, get_or s 1 0, get_or s 2 0) (0, 0, 0)
 
 -- a reader, a handshake and an allocator, and their rows
 abbrev pub reader_at : List ℕ → PacketReader
@@ -183,6 +187,23 @@ handshake_on s c h e = simp h e
 pub handshake_off : (s : List ℕ) → byte_row s ≡ false → record { order = 0; filled = 0; target = 0 } ≡ handshake_of s
 unfolding handshake_of choose
 handshake_off s h = simp h
+
+-- the same by their three numbers
+pub reader_read : (s : List ℕ) (x : ℕ × ℕ × ℕ) → x ≡ counted_of s → record { order = x.0; filled = x.1; target = x.2 } ≡ reader_of s
+unfolding counted_of choose
+reader_read s x e = go (byte_row s) refl e
+  where
+    go : (b : Bool) → byte_row s ≡ b → x ≡ choose b (get_or s 0 0, get_or s 1 0, get_or s 2 0) (0, 0, 0) → record { order = x.0; filled = x.1; target = x.2 } ≡ reader_of s
+    go true h k = reader_on s _ h (ap (λ (y : ℕ × ℕ × ℕ). record { order = y.0; filled = y.1; target = y.2 }) k)
+    go false h k = ap (λ (y : ℕ × ℕ × ℕ). record { order = y.0; filled = y.1; target = y.2 }) k ∙ reader_off s h
+
+pub handshake_read : (s : List ℕ) (x : ℕ × ℕ × ℕ) → x ≡ counted_of s → record { order = x.0; filled = x.1; target = x.2 } ≡ handshake_of s
+unfolding counted_of choose
+handshake_read s x e = go (byte_row s) refl e
+  where
+    go : (b : Bool) → byte_row s ≡ b → x ≡ choose b (get_or s 0 0, get_or s 1 0, get_or s 2 0) (0, 0, 0) → record { order = x.0; filled = x.1; target = x.2 } ≡ handshake_of s
+    go true h k = handshake_on s _ h (ap (λ (y : ℕ × ℕ × ℕ). record { order = y.0; filled = y.1; target = y.2 }) k)
+    go false h k = ap (λ (y : ℕ × ℕ × ℕ). record { order = y.0; filled = y.1; target = y.2 }) k ∙ handshake_off s h
 
 pub kept_filled : (s : List ℕ) (c : Connection) → length s ≡ connection_slots
     → kept_row s c ≡ four (four (four s 0 c.order c.capacity c.room c.written) 4 c.expected c.read c.first c.window.start) 8 c.window.end c.counts.closed c.counts.held c.counts.waiting

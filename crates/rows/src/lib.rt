@@ -8,5 +8,5 @@ mod state;
 
 pub use state::{
     CONNECTION, THREE, connection, handshake, ids, put_advanced, put_connection, put_filed,
-    put_handshake, put_ids, put_kept, put_polled, put_reader, put_sent, reader,
+    put_four, put_handshake, put_ids, put_kept, put_polled, put_reader, put_sent, reader,
 };

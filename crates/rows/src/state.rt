@@ -1,7 +1,7 @@
 // State as a row of numbers: a connection in 16, of which the last four are 0; a reader, a handshake
 // and an allocator in 3. A row that is no state is read as one that is not sound.
 ghost use Rattle.std.specs.Prelude.{◌≡◌, ◌+◌, ◌≤◌, ◌<◌, length, get_or};
-ghost use Rattle.rows.specs.State.{connection_slots, three_slots, fits, connection_at, connection_of, unfit as state_unfit, four, connection_row, kept_row, filed_row, polled_row, sent_row, byte_row, reader_at, reader_of, reader_row, advanced_row, handshake_at, handshake_of, handshake_row, ids_of, ids_row};
+ghost use Rattle.rows.specs.State.{connection_slots, three_slots, fits, connection_at, connection_of, unfit as state_unfit, four, connection_row, kept_row, filed_row, polled_row, sent_row, byte_row, counted_of, row, reader_of, reader_row, advanced_row, handshake_of, handshake_row, ids_of, ids_row};
 
 use connect::Connect;
 use descriptors::Counts;
@@ -18,27 +18,11 @@ pub const THREE: usize = 3;
 // Numbers at and above this fit no byte.
 const BYTES: u64 = 256;
 
-fn fits(s: &[u64]) -> bool
-    ensures { result ≡ fits s.now }
-{
-    if s.len() != CONNECTION {
-        return false;
-    }
-    if BYTES <= s[0] {
-        return false;
-    }
-    if s[12] != 0 {
-        return false;
-    }
-    if s[13] != 0 {
-        return false;
-    }
-    if s[14] != 0 {
-        return false;
-    }
-    s[15] == 0
-}
+// What each of the last four numbers of a connection's state is.
+const SPARE: u64 = 0;
 
+// What a row is read as that is no state: it stays a state and no option, since `connection_of` says
+// that such a row is read so, and `specs/Theorems` that it is refused.
 fn unfit() -> Connection
     ensures { result ≡ state_unfit }
 {
@@ -59,41 +43,52 @@ fn unfit() -> Connection
     }
 }
 
+#[tactic(auto, unfolding(crate::specs::State::connection_of, crate::specs::State::fits, octets::specs::Logic::both, octets::specs::Logic::choose))]
 pub fn connection(s: &[u64]) -> Connection
     ensures { result ≡ connection_of s.now }
 {
-    if !fits(s) {
-        return unfit();
-    }
-    connection_at(s)
-}
-
-fn connection_at(s: &[u64]) -> Connection
-    requires { (length s.now ≡ connection_slots) × (get_or s.now 0 0 < 256) }
-    ensures { result ≡ connection_at s.now }
-{
-    Connection {
-        order: s[0] as u8,
-        capacity: s[1] as usize,
-        room: s[2] as usize,
-        written: s[3],
-        expected: s[4],
-        read: s[5],
-        first: s[6],
-        window: Window {
-            start: s[7] as usize,
-            end: s[8] as usize,
+    match *s {
+        [
+            order,
+            capacity,
+            room,
+            written,
+            expected,
+            read,
+            first,
+            start,
+            end,
+            closed,
+            held,
+            waiting,
+            SPARE,
+            SPARE,
+            SPARE,
+            SPARE,
+        ] if order < BYTES => Connection {
+            order: order as u8,
+            capacity: capacity as usize,
+            room: room as usize,
+            written,
+            expected,
+            read,
+            first,
+            window: Window {
+                start: start as usize,
+                end: end as usize,
+            },
+            counts: Counts {
+                closed: closed as usize,
+                held: held as usize,
+                waiting: waiting as usize,
+            },
         },
-        counts: Counts {
-            closed: s[9] as usize,
-            held: s[10] as usize,
-            waiting: s[11] as usize,
-        },
+        _ => unfit(),
     }
 }
 
 // Four numbers in a row, so that each store is near its test.
-fn put_four(s: &mut [u64], at: usize, a: u64, b: u64, c: u64, d: u64)
+pub fn put_four<T: Copy>(s: &mut [T], at: usize, a: T, b: T, c: T, d: T)
     requires { at + 4 ≤ length s.old }
     ensures { s.new ≡ four s.old at a b c d }
 {
@@ -115,14 +110,14 @@ pub fn put_connection(s: &mut [u64], c: Connection)
 
 // The same for a state that a call left, in the row that it was read from: its last four numbers are
 // 0 there.
+// This and the three below stay apart: each has its definition and its law, `kept_row` to `sent_row`.
+#[tactic(auto, unfolding(crate::specs::State::kept_row, octets::specs::Logic::choose))]
 pub fn put_kept(s: &mut [u64], c: Connection)
     ensures { s.new ≡ kept_row s.old c }
 {
     if s.len() != CONNECTION {
         return;
     }
-    let window = c.window;
-    let counts = c.counts;
     put_four(
         s,
         0,
@@ -131,60 +126,62 @@ pub fn put_kept(s: &mut [u64], c: Connection)
         c.room as u64,
         c.written,
     );
-    put_four(s, 4, c.expected, c.read, c.first, window.start as u64);
-    put_four(
-        s,
-        8,
-        window.end as u64,
-        counts.closed as u64,
-        counts.held as u64,
-        counts.waiting as u64,
-    );
+    put_numbers(s, c);
+    put_counts(s, c);
 }
 
 // The same for a state that intake left, in the row that it was read from: the first four numbers are
 // as they were there, and the last four 0.
+#[tactic(auto, unfolding(crate::specs::State::filed_row, octets::specs::Logic::choose))]
 pub fn put_filed(s: &mut [u64], c: Connection)
     ensures { s.new ≡ filed_row s.old c }
 {
     if s.len() != CONNECTION {
         return;
     }
-    let window = c.window;
-    let counts = c.counts;
-    put_four(s, 4, c.expected, c.read, c.first, window.start as u64);
-    put_four(
-        s,
-        8,
-        window.end as u64,
-        counts.closed as u64,
-        counts.held as u64,
-        counts.waiting as u64,
-    );
+    put_numbers(s, c);
+    put_counts(s, c);
 }
 
 // The same for a state that a poll left: the window and the counts are written.
+#[tactic(auto, unfolding(crate::specs::State::polled_row, octets::specs::Logic::choose))]
 pub fn put_polled(s: &mut [u64], c: Connection)
     ensures { s.new ≡ polled_row s.old c }
 {
     if s.len() != CONNECTION {
         return;
     }
-    let window = c.window;
+    put_counts(s, c);
+    s[7] = c.window.start as u64;
+}
+
+// The numbers of requests and packets, and where the window begins.
+fn put_numbers(s: &mut [u64], c: Connection)
+    requires { length s.old ≡ connection_slots }
+    ensures { s.new ≡ four s.old 4 c.expected c.read c.first c.window.start }
+{
+    put_four(s, 4, c.expected, c.read, c.first, c.window.start as u64);
+}
+
+// Where the window ends, and how many descriptors are where.
+fn put_counts(s: &mut [u64], c: Connection)
+    requires { length s.old ≡ connection_slots }
+    ensures { s.new ≡ four s.old 8 c.window.end c.counts.closed c.counts.held c.counts.waiting }
+{
     let counts = c.counts;
     put_four(
         s,
         8,
-        window.end as u64,
+        c.window.end as u64,
         counts.closed as u64,
         counts.held as u64,
         counts.waiting as u64,
     );
-    s[7] = window.start as u64;
 }
 
 // The same for a state that a send left, in the row that it was read from: only what a send changes
 // is written.
+#[tactic(auto, unfolding(crate::specs::State::sent_row, octets::specs::Logic::choose))]
 pub fn put_sent(s: &mut [u64], c: Connection)
     ensures { s.new ≡ sent_row s.old c }
 {
@@ -195,49 +192,49 @@ pub fn put_sent(s: &mut [u64], c: Connection)
     s[4] = c.expected;
 }
 
-// Whether three numbers are there, of which the first fits a byte.
-fn byte_row(s: &[u64]) -> bool
-    ensures { result ≡ byte_row s.now }
+// A byte and two counts, which a reader and a handshake are: those of a row, or zeros where it has
+// none.
+#[tactic(auto, unfolding(crate::specs::State::counted_of, crate::specs::State::byte_row, octets::specs::Logic::both, octets::specs::Logic::choose))]
+fn counted(s: &[u64]) -> (u8, usize, usize)
+    ensures { result ≡ counted_of s.now }
+{
+    match *s {
+        [order, filled, target] if order < BYTES => {
+            (order as u8, filled as usize, target as usize)
+        }
+        _ => (0, 0, 0),
+    }
+}
+
+// Three numbers into a row of three; any other row stays. Stores stay by index: of a slice that a
+// mutable pattern took apart nothing is known afterwards, so that proof does not close.
+#[tactic(auto, unfolding(crate::specs::State::row, octets::specs::Logic::choose))]
+fn put_three(s: &mut [u64], a: u64, b: u64, c: u64)
+    ensures { s.new ≡ row s.old a b c }
 {
     if s.len() != THREE {
-        return false;
+        return;
     }
-    s[0] < BYTES
+    s[0] = a;
+    s[1] = b;
+    s[2] = c;
 }
 
 pub fn reader(s: &[u64]) -> PacketReader
     ensures { result ≡ reader_of s.now }
 {
-    if !byte_row(s) {
-        return PacketReader {
-            order: 0,
-            filled: 0,
-            target: 0,
-        };
-    }
-    reader_at(s)
-}
-
-fn reader_at(s: &[u64]) -> PacketReader
-    requires { (length s.now ≡ three_slots) × (get_or s.now 0 0 < 256) }
-    ensures { result ≡ reader_at s.now }
-{
+    let (order, filled, target) = counted(s);
     PacketReader {
-        order: s[0] as u8,
-        filled: s[1] as usize,
-        target: s[2] as usize,
+        order,
+        filled,
+        target,
     }
 }
 
 pub fn put_reader(s: &mut [u64], r: PacketReader)
     ensures { s.new ≡ reader_row s.old r }
 {
-    if s.len() != THREE {
-        return;
-    }
-    s[0] = r.order as u64;
-    s[1] = r.filled as u64;
-    s[2] = r.target as u64;
+    put_three(s, r.order as u64, r.filled as u64, r.target as u64);
 }
 
 // The same for a reader that advanced, in the row that it was read from: its order stays.
@@ -252,62 +249,36 @@ pub fn put_advanced(s: &mut [u64], r: PacketReader)
 pub fn handshake(s: &[u64]) -> Connect
     ensures { result ≡ handshake_of s.now }
 {
-    if !byte_row(s) {
-        return Connect {
-            order: 0,
-            filled: 0,
-            target: 0,
-        };
-    }
-    handshake_at(s)
-}
-
-fn handshake_at(s: &[u64]) -> Connect
-    requires { (length s.now ≡ three_slots) × (get_or s.now 0 0 < 256) }
-    ensures { result ≡ handshake_at s.now }
-{
+    let (order, filled, target) = counted(s);
     Connect {
-        order: s[0] as u8,
-        filled: s[1] as usize,
-        target: s[2] as usize,
+        order,
+        filled,
+        target,
     }
 }
 
 pub fn put_handshake(s: &mut [u64], r: Connect)
     ensures { s.new ≡ handshake_row s.old r }
 {
-    if s.len() != THREE {
-        return;
-    }
-    s[0] = r.order as u64;
-    s[1] = r.filled as u64;
-    s[2] = r.target as u64;
+    put_three(s, r.order as u64, r.filled as u64, r.target as u64);
 }
 
+#[tactic(auto, unfolding(crate::specs::State::ids_of, octets::specs::Logic::choose))]
 pub fn ids(s: &[u64]) -> IdAllocator
     ensures { result ≡ ids_of s.now }
 {
-    if s.len() != THREE {
-        return IdAllocator {
+    match *s {
+        [next, last, step] => IdAllocator { next, last, step },
+        _ => IdAllocator {
             next: 0,
             last: 0,
             step: 0,
-        };
-    }
-    IdAllocator {
-        next: s[0],
-        last: s[1],
-        step: s[2],
+        },
     }
 }
 
 pub fn put_ids(s: &mut [u64], a: IdAllocator)
     ensures { s.new ≡ ids_row s.old a }
 {
-    if s.len() != THREE {
-        return;
-    }
-    s[0] = a.next;
-    s[1] = a.last;
-    s[2] = a.step;
+    put_three(s, a.next, a.last, a.step);
 }

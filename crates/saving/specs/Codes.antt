@@ -1,10 +1,11 @@
 -- A section of requests, tested where it stands: a section of bytes, each the code of a request. Assumes nothing.
-use Rattle.std.specs.Prelude.{◌≡◌, refl, Bool, true, false, not, List, [], ◌∷◌, ◌++◌, map, ℕ, ◌+◌, ◌-◌, ◌≤◌, leb, length, drop}
+use Rattle.std.specs.Prelude.{◌≡◌, refl, Bool, true, false, not, ◌&&◌, List, [], ◌∷◌, ◌++◌, map, ℕ, ◌+◌, ◌-◌, ◌≤◌, leb, length, drop}
+use Rattle.std.specs.List.{list_all}
 use Rattle.std.proofs.Common.{sym, ap, ◌∙◌, leb-true, le-leb}
 use Rattle.std.proofs.Math.Option.{some}
 use Rattle.std.proofs.lemmas.List.{length-map}
 use Rattle.std.proofs.lemmas.Bool.{not-true, not-false}
-use Rattle.octets.specs.Logic.{both_left, both_right, both_yes, apart}
+use Rattle.octets.specs.Logic.{both, both_left, both_right, both_yes, apart}
 use Rattle.octets.specs.Bytes.{word, Octets}
 use Rattle.octets.specs.Put.{cut}
 use Rattle.octets.specs.Field.{octets_drop}
@@ -38,6 +39,16 @@ codes_back : (l : List ℕ) → each is_code l ≡ true → map request_code (ma
 unfolding each
 codes_back [] h = refl
 codes_back (b ∷ l) h = λ i. code_request_lem b (leb-true _ _ (both_left _ _ h)) i ∷ codes_back l (both_right _ _ h) i
+
+-- the test of each, as a chain over them says it
+pub all_each : (p : ℕ → Bool) (l : List ℕ) → list_all p l ≡ each p l
+unfolding each both
+all_each p [] = refl
+all_each p (b ∷ l) = go (p b) (all_each p l)
+  where
+    go : (t : Bool) → list_all p l ≡ each p l → (t && list_all p l) ≡ both t (each p l)
+    go true e = e
+    go false e = refl
 
 module _ (s : List ℕ) (o : Octets s) (at : ℕ) where
   -- requests that are read are bytes that are read

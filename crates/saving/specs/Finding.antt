@@ -1,5 +1,5 @@
 -- The sections of a savepoint, found one behind the other and tested: what each function of `finding` answers, and the laws for its returns. Assumes nothing.
-use Rattle.std.specs.Prelude.{◌≡◌, refl, Bool, not, List, [], ◌∷◌, ℕ, ◌+◌, ◌-◌, ◌*◌, ◌≤◌, ◌<◌, leb, eqb, length, take, drop, get_or}
+use Rattle.std.specs.Prelude.{◌≡◌, refl, Bool, not, List, [], ◌∷◌, ℕ, ◌+◌, ◌-◌, ◌*◌, ◌≤◌, ◌<◌, leb, eqb, length, take, drop, get_or, Option, None, Some}
 use Rattle.std.proofs.Math.Path.{sym, ap, subst}
 use Rattle.std.proofs.Common.{◌∙◌, arith, drop-drop, eqb-true, ne_eqb, le-leb}
 use Rattle.std.proofs.Math.Bool.{true, false}
@@ -30,7 +30,8 @@ use Rattle.saving.specs.Codes.{any_requests}
 use Rattle.saving.specs.Records.{ok_rows, checked, EndSays, checked_is, is_checked}
 use Rattle.saving.specs.Writing.{length_codes}
 use Rattle.saving.specs.Lengths.{length_helds}
-use Rattle.saving.specs.Planned.{numbers, requests, helds, bytes, from_bytes, from_events, from_replies, from_requests, from_settings, Found, sections_of, Planned, ids_at, found_read, here_long}
+use Rattle.saving.specs.Planned.{numbers, requests, helds, bytes, from_bytes, from_events, from_replies, from_requests, from_settings, Found, sections_of, Good, ids_at, found_read, here_long}
+use Rattle.saving.specs.Told.{Planned}
 
 -- ---- numbers of a section
 
@@ -194,18 +195,18 @@ pub record Tail (s : List ℕ) (at : ℕ) (p : Plan) : Type 0 where
   pub rising : ok_rows true 0 (last_in s) replies.items ≡ true
   pub known : ok_rows false 0 (last_in s) events.items ≡ true
 
-pub record HeldFound (s : List ℕ) (at : ℕ) (p : Plan) : Type 0 where
-  pub there : (p.ids ≡ 0 → ⊥) → Tail s at p
-  pub missing : p.ids ≡ 0 → Not from_replies (tail_ok s) s at
+abbrev pub HeldFound : List ℕ → ℕ → Option Plan → Type 0
+HeldFound s at None = Not from_replies (tail_ok s) s at
+HeldFound s at (Some p) = Tail s at p
 
 -- all of them
 pub record Known (s : List ℕ) (p : Plan) (f : Found s p) : Type 0 where
   pub rising : ok_rows true 0 (last_in s) f.replies.items ≡ true
   pub known : ok_rows false 0 (last_in s) f.events.items ≡ true
 
-pub record SectionsFound (s : List ℕ) (p : Plan) : Type 0 where
-  pub there : (p.ids ≡ 0 → ⊥) → (f : Found s p) × Known s p f
-  pub missing : p.ids ≡ 0 → Not file (all_ok s) s 0
+abbrev pub SectionsFound : List ℕ → Option Plan → Type 0
+SectionsFound s None = Not file (all_ok s) s 0
+SectionsFound s (Some p) = (f : Found s p) × Known s p f
 
 -- where they stand
 pub record Bounds (s : List ℕ) (p : Plan) : Type 0 where
@@ -219,9 +220,6 @@ abbrev pub RangeSays : List ℕ → Plan → Bool → Type 0
 RangeSays s p r = (f : Found s p) → Known s p f → r ≡ sound (build (sections_of f))
 
 -- ---- the last four sections, one after the other
-
-pub held_none : (s : List ℕ) (at : ℕ) (p : Plan) → p.ids ≡ 0 → Not from_replies (tail_ok s) s at → HeldFound s at p
-held_none s at p e N = record { there = λ z. absurd (z e); missing = λ z. N }
 
 module _ (s : List ℕ) (o : Octets s) (at : ℕ) (h : at ≤ length s) (last : ℕ) (e : last ≡ last_in s) where
   under : (kind at r : ℕ) (rising : Bool) → At (helds kind) (ok_rows rising 0 last) s at r → At (helds kind) (ok_rows rising 0 (last_in s)) s at r
@@ -260,21 +258,15 @@ module _ (s : List ℕ) (o : Octets s) (at : ℕ) (h : at ≤ length s) (last : 
               pub not_ended : (d ≡ length s → ⊥) → Not from_replies (tail_ok s) s at
               not_ended z = past_two (not_then bytes numbers any (long 3) s b c H i (not_last numbers (long 3) s c d I z))
 
-              pub tail_found : 28 ≤ length s → d ≡ length s → HeldFound s at (record { replies = at; events = a; partial = b; ids = c })
+              pub tail_found : 28 ≤ length s → d ≡ length s → HeldFound s at (Some (record { replies = at; events = a; partial = b; ids = c }))
               tail_found w z =
                   let A = stands (held Head.reply) (held_exact Head.reply) _ s o at a h (under Head.reply at a true F) f in
                   let B = stands (held Head.event) (held_exact Head.event) _ s o a b replies_end (under Head.event a b false G) g in
                   let C = stands byte byte_exact any s o b c events_end H i in
                   let D = stands (number 8) (number_exact 8) (long 3) s o c (length s) (bytes_there i) (subst (λ (n : ℕ). At numbers (long 3) s c n) z I) (λ q. omega arith) in
-                  record {
-                    there = λ q. record { start = refl; replies = A.0; events = B.0; partial = C.0; ids = D.0; three = eqb-true _ _ D.1; rising = A.1; known = B.1 };
-                    missing = λ q. absurd (i q);
-                  }
+                  record { start = refl; replies = A.0; events = B.0; partial = C.0; ids = D.0; three = eqb-true _ _ D.1; rising = A.1; known = B.1 }
 
 -- ---- all seven
-
-pub sections_none : (s : List ℕ) (p : Plan) → p.ids ≡ 0 → Not file (all_ok s) s 0 → SectionsFound s p
-sections_none s p e N = record { there = λ z. absurd (z e); missing = λ z. N }
 
 module _ (s : List ℕ) (o : Octets s) (a : ℕ) (F : At numbers (long 3) s 0 a) where
   pub no_numbers : a ≡ 0 → Not file (all_ok s) s 0
@@ -306,30 +298,27 @@ module _ (s : List ℕ) (o : Octets s) (a : ℕ) (F : At numbers (long 3) s 0 a)
             pub requests_within : (28 ≤ length s) × (c ≤ length s)
             requests_within = (omega (arith, numbers_after, numbers_within), (H.there h).3)
 
-            pub all_found : (p : Plan) → HeldFound s c p → SectionsFound s p
-            all_found p T = record {
-              there = λ z.
-                  let t = T.there z in
-                  let N = stands (number 8) (number_exact 8) (long 3) s o 0 28 (omega arith) (subst (λ (n : ℕ). At numbers (long 3) s 0 n) numbers_after F) (λ q. omega arith) in
-                  let S = stands (number 8) (number_exact 8) (long 5) s o 28 72 (omega (arith, numbers_after, numbers_within)) (subst (λ (n : ℕ). At numbers (long 5) s 28 n) settings_after (subst (λ (n : ℕ). At numbers (long 5) s n b) numbers_after G)) (λ q. omega arith) in
-                  let R = stands request request_exact any_requests s o 72 p.replies (omega (arith, settings_after, settings_within)) (subst (λ (n : ℕ). At requests any_requests s 72 n) (sym t.start) (subst (λ (n : ℕ). At requests any_requests s n c) settings_after H)) (λ q. h (sym t.start ∙ q)) in (
-                    record {
-                      numbers = N.0;
-                      settings = S.0;
-                      requests = R.0;
-                      replies = t.replies;
-                      events = t.events;
-                      partial = t.partial;
-                      ids = t.ids;
-                      three_numbers = eqb-true _ _ N.1;
-                      five_settings = eqb-true _ _ S.1;
-                      three_ids = t.three;
-                    },
-                    record { rising = t.rising; known = t.known },
-                  );
-              missing = λ z.
-                  not_then numbers from_settings (long 3) _ s 0 a F f (not_then numbers from_requests (long 5) _ s a b G g (not_then requests from_replies any_requests _ s b c H h (T.missing z)));
-            }
+            pub all_found : (p : Option Plan) → HeldFound s c p → SectionsFound s p
+            all_found None N =
+                not_then numbers from_settings (long 3) _ s 0 a F f (not_then numbers from_requests (long 5) _ s a b G g (not_then requests from_replies any_requests _ s b c H h N))
+            all_found (Some p) t =
+                let N = stands (number 8) (number_exact 8) (long 3) s o 0 28 (omega arith) (subst (λ (n : ℕ). At numbers (long 3) s 0 n) numbers_after F) (λ q. omega arith) in
+                let S = stands (number 8) (number_exact 8) (long 5) s o 28 72 (omega (arith, numbers_after, numbers_within)) (subst (λ (n : ℕ). At numbers (long 5) s 28 n) settings_after (subst (λ (n : ℕ). At numbers (long 5) s n b) numbers_after G)) (λ q. omega arith) in
+                let R = stands request request_exact any_requests s o 72 p.replies (omega (arith, settings_after, settings_within)) (subst (λ (n : ℕ). At requests any_requests s 72 n) (sym t.start) (subst (λ (n : ℕ). At requests any_requests s n c) settings_after H)) (λ q. h (sym t.start ∙ q)) in (
+                  record {
+                    numbers = N.0;
+                    settings = S.0;
+                    requests = R.0;
+                    replies = t.replies;
+                    events = t.events;
+                    partial = t.partial;
+                    ids = t.ids;
+                    three_numbers = eqb-true _ _ N.1;
+                    five_settings = eqb-true _ _ S.1;
+                    three_ids = t.three;
+                  },
+                  record { rising = t.rising; known = t.known },
+                )
 
 -- ---- tests one behind the other
 
@@ -473,20 +462,15 @@ not_decodes s o N =
     (both_yes _ _ (replies_ok 0 (last_in s) _ (subst (λ (n : ℕ). each (held_fits n) x.1.1.1.0 ≡ true) r (both_left _ _ b)) (both_left _ _ (both_right _ _ c)))
     (both_yes _ _ (events_ok (last_in s) _ (subst (λ (n : ℕ). each (held_fits n) x.1.1.1.1.0 ≡ true) r (both_left _ _ c))) (both_yes _ _ refl (both_right _ _ k))))))))
 
-pub none_planned : (s : List ℕ) → Octets s → (p : Plan) → SectionsFound s p → p.ids ≡ 0 → Planned s p
-none_planned s o p S e = record { there = λ z. absurd (z e); missing = λ z. not_decodes s o (S.missing e) }
+pub none_planned : (s : List ℕ) → Octets s → SectionsFound s None → Planned s None
+none_planned s o N = not_decodes s o N
 
-module _ (s : List ℕ) (p : Plan) (S : SectionsFound s p) (z : p.ids ≡ 0 → ⊥) (b : Bool) (R : RangeSays s p b) where
-  pub bad_planned : not b ≡ true → (q : Plan) → q.ids ≡ 0 → Planned s q
-  bad_planned t q e =
-      let f = S.there z in
-      record {
-        there = λ w. absurd (w e);
-        missing = λ w.
-            decode_none s (λ x h u v.
-            let i : x ≡ sections_of f.0 = ap (λ y. y.0) (some_same (h ∙ sym (found_read f.0))) in
-            apart (ap (λ y. sound (build y)) (sym i) ∙ v) (sym (R f.0 f.1) ∙ not-true b t));
-      }
+module _ (s : List ℕ) (p : Plan) (S : SectionsFound s (Some p)) (b : Bool) (R : RangeSays s p b) where
+  pub bad_planned : not b ≡ true → Planned s None
+  bad_planned t =
+      decode_none s (λ x h u v.
+      let i : x ≡ sections_of S.0 = ap (λ y. y.0) (some_same (h ∙ sym (found_read S.0))) in
+      apart (ap (λ y. sound (build y)) (sym i) ∙ v) (sym (R S.0 S.1) ∙ not-true b t))
 
-  pub good_planned : not b ≡ false → Planned s p
-  good_planned t = let f = S.there z in record { there = λ w. record { found = f.0; sound_is = sym (R f.0 f.1) ∙ not-false b t }; missing = λ w. absurd (z w) }
+  pub good_planned : not b ≡ false → Good s p
+  good_planned t = record { found = S.0; sound_is = sym (R S.0 S.1) ∙ not-false b t }

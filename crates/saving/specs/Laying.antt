@@ -18,7 +18,6 @@ use Rattle.requests.specs.Theorems.{length_put, capacity_put}
 use Rattle.requests.specs.declared.Request.{Request}
 use Rattle.requests.specs.declared.Mode.{Mode}
 use Rattle.requests.specs.declared.Mode.TheVariants.{Keep, DiscardReply, DiscardReplyAndError}
-use Rattle.id_allocator.specs.declared.IdAllocator.{IdAllocator}
 use Rattle.descriptors.specs.Room.{counted, most_descriptors}
 use Rattle.model.specs.Reading.{Rooms}
 use Rattle.model.specs.declared.Connection.{Connection}
@@ -88,9 +87,9 @@ pub mode_keep : (n : ℕ) → n ≡ 0 → Keep ≡ code_mode n
 unfolding code_mode choose
 mode_keep n e = rw (eq-eqb n 0 e)
 
-pub mode_reply : (n : ℕ) → (n ≡ 0 → ⊥) → n ≡ 1 → DiscardReply ≡ code_mode n
+pub mode_reply : (n : ℕ) → n ≡ 1 → DiscardReply ≡ code_mode n
 unfolding code_mode choose
-mode_reply n z e = rw (ne_eqb n 0 z, eq-eqb n 1 e)
+mode_reply n e = rw (ne_eqb n 0 (λ z. omega arith), eq-eqb n 1 e)
 
 pub mode_all : (n : ℕ) → (n ≡ 0 → ⊥) → (n ≡ 1 → ⊥) → DiscardReplyAndError ≡ code_mode n
 unfolding code_mode choose
@@ -98,50 +97,40 @@ mode_all n z o = rw (ne_eqb n 0 z, ne_eqb n 1 o)
 
 -- ---- the loop over them: the requests that are left, put, say what all say
 
-pub record Filling (s : List ℕ) (end : ℕ) (room₀ : List ℕ) (room : List ℕ) (number at : ℕ) : Type 0 where
+pub record Filling (s : List ℕ) (end : ℕ) (room₀ : List ℕ) (room : List ℕ) (at : ℕ) : Type 0 where
   pub least : 76 ≤ at
-  pub most : at ≤ end
-  pub number_is : number ≡ first_at s end + (at - 76)
   pub long : length room ≡ length room₀
   pub holds : capacity room ≡ capacity room₀
-  pub says : put_all room number (map code_request (part s at end)) ≡ put_all room₀ (first_at s end) (map code_request (part s 76 end))
+  pub says : put_all room (first_at s end + (at - 76)) (map code_request (part s at end)) ≡ put_all room₀ (first_at s end) (map code_request (part s 76 end))
 
 module _ (s : List ℕ) (end : ℕ) (O : Outstanding s end) (room₀ : List ℕ) where
-  pub fill_start : (w : ℕ) → w ≡ field little_order 4 8 s → Filling s end room₀ room₀ (w + 1 - (end - 76)) 76
-  fill_start w e =
-      let n : w + 1 - (end - 76) ≡ first_at s end = ap (λ (k : ℕ). k + 1 - (end - 76)) e in
-      record {
-        least = omega arith;
-        most = O.order;
-        number_is = n ∙ (let z : first_at s end ≡ first_at s end + (76 - 76) = omega arith in z);
-        long = refl;
-        holds = refl;
-        says = ap (λ (k : ℕ). put_all room₀ k (map code_request (part s 76 end))) n;
-      }
+  pub fill_start : Filling s end room₀ room₀ 76
+  fill_start =
+      let n : first_at s end + (76 - 76) ≡ first_at s end = omega arith in
+      record { least = omega arith; long = refl; holds = refl; says = ap (λ (k : ℕ). put_all room₀ k (map code_request (part s 76 end))) n }
 
-  module _ (room : List ℕ) (number at : ℕ) (I : Filling s end room₀ room number at) where
+  module _ (room : List ℕ) (at : ℕ) (I : Filling s end room₀ room at) where
     pub fill_done : end ≤ at → room ≡ put_all room₀ (first_at s end) (map code_request (part s 76 end))
     unfolding put_all
     fill_done h =
         let z : end - at ≡ 0 = omega arith in
         let e : [] ≡ part s at end = sym (cut_none s at) ∙ ap (λ (n : ℕ). cut at n s) (sym z) in
-        ap (λ (l : List ℕ). put_all room number (map code_request l)) e ∙ I.says
+        ap (λ (l : List ℕ). put_all room (first_at s end + (at - 76)) (map code_request l)) e ∙ I.says
 
-    pub fill_again : at < end → (r : Request) → r ≡ code_request (get_or s at 0) → (room' : List ℕ) → room' ≡ put_request room number r → Filling s end room₀ room' (number + 1) (at + 1)
+    pub fill_again : at < end → (number : ℕ) → number ≡ first_at s end + (at - 76) → (r : Request) → r ≡ code_request (get_or s at 0) → (room' : List ℕ) → room' ≡ put_request room number r → Filling s end room₀ room' (at + 1)
     unfolding put_all
-    fill_again h r e room' f =
+    fill_again h number m r e room' f =
         let n : 1 + (end - (at + 1)) ≡ end - at = omega arith in
         let c : get_or s at 0 ∷ part s (at + 1) end ≡ part s at end = sym (cut_ahead s at (end - (at + 1)) (omega (arith, O.within))) ∙ ap (λ (k : ℕ). cut at k s) n in
-        let g : room' ≡ put_request room number (code_request (get_or s at 0)) = f ∙ ap (put_request room number) e in
+        let g : room' ≡ put_request room (first_at s end + (at - 76)) (code_request (get_or s at 0)) = f ∙ (λ i. put_request room (m i) (e i)) in
+        let k : first_at s end + (at + 1 - 76) ≡ first_at s end + (at - 76) + 1 = omega (arith, I.least) in
         record {
           least = omega (arith, I.least);
-          most = omega arith;
-          number_is = omega (arith, I.number_is, I.least);
           long = ap length f ∙ length_put room number r ∙ I.long;
           holds = ap capacity f ∙ capacity_put room number r ∙ I.holds;
           says =
-              ap (λ (x : List ℕ). put_all x (number + 1) (map code_request (part s (at + 1) end))) g
-              ∙ ap (λ (l : List ℕ). put_all room number (map code_request l)) c
+              (λ i. put_all (g i) (k i) (map code_request (part s (at + 1) end)))
+              ∙ ap (λ (l : List ℕ). put_all room (first_at s end + (at - 76)) (map code_request l)) c
               ∙ I.says;
         }
 
@@ -186,35 +175,6 @@ reader_same s p o t e f =
     let bytes : List ℕ = take (p.ids - (p.partial + 4)) (drop (p.partial + 4) s) in
     let g = f ∙ ap (λ (k : ℕ). aim k bytes (length bytes)) e in
     λ i. record { order = e i; filled = p.ids - (p.partial + 4); target = g i }
-
-pub connection_same : (s : List ℕ) (p : Plan) (o k m w e r : ℕ) → o ≡ field little_order 32 8 s → k ≡ field little_order 40 8 s → m ≡ field little_order 48 8 s
-    → w ≡ field little_order 4 8 s → e ≡ field little_order 12 8 s → r ≡ field little_order 20 8 s
-    → record {
-      order = o;
-      capacity = k;
-      room = m;
-      written = w;
-      expected = e;
-      read = r;
-      first = w + 1 - (p.replies - 76);
-      window = record { start = 0; end = p.partial - p.replies - 8 };
-      counts = counted 0 0 0;
-    } ≡ connection_at s p
-connection_same s p o k m w e r a b c d f g = λ i. record {
-  order = a i;
-  capacity = b i;
-  room = c i;
-  written = d i;
-  expected = f i;
-  read = g i;
-  first = d i + 1 - (p.replies - 76);
-  window = record { start = 0; end = p.partial - p.replies - 8 };
-  counts = counted 0 0 0;
-}
-
-pub client_same : (s : List ℕ) (p : Plan) (c : Connection) (r : PacketReader) (a : IdAllocator) → c ≡ connection_at s p → r ≡ reader_at s p → a ≡ ids_at s p.ids
-    → record { connection = c; reader = r; ids = a } ≡ client_at s p
-client_same s p c r a e f g = λ i. record { connection = e i; reader = f i; ids = g i }
 
 pub request_same : (b : ℕ) (m : Mode) → m ≡ code_mode (b / 2) → record { descriptors = eqb (b % 2) 1; mode = m } ≡ code_request b
 unfolding code_request

@@ -1,4 +1,5 @@
 pub mod Says
+pub mod Told
 pub mod Promises
 pub mod Writing
 pub mod WritingRows

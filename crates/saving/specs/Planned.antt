@@ -7,7 +7,7 @@ use Rattle.octets.specs.Logic.{both_yes}
 use Rattle.octets.specs.Bytes.{little_order}
 use Rattle.octets.specs.Put.{length_cut}
 use Rattle.octets.specs.Field.{field}
-use Rattle.refusal.specs.Answer.{gives, refuses}
+use Rattle.refusal.specs.Answer.{gives}
 use Rattle.requests.specs.declared.Request.{Request}
 use Rattle.id_allocator.specs.declared.IdAllocator.{IdAllocator}
 use Rattle.held.specs.Head as Head
@@ -66,14 +66,10 @@ sections_of f = (f.numbers.items, (f.settings.items, (f.requests.items, (f.repli
 abbrev pub ids_at : List ℕ → ℕ → IdAllocator
 ids_at s at = record { next = field little_order (at + 4) 8 s; last = field little_order (at + 12) 8 s; step = field little_order (at + 20) 8 s }
 
--- THE CODE'S ANSWER: where the sections of a sound state stand, or that no such bytes are given.
+-- where the sections of a sound state stand
 pub record Good (s : List ℕ) (p : Plan) : Type 0 where
   pub found : Found s p
   pub sound_is : sound (build (sections_of found)) ≡ true
-
-pub record Planned (s : List ℕ) (p : Plan) : Type 0 where
-  pub there : (p.ids ≡ 0 → ⊥) → Good s p
-  pub missing : p.ids ≡ 0 → refuses 19 ≡ decode s
 
 -- ---- what was found is what is read
 

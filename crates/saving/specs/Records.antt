@@ -169,14 +169,14 @@ module _ (s : List ℕ) (rising : Bool) (kind last : ℕ) (whole : Option (List 
             ∙ whole_is;
       }
 
-      pub again : (b : Bool) → b ≡ good_at kind from last x → not b ≡ false → (number next : ℕ) → number ≡ num_of x → next ≡ choose rising number 0 → Inv s rising kind last whole (at + size) (left - 1) next
-      again b e t number next f g =
+      pub again : (b : Bool) → b ≡ good_at kind from last x → not b ≡ false → (number next : ℕ) → number ≡ num_of x → next ≡ choose rising number 0 → (rest : ℕ) → rest ≡ left - 1 → Inv s rising kind last whole (at + size) rest next
+      again b e t number next f g rest r =
           let d : drop (cost (decoded x)) x ≡ drop (at + size) s = drop-drop (cost (decoded x)) at s ∙ ap (λ (k : ℕ). drop (at + k) s) (sym is_size) in
           let h : choose rising (num_of x) 0 ≡ next = ap (λ (k : ℕ). choose rising k 0) (sym f) ∙ sym g in
           record {
             some_at = omega (arith, I.some_at);
             order = room;
-            says = (λ i. checked rising kind (sym h i) last (left - 1) (sym d i)) ∙ when_yes _ _ (sym e ∙ not-false b t) ∙ read_on rising kind from last (left - 1) x (stands.some z).0 ∙ whole_is;
+            says = (λ i. checked rising kind (sym h i) last (r i) (sym d i)) ∙ when_yes _ _ (sym e ∙ not-false b t) ∙ read_on rising kind from last (left - 1) x (stands.some z).0 ∙ whole_is;
           }
 
 -- the test by its fields

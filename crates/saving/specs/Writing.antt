@@ -1,17 +1,17 @@
 -- Sections of numbers, bytes and requests: what is put field by field is the section. Assumes nothing.
-use Rattle.std.specs.Prelude.{◌≡◌, refl, true, false, List, [], ◌∷◌, ◌++◌, ℕ, ◌+◌, ◌*◌, ◌-◌, ◌≤◌, ◌<◌, length, take, drop, set}
+use Rattle.std.specs.Prelude.{◌≡◌, refl, Bool, true, false, List, [], ◌∷◌, ◌++◌, ℕ, ◌+◌, ◌*◌, ◌-◌, ◌≤◌, ◌<◌, length, take, drop, set, get_or, suc}
 use Rattle.std.proofs.Common.{sym, ap, ◌∙◌, append_assoc, append-nil, arith, length-append, length-take-le}
+use mir.Val.{bool_byte}
+use Rattle.std.proofs.Math.Seq.{take-suc, take-length}
 use Rattle.octets.specs.Logic.{choose}
 use Rattle.octets.specs.Bytes.{little_order, word, length_bytes_of}
 use Rattle.octets.specs.Put.{put, length_put, put_none, put_next, set_behind}
 use Rattle.octets.specs.Field.{put_field}
-use Rattle.requests.specs.declared.Mode.{Mode}
-use Rattle.requests.specs.declared.Mode.TheVariants.{Keep, DiscardReply, DiscardReplyAndError}
 use Rattle.requests.specs.declared.Request.{Request}
 use Rattle.requests.specs.Room.{request_at, upto, outstanding}
 use Rattle.requests.specs.Upto.{length_upto, upto_behind}
 use Rattle.form.specs.Form.{Form, number, byte, counted, writes}
-use Rattle.form.proofs.At.{bytes_written}
+use Rattle.form.proofs.At.{bytes_written, length_numbers}
 use Rattle.savepoint.specs.Saved.{mode_code, request_code, request}
 
 -- ---- numbers
@@ -29,28 +29,43 @@ pub headed : (s s₁ : List ℕ) (to n : ℕ) → s₁ ≡ put_field little_orde
 unfolding put_field
 headed s s₁ to n p = (p, length_bytes_of little_order 4 n)
 
-pub three_put : (s s₁ s₂ s₃ s₄ : List ℕ) (to a b c : ℕ) → s₁ ≡ put_field little_order s to 4 3 → s₂ ≡ put_field little_order s₁ (to + 4) 8 a → s₃ ≡ put_field little_order s₂ (to + 12) 8 b
-    → s₄ ≡ put_field little_order s₃ (to + 20) 8 c → to + 28 ≤ length s → s₄ ≡ put s to ((counted 4 (number 8)).write (a ∷ b ∷ c ∷ []))
+-- a number behind others
+numbers_behind : (l : List ℕ) (x : ℕ) → writes (number 8) (l ++ (x ∷ [])) ≡ writes (number 8) l ++ word 8 x
 unfolding writes
-three_put s s₁ s₂ s₃ s₄ to a b c p₁ p₂ p₃ p₄ h =
-    let q₁ = headed s s₁ to 3 p₁ in
-    let q₂ = more s s₁ s₂ to 4 8 a _ q₁.0 q₁.1 p₂ (omega arith) in
-    let q₃ = more s s₂ s₃ to 12 8 b _ q₂.0 q₂.1 p₃ (omega arith) in
-    let q₄ = more s s₃ s₄ to 20 8 c _ q₃.0 q₃.1 p₄ (omega arith) in
-    q₄.0 ∙ ap (put s to) (simp (append_assoc, append-nil))
+numbers_behind [] x = append-nil (word 8 x)
+numbers_behind (y ∷ l) x = ap (λ (v : List ℕ). word 8 y ++ v) (numbers_behind l x) ∙ sym (append_assoc (word 8 y) (writes (number 8) l) (word 8 x))
 
-pub five_put : (s s₁ s₂ s₃ s₄ s₅ s₆ : List ℕ) (to a b c d e : ℕ) → s₁ ≡ put_field little_order s to 4 5 → s₂ ≡ put_field little_order s₁ (to + 4) 8 a → s₃ ≡ put_field little_order s₂ (to + 12) 8 b
-    → s₄ ≡ put_field little_order s₃ (to + 20) 8 c → s₅ ≡ put_field little_order s₄ (to + 28) 8 d → s₆ ≡ put_field little_order s₅ (to + 36) 8 e → to + 44 ≤ length s
-    → s₆ ≡ put s to ((counted 4 (number 8)).write (a ∷ b ∷ c ∷ d ∷ e ∷ []))
-unfolding writes
-five_put s s₁ s₂ s₃ s₄ s₅ s₆ to a b c d e p₁ p₂ p₃ p₄ p₅ p₆ h =
-    let q₁ = headed s s₁ to 5 p₁ in
-    let q₂ = more s s₁ s₂ to 4 8 a _ q₁.0 q₁.1 p₂ (omega arith) in
-    let q₃ = more s s₂ s₃ to 12 8 b _ q₂.0 q₂.1 p₃ (omega arith) in
-    let q₄ = more s s₃ s₄ to 20 8 c _ q₃.0 q₃.1 p₄ (omega arith) in
-    let q₅ = more s s₄ s₅ to 28 8 d _ q₄.0 q₄.1 p₅ (omega arith) in
-    let q₆ = more s s₅ s₆ to 36 8 e _ q₅.0 q₅.1 p₆ (omega arith) in
-    q₆.0 ∙ ap (put s to) (simp (append_assoc, append-nil))
+-- the loop: their count and so many of them are put
+pub record Numbers (s₀ : List ℕ) (to : ℕ) (l s : List ℕ) (i : ℕ) : Type 0 where
+  pub now : s ≡ put s₀ to (word 4 (length l) ++ writes (number 8) (take i l))
+
+module _ (s₀ : List ℕ) (to : ℕ) (l : List ℕ) (h : to + (4 + 8 * length l) ≤ length s₀) where
+  pub numbers_start : (s : List ℕ) → s ≡ put_field little_order s₀ to 4 (length l) → Numbers s₀ to l s 0
+  unfolding writes put_field
+  numbers_start s p = record { now = p ∙ ap (put s₀ to) (sym (append-nil (word 4 (length l)))) }
+
+  module _ (s : List ℕ) (i : ℕ) (I : Numbers s₀ to l s i) (m : i ≤ length l) where
+    abbrev done : List ℕ
+    done = word 4 (length l) ++ writes (number 8) (take i l)
+
+    done_long : length done ≡ 4 + 8 * i
+    done_long = omega (arith, length-append (word 4 (length l)) (writes (number 8) (take i l)), length_bytes_of little_order 4 (length l), length_numbers (take i l), length-take-le i l m)
+
+    pub numbers_long : length s ≡ length s₀
+    numbers_long = ap length I.now ∙ length_put s₀ to done (omega (arith, done_long))
+
+    pub numbers_again : i < length l → (s' : List ℕ) → s' ≡ put_field little_order s (to + (4 + 8 * i)) 8 (get_or l i 0) → Numbers s₀ to l s' (i + 1)
+    numbers_again k s' q =
+        let x : ℕ = get_or l i 0 in
+        let n : suc i ≡ i + 1 = omega arith in
+        let a = more s₀ s s' to (4 + 8 * i) 8 x done I.now done_long q (omega arith) in
+        let e : writes (number 8) (take i l) ++ word 8 x ≡ writes (number 8) (take (i + 1) l) = sym (numbers_behind (take i l) x) ∙ ap (writes (number 8)) (sym (take-suc l i 0 k)) ∙ ap (λ (j : ℕ). writes (number 8) (take j l)) n in
+        record { now = a.0 ∙ ap (put s₀ to) (append_assoc (word 4 (length l)) (writes (number 8) (take i l)) (word 8 x) ∙ ap (λ (v : List ℕ). word 4 (length l) ++ v) e) }
+
+    pub numbers_done : length l ≤ i → s ≡ put s₀ to ((counted 4 (number 8)).write l)
+    numbers_done k =
+        let n : i ≡ length l = omega arith in
+        I.now ∙ ap (λ (v : List ℕ). put s₀ to (word 4 (length l) ++ writes (number 8) v)) (ap (λ (j : ℕ). take j l) n ∙ take-length l)
 
 -- ---- a count, then what it counts
 
@@ -71,19 +86,14 @@ run_put buf s s₁ s₂ to n p q h k =
 
 -- ---- requests
 
-pub mode_most : (m : Mode) → mode_code m ≤ 2
-mode_most Keep = omega arith
-mode_most DiscardReply = omega arith
-mode_most DiscardReplyAndError = omega arith
-
--- a request's code, by its mode's
-pub code_with : (r : Request) (n : ℕ) → n ≡ mode_code r.mode → r.descriptors ≡ true → 2 * n + 1 ≡ request_code r
+-- a request's code, by its mode's, and by the byte of whether its reply has descriptors
+pub code_is : (r : Request) (m b : ℕ) → m ≡ mode_code r.mode → b ≡ bool_byte r.descriptors → 2 * m + b ≡ request_code r
 unfolding request_code choose
-code_with r n e h = simp h (omega arith)
-
-pub code_without : (r : Request) (n : ℕ) → n ≡ mode_code r.mode → r.descriptors ≡ false → 2 * n ≡ request_code r
-unfolding request_code choose
-code_without r n e h = simp h (omega arith)
+code_is r m b e f = go r.descriptors f
+  where
+    go : (d : Bool) → b ≡ bool_byte d → 2 * m + b ≡ 2 * mode_code r.mode + choose d 1 0
+    go true f = omega (arith, e, f)
+    go false f = omega (arith, e, f)
 
 -- each takes a byte
 pub length_codes : (l : List Request) → length (writes request l) ≡ length l

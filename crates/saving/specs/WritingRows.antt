@@ -1,5 +1,6 @@
 -- The records of a window, those of a kind in their order, copied and counted. Assumes nothing.
 use Rattle.std.specs.Prelude.{◌≡◌, refl, Bool, true, false, ℕ, suc, ◌+◌, ◌-◌, ◌≤◌, ◌<◌, eqb, take, drop}
+use Rattle.std.specs.Coded.{×_prop, Unit-prop, le_prop}
 use Rattle.std.proofs.Math.Path.{sym, ap}
 use Rattle.std.proofs.Common.{◌∙◌, subst, length-append}
 use mathlib.Core.List.{List, [], ◌∷◌, ◌++◌, append_assoc, append-nil}
@@ -18,6 +19,15 @@ use Rattle.held.specs.Rows.{only_is, only_other}
 use Rattle.held.specs.declared.Window.{Window}
 use Rattle.held.specs.Rest.{Rest, Turn, turn, turn_behind, turn_room, rest_none}
 use Rattle.saving.specs.declared.writing.Passed.{Passed}
+
+-- that records fit has one proof at most
+fits_one : (h : Record) → IsProp (Fits h)
+fits_one h = Prim.hlevel le_prop
+
+pub fits_prop : (hs : List Record) → IsProp (All Fits hs)
+unfolding All
+fits_prop [] = Unit-prop
+fits_prop (h ∷ hs) = ×_prop (fits_one h) (fits_prop hs)
 
 -- the bytes of the record at an index of a store, if it is of the kind, and how many records these are
 unfoldable pub copied : ℕ → List ℕ → ℕ → List ℕ

@@ -1,28 +1,26 @@
 // Reading: the sections of a savepoint are tested where they stand, and nothing is written.
-ghost use Rattle.std.specs.Prelude.{◌≡◌, ◌+◌, ◌-◌, ◌≤◌, length, drop};
+ghost use Rattle.std.specs.Prelude.{◌≡◌, ◌+◌, ◌≤◌, length, drop};
+ghost use Rattle.std.specs.List.{list_all};
 ghost use Rattle.octets.specs.Logic.{choose};
-ghost use Rattle.octets.specs.Put.{cut};
 ghost use Rattle.held.specs.Head.{header_size};
-ghost use Rattle.form.specs.Form.{each};
-ghost use Rattle.form.specs.At.{At, long, any};
+ghost use Rattle.form.specs.At.{At, Behind, long, any};
 ghost use Rattle.saving.specs.Codes.{is_code, any_requests};
 ghost use Rattle.saving.specs.Records.{ok_rows, good_at, checked, EndSays};
 ghost use Rattle.octets.specs.Bytes.{legal};
 ghost use Rattle.saving.specs.Finding.{NumbersSay, PartialSays, Bounds, RangeSays, HeldFound, SectionsFound};
-ghost use Rattle.saving.specs.Planned.{numbers, requests, helds, bytes as byteRun, Planned, ids_at};
+ghost use Rattle.saving.specs.Planned.{numbers, requests, helds, bytes as byteRun, ids_at};
+ghost use Rattle.saving.specs.Told.{Planned};
 
+use crate::laying::Savepoint;
 use crate::places::{
-    BUFFER, CAPACITY, COUNT, EXPECTED, ORDER, READ, READER_ORDER, REQUESTS, ROOM, WRITTEN,
+    BUFFER, CAPACITY, COUNT, EXPECTED, NUMBER, ORDER, READ, READER_ORDER, REQUESTS, ROOM, WRITTEN,
 };
 use id_allocator::IdAllocator;
-
-// The bytes of a number.
-const NUMBER: usize = 8;
 
 // The last code of a request.
 const LAST_CODE: u8 = 5;
 
-// Where the other sections begin; 0 each where the bytes are no savepoint.
+// Where the sections behind the first two begin.
 #[derive(Clone, Copy)]
 pub struct Plan {
     pub replies: usize,
@@ -31,119 +29,96 @@ pub struct Plan {
     pub ids: usize,
 }
 
-fn none() -> Plan
-    ensures { result.ids ≡ 0 }
-{
-    Plan {
-        replies: 0,
-        events: 0,
-        partial: 0,
-        ids: 0,
-    }
-}
-
-// ---- sections, each from an index on: the index behind it, or 0 where none stands there
+// ---- sections, each from an index on: the index behind it, where one stands there
 
 // A section of k numbers.
-fn numbers_at(bytes: &[u8], at: usize, k: usize) -> usize
+fn numbers_at(bytes: &[u8], at: usize, k: usize) -> Option<usize>
     requires { (at ≤ length bytes.now) × (k ≤ 8) }
-    ensures { At numbers (long k) bytes.now at result }
+    ensures { Behind (At numbers (long k) bytes.now at) result }
 {
     let room = bytes.len() - at;
     if room < COUNT + NUMBER * k {
-        return 0;
+        return None;
     }
     let count = octets::get_u32(octets::LITTLE, bytes, at) as usize;
     if count != k {
-        return 0;
+        return None;
     }
-    at + (COUNT + NUMBER * k)
+    Some(at + (COUNT + NUMBER * k))
 }
 
 // A section of bytes.
-fn run_at(bytes: &[u8], at: usize) -> usize
+fn run_at(bytes: &[u8], at: usize) -> Option<usize>
     requires { at ≤ length bytes.now }
-    ensures { At byteRun any bytes.now at result }
+    ensures { Behind (At byteRun any bytes.now at) result }
 {
     let room = bytes.len() - at;
     if room < COUNT {
-        return 0;
+        return None;
     }
     let count = octets::get_u32(octets::LITTLE, bytes, at) as usize;
     if room - COUNT < count {
-        return 0;
+        return None;
     }
-    at + (COUNT + count)
+    Some(at + (COUNT + count))
 }
 
 // A section of requests.
-fn requests_at(bytes: &[u8], at: usize) -> usize
+fn requests_at(bytes: &[u8], at: usize) -> Option<usize>
     requires { at ≤ length bytes.now }
-    ensures { At requests any_requests bytes.now at result }
+    ensures { Behind (At requests any_requests bytes.now at) result }
 {
-    let end = run_at(bytes, at);
-    if end == 0 {
-        return 0;
+    let end = run_at(bytes, at)?;
+    if !are_codes(&bytes[at + COUNT..end]) {
+        return None;
     }
-    if !codes(bytes, at + COUNT, end) {
-        return 0;
-    }
-    end
+    Some(end)
 }
 
-// Whether the bytes from lo to hi are codes of requests.
-fn codes(bytes: &[u8], lo: usize, hi: usize) -> bool
-    requires { (lo ≤ hi) × (hi ≤ length bytes.now) }
-    ensures { result ≡ each is_code (cut lo (hi - lo) bytes.now) }
+fn are_codes(bytes: &[u8]) -> bool
+    ensures { result ≡ list_all is_code bytes.now }
 {
-    let mut good = true;
-    let mut i = lo;
-    while i < hi {
-        if LAST_CODE < bytes[i] {
-            good = false;
-        }
-        i += 1;
-    }
-    good
+    bytes.iter().all(|code| *code <= LAST_CODE)
 }
 
 // A section of held packets of a kind, with numbers up to the last, which never fall where they
 // must rise.
-fn held_at(bytes: &[u8], at: usize, kind: u8, last: u64, rising: bool) -> usize
+fn held_at(bytes: &[u8], at: usize, kind: u8, last: u64, rising: bool) -> Option<usize>
     requires { at ≤ length bytes.now }
-    ensures { At (helds kind) (ok_rows rising 0 last) bytes.now at result }
+    ensures { Behind (At (helds kind) (ok_rows rising 0 last) bytes.now at) result }
 {
     let room = bytes.len() - at;
     if room < COUNT {
-        return 0;
+        return None;
     }
     let count = octets::get_u32(octets::LITTLE, bytes, at) as usize;
     rows_at(bytes, at + COUNT, count, kind, last, rising)
 }
 
 // So many records from an index on.
-fn rows_at(bytes: &[u8], start: usize, count: usize, kind: u8, last: u64, rising: bool) -> usize
+fn rows_at(
+    bytes: &[u8],
+    start: usize,
+    count: usize,
+    kind: u8,
+    last: u64,
+    rising: bool,
+) -> Option<usize>
     requires { (1 ≤ start) × (start ≤ length bytes.now) }
-    ensures { EndSays bytes.now result (checked rising kind 0 last count (drop start bytes.now)) }
+    ensures { Behind (λ end. EndSays bytes.now end (checked rising kind 0 last count (drop start bytes.now))) result }
 {
     let end = bytes.len();
     let mut at = start;
-    let mut left = count;
     let mut from: u64 = 0;
-    while 0 < left {
-        let size = held::size_at(bytes, at, end);
-        if size == 0 {
-            return 0;
-        }
+    for _ in 0..count {
+        let size = held::record_at(bytes, at, end)?;
         if !is_good(bytes, at, kind, from, last) {
-            return 0;
+            return None;
         }
-        let number = held::number_at(bytes, at);
-        from = pick(rising, number);
+        from = pick(rising, held::number_at(bytes, at));
         at += size;
-        left -= 1;
     }
-    at
+    Some(at)
 }
 
 // Whether the record at an index is of the kind, without descriptors, from a number on and up to
@@ -173,66 +148,45 @@ fn pick(rising: bool, n: u64) -> u64
 
 // ---- all of them
 
-// Where the sections begin, if the bytes are those of a sound client.
-pub(crate) fn found(bytes: &[u8]) -> Plan
+// The savepoint that the bytes are, if they are those of a sound client.
+pub(crate) fn found(bytes: &[u8]) -> Option<Savepoint<'_>>
     ensures { Planned bytes.now result }
 {
-    let found = sections(bytes);
-    if found.ids == 0 {
-        return found;
+    let plan = sections(bytes)?;
+    if !in_range(bytes, plan) {
+        return None;
     }
-    if !in_range(bytes, found) {
-        return none();
-    }
-    found
+    Some(Savepoint { bytes, plan })
 }
 
 // The seven sections, one behind the other up to the last byte.
-fn sections(bytes: &[u8]) -> Plan
+fn sections(bytes: &[u8]) -> Option<Plan>
     ensures { SectionsFound bytes.now result }
 {
-    let settings = numbers_at(bytes, 0, 3);
-    if settings == 0 {
-        return none();
-    }
-    let requests = numbers_at(bytes, settings, 5);
-    if requests == 0 {
-        return none();
-    }
-    let replies = requests_at(bytes, requests);
-    if replies == 0 {
-        return none();
-    }
+    let settings = numbers_at(bytes, 0, 3)?;
+    let requests = numbers_at(bytes, settings, 5)?;
+    let replies = requests_at(bytes, requests)?;
     held_sections(bytes, replies)
 }
 
 // The last four of them, from an index on.
-fn held_sections(bytes: &[u8], replies: usize) -> Plan
+fn held_sections(bytes: &[u8], replies: usize) -> Option<Plan>
     requires { (28 ≤ length bytes.now) × (replies ≤ length bytes.now) }
     ensures { HeldFound bytes.now replies result }
 {
     let last = octets::get_u64(octets::LITTLE, bytes, READ);
-    let events = held_at(bytes, replies, held::IN_REPLIES, last, true);
-    if events == 0 {
-        return none();
+    let events = held_at(bytes, replies, held::IN_REPLIES, last, true)?;
+    let partial = held_at(bytes, events, held::IN_EVENTS, last, false)?;
+    let ids = run_at(bytes, partial)?;
+    if numbers_at(bytes, ids, 3)? != bytes.len() {
+        return None;
     }
-    let partial = held_at(bytes, events, held::IN_EVENTS, last, false);
-    if partial == 0 {
-        return none();
-    }
-    let ids = run_at(bytes, partial);
-    if ids == 0 {
-        return none();
-    }
-    if numbers_at(bytes, ids, 3) != bytes.len() {
-        return none();
-    }
-    Plan {
-        replies: replies,
-        events: events,
-        partial: partial,
-        ids: ids,
-    }
+    Some(Plan {
+        replies,
+        events,
+        partial,
+        ids,
+    })
 }
 
 fn in_range(bytes: &[u8], plan: Plan) -> bool
@@ -338,9 +292,5 @@ pub(crate) fn ids_of(bytes: &[u8], at: usize) -> IdAllocator
     let next = octets::get_u64(octets::LITTLE, bytes, at + 4);
     let last = octets::get_u64(octets::LITTLE, bytes, at + 12);
     let step = octets::get_u64(octets::LITTLE, bytes, at + 20);
-    IdAllocator {
-        next: next,
-        last: last,
-        step: step,
-    }
+    IdAllocator { next, last, step }
 }

@@ -26,26 +26,13 @@ use model::Connection;
 use packet_reader::PacketReader;
 use refusal::Refusal;
 
-// A client, all but what is lent with it.
+// A client, all but what is lent with it. The rooms stay parameters of their own in the three
+// calls: their signatures are what callers and the C interface have.
 #[derive(Clone, Copy)]
 pub struct Client {
     pub connection: Connection,
     pub reader: PacketReader,
     pub ids: IdAllocator,
-}
-
-// `savepoint_length`: how many bytes a savepoint takes. `save`: how many it wrote.
-#[derive(Clone, Copy)]
-pub enum Saved {
-    Bytes(usize),
-    Refused(Refusal),
-}
-
-// `restore`: the client to go on with.
-#[derive(Clone, Copy)]
-pub enum Restored {
-    Client(Client),
-    Refused(Refusal),
 }
 
 // How many bytes a savepoint of the client takes. Refused by 9 for an unsound client, then by 18
@@ -56,18 +43,18 @@ pub fn savepoint_length(
     store: &[u8],
     slots: &[u32],
     buf: &[u8],
-) -> Saved
+) -> Result<usize, Refusal>
     ensures { Measures (laid_of client (rooms requests.now store.now slots.now) buf.now) (says_saved result) }
 {
     if !is_sound(client, requests, store, slots, buf) {
-        return Saved::Refused(Refusal::BadRoom);
+        return Err(Refusal::BadRoom);
     }
     let connection = client.connection;
     let counts = connection.counts;
     if holds(counts) {
-        return Saved::Refused(Refusal::HasDescriptors);
+        return Err(Refusal::HasDescriptors);
     }
-    Saved::Bytes(size(client))
+    Ok(size(client))
 }
 
 // The savepoint at the start of out; the bytes behind it stay. Refused by 9, 18, and 8 where out is
@@ -79,20 +66,15 @@ pub fn save(
     slots: &[u32],
     buf: &[u8],
     out: &mut [u8],
-) -> Saved
+) -> Result<usize, Refusal>
     ensures { Saves (laid_of client (rooms requests.now store.now slots.now) buf.now) out.old (says_saved result) out.new }
 {
-    let length = savepoint_length(client, requests, store, slots, buf);
-    match length {
-        Saved::Bytes(n) => {
-            if out.len() < n {
-                return Saved::Refused(Refusal::OutShort);
-            }
-            writing::write(client, requests, store, buf, out);
-            Saved::Bytes(n)
-        }
-        Saved::Refused(r) => Saved::Refused(r),
+    let n = savepoint_length(client, requests, store, slots, buf)?;
+    if out.len() < n {
+        return Err(Refusal::OutShort);
     }
+    writing::write(client, requests, store, buf, out);
+    Ok(n)
 }
 
 // A savepoint read into these rooms, whose unused bytes stay. Refused by 19 for bytes that are no
@@ -103,20 +85,17 @@ pub fn restore(
     store: &mut [u8],
     slots: &[u32],
     buf: &mut [u8],
-) -> Restored
+) -> Result<Client, Refusal>
     ensures { Restores bytes.now (rooms requests.old store.old slots.now) buf.old (says_restored result) (rooms requests.new store.new slots.now) buf.new }
 {
-    let plan = finding::found(bytes);
-    if plan.ids == 0 {
-        return Restored::Refused(Refusal::BadSavepoint);
+    let saved = finding::found(bytes).ok_or(Refusal::BadSavepoint)?;
+    if !saved.fits(requests, store, slots, buf) {
+        return Err(Refusal::BadRoom);
     }
-    if !laying::fits(bytes, requests, store, slots, buf) {
-        return Restored::Refused(Refusal::BadRoom);
-    }
-    laying::fill_requests(bytes, plan.replies, requests);
-    laying::fill_store(bytes, plan, store);
-    laying::fill_buffer(bytes, plan, buf);
-    Restored::Client(laying::client(bytes, plan))
+    saved.fill_requests(requests);
+    saved.fill_store(store);
+    saved.fill_buffer(buf);
+    Ok(saved.client())
 }
 
 // Whether each part of the client is sound with what is lent with it.

@@ -18,3 +18,6 @@ pub const BUFFER: usize = 64;
 pub const REQUESTS: usize = 72;
 // The bytes of a count.
 pub const COUNT: usize = 4;
+
+// The bytes of a number.
+pub const NUMBER: usize = 8;

@@ -1,18 +1,23 @@
 // The bytes of a savepoint, section by section: each function writes one over the bytes of the
 // output from an index on, and answers the index behind it.
-ghost use Rattle.std.specs.Prelude.{◌≡◌, [], ◌∷◌, ◌++◌, ◌+◌, ◌≤◌, ◌<◌, ◌^◌, length, take, drop};
+//
+// Output and index stay two values, tried as one type: a struct that holds a `&mut` has to promise
+// of each method that it still holds the same borrow, by its `ghost_name`, and what the output is
+// at the end is then proved only by a name that the checker makes up. That is no plainer.
+ghost use Rattle.std.specs.Prelude.{◌≡◌, [], ◌∷◌, ◌++◌, ◌+◌, ◌*◌, ◌≤◌, ◌<◌, ◌^◌, length, take, drop};
+ghost use Rattle.std.proofs.Props.{props};
 ghost use Rattle.octets.specs.Bytes.{word};
 ghost use Rattle.octets.specs.Put.{put};
 ghost use Rattle.form.specs.Form.{number, byte, counted, writes};
 ghost use Rattle.requests.specs.Room.{capacity, outstanding};
-ghost use Rattle.held.specs.Head.{header_size, most_store, reply, event, len_of};
+ghost use Rattle.held.specs.Head.{most_store, reply, event};
 ghost use Rattle.held.specs.Reading.{Readable, records, only, flat};
 ghost use Rattle.savepoint.specs.Saved.{request, mode_code, request_code};
 ghost use Rattle.saving.specs.WritingFile.{Writable, Written};
-ghost use Rattle.saving.specs.WritingRows.{copied, hits, Copies, Counts};
+ghost use Rattle.saving.specs.WritingRows.{Copies, Counts, fits_prop};
 
 use crate::Client;
-use crate::places::COUNT;
+use crate::places::{COUNT, NUMBER};
 use held::Window;
 use requests::{Mode, Request};
 
@@ -24,51 +29,40 @@ pub(crate) fn write(client: Client, requests: &[u8], store: &[u8], buf: &[u8], o
     let c = client.connection;
     let reader = client.reader;
     let ids = client.ids;
-    let window = c.window;
+    let stored = Stored {
+        store,
+        window: c.window,
+    };
     let first = c.first;
     let count = (c.written + 1 - first) as usize;
-    let room = buf.len() as u64;
-    let a = put_three(out, 0, c.written, c.expected, c.read);
-    let b = put_five(
-        out,
-        a,
+    let numbers = [c.written, c.expected, c.read];
+    let settings = [
         c.order as u64,
         c.capacity as u64,
         c.room as u64,
         reader.order as u64,
-        room,
-    );
+        buf.len() as u64,
+    ];
+    let a = put_numbers(out, 0, &numbers);
+    let b = put_numbers(out, a, &settings);
     let d = put_requests(out, b, requests, first, count);
-    let e = put_records(out, d, store, window, held::IN_REPLIES);
-    let f = put_events(out, e, store, window);
+    let e = stored.put_kind(out, d, held::IN_REPLIES);
+    let f = stored.put_events(out, e);
     let g = put_run(out, f, buf, reader.filled);
-    put_three(out, g, ids.next, ids.last, ids.step);
+    put_numbers(out, g, &[ids.next, ids.last, ids.step]);
 }
 
-// Three numbers.
-fn put_three(out: &mut [u8], to: usize, a: u64, b: u64, c: u64) -> usize
-    requires { to + 28 ≤ length out.old }
-    ensures { (result ≡ to + 28) × (out.new ≡ put out.old to ((counted 4 (number 8)).write (a ∷ b ∷ c ∷ []))) }
+// So many numbers.
+fn put_numbers(out: &mut [u8], to: usize, numbers: &[u64]) -> usize
+    requires { (length numbers.now ≤ 8) × (to + (4 + 8 * length numbers.now) ≤ length out.old) }
+    ensures { (result ≡ to + (4 + 8 * length numbers.now)) × (out.new ≡ put out.old to ((counted 4 (number 8)).write numbers.now)) }
 {
-    octets::put_u32(octets::LITTLE, out, to, 3);
-    octets::put_u64(octets::LITTLE, out, to + 4, a);
-    octets::put_u64(octets::LITTLE, out, to + 12, b);
-    octets::put_u64(octets::LITTLE, out, to + 20, c);
-    to + 28
-}
-
-// Five numbers.
-fn put_five(out: &mut [u8], to: usize, a: u64, b: u64, c: u64, d: u64, e: u64) -> usize
-    requires { to + 44 ≤ length out.old }
-    ensures { (result ≡ to + 44) × (out.new ≡ put out.old to ((counted 4 (number 8)).write (a ∷ b ∷ c ∷ d ∷ e ∷ []))) }
-{
-    octets::put_u32(octets::LITTLE, out, to, 5);
-    octets::put_u64(octets::LITTLE, out, to + 4, a);
-    octets::put_u64(octets::LITTLE, out, to + 12, b);
-    octets::put_u64(octets::LITTLE, out, to + 20, c);
-    octets::put_u64(octets::LITTLE, out, to + 28, d);
-    octets::put_u64(octets::LITTLE, out, to + 36, e);
-    to + 44
+    let count = numbers.len();
+    octets::put_u32(octets::LITTLE, out, to, count as u32);
+    for i in 0..count {
+        octets::put_u64(octets::LITTLE, out, to + (COUNT + NUMBER * i), numbers[i]);
+    }
+    to + (COUNT + NUMBER * count)
 }
 
 // The first n bytes of a buffer.
@@ -81,6 +75,8 @@ fn put_run(out: &mut [u8], to: usize, buf: &[u8], n: usize) -> usize
     to + (COUNT + n)
 }
 
+// A mode's code stays a function, and no `From`: both types are of other crates, and the codes are
+// the format's own, which no other crate may follow by a cast.
 fn mode_code(mode: Mode) -> u8
     ensures { result ≡ mode_code mode }
 {
@@ -95,12 +91,7 @@ fn mode_code(mode: Mode) -> u8
 fn code_of(request: Request) -> u8
     ensures { result ≡ request_code request }
 {
-    let mode = request.mode;
-    let code = mode_code(mode);
-    if request.descriptors {
-        return 2 * code + 1;
-    }
-    2 * code
+    2 * mode_code(request.mode) + u8::from(request.descriptors)
 }
 
 // The codes of count requests, the oldest of number first.
@@ -108,12 +99,8 @@ fn put_codes(out: &mut [u8], to: usize, requests: &[u8], first: u64, count: usiz
     requires { (0 < capacity requests.now) × (first + count < 2 ^ 64) × (to + count ≤ length out.old) }
     ensures { out.new ≡ put out.old to (writes request (outstanding requests.now first count)) }
 {
-    let mut i: usize = 0;
-    while i < count {
-        let one = requests::get(requests, first + i as u64);
-        let code = code_of(one);
-        out[to + i] = code;
-        i += 1;
+    for i in 0..count {
+        out[to + i] = code_of(requests::get(requests, first + i as u64));
     }
 }
 
@@ -127,31 +114,8 @@ fn put_requests(out: &mut [u8], to: usize, requests: &[u8], first: u64, count: u
     to + (COUNT + count)
 }
 
-// What was copied: where it ends, and how many records it is.
-#[derive(Clone, Copy)]
-struct Copied {
-    end: usize,
-    count: usize,
-}
-
-// The record at an index of the store, if it is of the kind, behind what was copied.
-fn copy_one(out: &mut [u8], done: Copied, store: &[u8], at: usize, kind: u8) -> Copied
-    requires { (at + (header_size + len_of (drop at store.now)) ≤ length store.now) × (done.end + length (copied kind store.now at) ≤ length out.old) × (done.count ≤ at) }
-    ensures { (result.end ≡ done.end + length (copied kind store.now at)) × (result.count ≡ done.count + hits kind store.now at) × (out.new ≡ put out.old done.end (copied kind store.now at)) }
-{
-    if held::kind_at(store, at) != kind {
-        return done;
-    }
-    let size = held::HEADER + held::length_at(store, at);
-    let end = at + size;
-    octets::copy_in(out, done.end, &store[at..end]);
-    Copied {
-        end: done.end + size,
-        count: done.count + 1,
-    }
-}
-
-// The same of a walk over a window, with how many records it passed in all.
+// What a walk over a window copied: where it ends, how many records it is, and how many it passed
+// in all.
 #[derive(Clone, Copy)]
 struct Passed {
     end: usize,
@@ -159,61 +123,73 @@ struct Passed {
     all: usize,
 }
 
-// The records of a kind, each with the bytes that it has in the store.
-fn copy_kind(out: &mut [u8], start: usize, store: &[u8], window: Window, kind: u8) -> Passed
-    requires { Readable window store.now × (start + length (flat (only kind (records window store.now))) ≤ length out.old) }
-    ensures { Copies (records window store.now) kind start out.old result out.new }
-{
-    let end = window.end;
-    let mut at = window.start;
-    let mut all: usize = 0;
-    let mut done = Copied {
-        end: start,
-        count: 0,
-    };
-    while at < end {
-        done = copy_one(out, done, store, at, kind);
-        at += held::HEADER + held::length_at(store, at);
-        all += 1;
-    }
-    Passed {
-        end: done.end,
-        count: done.count,
-        all: all,
-    }
+// A store whose window holds whole records.
+#[derive(Clone, Copy)]
+struct Stored<'a> {
+    store: &'a [u8],
+    window: Window,
+    ghost readable: { Readable window store.now } by { Prim.hlevel (props, fits_prop) },
 }
 
-// The held packets of a kind. Their count is known once they are copied, and then put before them.
-fn put_records(out: &mut [u8], to: usize, store: &[u8], window: Window, kind: u8) -> Passed
-    requires { Readable window store.now × (to + (4 + length (flat (only kind (records window store.now)))) ≤ length out.old) }
-    ensures { (result.end ≡ to + (4 + length (flat (only kind (records window store.now))))) × (out.new ≡ put out.old to (word 4 (length (only kind (records window store.now))) ++ flat (only kind (records window store.now)))) × Counts (records window store.now) kind result }
-{
-    let copied = copy_kind(out, to + COUNT, store, window, kind);
-    octets::put_u32(octets::LITTLE, out, to, copied.count as u32);
-    copied
-}
-
-// All records of a window, in one go.
-fn put_window(out: &mut [u8], to: usize, store: &[u8], window: Window, count: usize) -> usize
-    requires { Readable window store.now × (count ≡ length (records window store.now)) × (count ≤ most_store) × (to + (4 + length (flat (records window store.now))) ≤ length out.old) }
-    ensures { (result ≡ to + (4 + length (flat (records window store.now)))) × (out.new ≡ put out.old to (word 4 (length (records window store.now)) ++ flat (records window store.now))) }
-{
-    let start = window.start;
-    let end = window.end;
-    let size = end - start;
-    octets::put_u32(octets::LITTLE, out, to, count as u32);
-    octets::copy_in(out, to + COUNT, &store[start..end]);
-    to + (COUNT + size)
-}
-
-// The events, behind the replies: where there are none of these, they are the whole window.
-fn put_events(out: &mut [u8], replies: Passed, store: &[u8], window: Window) -> usize
-    requires { Readable window store.now × Counts (records window store.now) reply replies × (replies.end + (4 + length (flat (only event (records window store.now)))) ≤ length out.old) }
-    ensures { (result ≡ replies.end + (4 + length (flat (only event (records window store.now))))) × (out.new ≡ put out.old replies.end (word 4 (length (only event (records window store.now))) ++ flat (only event (records window store.now)))) }
-{
-    if replies.count == 0 {
-        return put_window(out, replies.end, store, window, replies.all);
+impl Stored<'_> {
+    // The records of a kind, each with the bytes that it has in the store. The loop stays one over
+    // an index: its step is the record's own length.
+    fn copy_kind(&self, out: &mut [u8], start: usize, kind: u8) -> Passed
+        requires { start + length (flat (only kind (records self.now.window self.now.store.now))) ≤ length out.old }
+        ensures { Copies (records self.now.window self.now.store.now) kind start out.old result out.new }
+    {
+        let store = self.store;
+        let end = self.window.end;
+        let mut at = self.window.start;
+        let mut passed = Passed {
+            end: start,
+            count: 0,
+            all: 0,
+        };
+        while at < end {
+            let size = held::HEADER + held::length_at(store, at);
+            if held::kind_at(store, at) == kind {
+                octets::copy_in(out, passed.end, &store[at..at + size]);
+                passed.end += size;
+                passed.count += 1;
+            }
+            at += size;
+            passed.all += 1;
+        }
+        passed
     }
-    let events = put_records(out, replies.end, store, window, held::IN_EVENTS);
-    events.end
+
+    // The held packets of a kind. Their count is known once they are copied, and then put before
+    // them.
+    fn put_kind(&self, out: &mut [u8], to: usize, kind: u8) -> Passed
+        requires { to + (4 + length (flat (only kind (records self.now.window self.now.store.now)))) ≤ length out.old }
+        ensures { (result.end ≡ to + (4 + length (flat (only kind (records self.now.window self.now.store.now))))) × (out.new ≡ put out.old to (word 4 (length (only kind (records self.now.window self.now.store.now))) ++ flat (only kind (records self.now.window self.now.store.now)))) × Counts (records self.now.window self.now.store.now) kind result }
+    {
+        let passed = self.copy_kind(out, to + COUNT, kind);
+        octets::put_u32(octets::LITTLE, out, to, passed.count as u32);
+        passed
+    }
+
+    // All records of the window, in one go.
+    fn put_window(&self, out: &mut [u8], to: usize, count: usize) -> usize
+        requires { (count ≡ length (records self.now.window self.now.store.now)) × (count ≤ most_store) × (to + (4 + length (flat (records self.now.window self.now.store.now))) ≤ length out.old) }
+        ensures { (result ≡ to + (4 + length (flat (records self.now.window self.now.store.now)))) × (out.new ≡ put out.old to (word 4 (length (records self.now.window self.now.store.now)) ++ flat (records self.now.window self.now.store.now))) }
+    {
+        let start = self.window.start;
+        let end = self.window.end;
+        octets::put_u32(octets::LITTLE, out, to, count as u32);
+        octets::copy_in(out, to + COUNT, &self.store[start..end]);
+        to + (COUNT + (end - start))
+    }
+
+    // The events, behind the replies: where there are none of these, they are the whole window.
+    fn put_events(&self, out: &mut [u8], replies: Passed) -> usize
+        requires { Counts (records self.now.window self.now.store.now) reply replies × (replies.end + (4 + length (flat (only event (records self.now.window self.now.store.now)))) ≤ length out.old) }
+        ensures { (result ≡ replies.end + (4 + length (flat (only event (records self.now.window self.now.store.now))))) × (out.new ≡ put out.old replies.end (word 4 (length (only event (records self.now.window self.now.store.now))) ++ flat (only event (records self.now.window self.now.store.now)))) }
+    {
+        if replies.count == 0 {
+            return self.put_window(out, replies.end, replies.all);
+        }
+        self.put_kind(out, replies.end, held::IN_EVENTS).end
+    }
 }

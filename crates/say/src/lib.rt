@@ -1,51 +1,45 @@
-// Inside: what the programs write to standard output, one word or number of a line at a time.
+// Inside: what the program `values` writes, as values that print themselves, a blank before each part.
 #![tactic(auto)]
 
 use refusal::Refusal;
-use std::io;
+use std::fmt;
 
-pub fn word(rt: &impl Print, text: &[u8]) -> io::Result<()> {
-    rt.write_all(text)
-}
+// What a call answered: the value that it gave, or the number of its refusal.
+#[derive(Drop)]
+pub struct Answer<T>(pub Result<T, Refusal>);
 
-pub fn number(rt: &impl Print, n: u64) -> io::Result<()> {
-    print!(rt; " {n}")
-}
-
-pub fn refused(rt: &impl Print, r: Refusal) -> io::Result<()> {
-    word(rt, b" refused")?;
-    number(rt, r.number() as u64)
-}
-
-pub fn end(rt: &impl Print) -> io::Result<()> {
-    word(rt, b"\n")
-}
-
-// The bytes in hex, in one word.
-pub fn bytes(rt: &impl Print, s: &[u8]) -> io::Result<()> {
-    word(rt, b" ")?;
-    let mut i = 0;
-    while i < s.len() {
-        byte(rt, s[i])?;
-        i += 1;
+impl<T: fmt::Display + Drop> fmt::Display for Answer<T> {
+    fn fmt<W: fmt::Write>(&self, f: &mut fmt::Formatter<W>) -> fmt::Result {
+        match &self.0 {
+            Ok(value) => write!(f, "{value}"),
+            Err(refusal) => write!(f, " refused {}", refusal.number()),
+        }
     }
-    Ok(())
-}
-
-fn byte(rt: &impl Print, x: u8) -> io::Result<()> {
-    print!(rt; "{x:02x}")
 }
 
 // Each number.
-pub fn all(rt: &impl Print, s: &[u32]) -> io::Result<()> {
-    let mut i = 0;
-    while i < s.len() {
-        narrow(rt, s[i])?;
-        i += 1;
+#[derive(Drop)]
+pub struct Numbers<const N: usize>(pub [u64; N]);
+
+impl<const N: usize> fmt::Display for Numbers<N> {
+    fn fmt<W: fmt::Write>(&self, f: &mut fmt::Formatter<W>) -> fmt::Result {
+        for n in &self.0 {
+            write!(f, " {n}")?;
+        }
+        Ok(())
     }
-    Ok(())
 }
 
-fn narrow(rt: &impl Print, n: u32) -> io::Result<()> {
-    number(rt, n as u64)
+// The bytes in hex, in one word.
+#[derive(Drop)]
+pub struct Hex<'a>(pub &'a [u8]);
+
+impl<'a> fmt::Display for Hex<'a> {
+    fn fmt<W: fmt::Write>(&self, f: &mut fmt::Formatter<W>) -> fmt::Result {
+        write!(f, " ")?;
+        for x in self.0 {
+            write!(f, "{x:02x}")?;
+        }
+        Ok(())
+    }
 }

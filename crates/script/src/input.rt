@@ -1,250 +1,154 @@
 // Standard input, a line at a time. In the run of bytes it stands before the text. A line ends before
 // a newline or at the end of the input, and a carriage return there is no part of it.
+use std::io;
 use std::io::Read;
-
-const NEWLINE: u8 = 10;
-
-const RETURN: u8 = 13;
+use text::{Page, Span};
 
 // Where the input begins in the run of bytes.
 pub const INPUT: usize = 1179652;
 
-// Where a run is.
+// How far a run has come.
 #[derive(Clone, Copy)]
 pub struct Input {
-    // The line stands from one index to another.
-    pub from: usize,
-    pub end: usize,
-    // The next line begins here, or is looked for from here on.
-    pub next: usize,
+    // The line begins at the first index, and is looked through from the second on.
+    from: usize,
+    next: usize,
     // Up to here there is input.
-    pub filled: usize,
-    // Whether the line has lost bytes because it is too long to be kept, and whether it is a remark
-    // then.
-    pub lost: bool,
-    pub remark: bool,
-    // Whether there is a line, and whether there is none since the input could not be read.
-    pub more: bool,
-    pub failed: bool,
-    // Which line it is, from 1 on.
-    pub number: u64,
+    filled: usize,
+    // How many lines were found.
+    pub lines: u64,
+}
+
+// A line: where it stands; or that it is too long to be kept, and whether it is a remark then.
+#[derive(Clone, Copy)]
+pub enum Line {
+    Kept(Span),
+    Long,
+    Remark,
 }
 
 pub fn start() -> Input {
     Input {
         from: INPUT,
-        end: INPUT,
         next: INPUT,
         filled: INPUT,
-        lost: false,
-        remark: false,
-        more: true,
-        failed: false,
-        number: 0,
+        lines: 0,
     }
 }
 
-// No further line.
-pub fn stop(place: Input) -> Input {
-    let mut now = begin(place);
-    now.more = false;
-    now
-}
-
-// The next line; waiting is where the text ends. A proved loop has to end, so it counts turns down
-// from a number that no run uses up.
+// The next line, if there is one. A proved loop has to end, so it counts turns up to a number that
+// no run comes to.
 pub fn next(
-    rt: &impl Print,
-    input: &mut impl Read,
-    place: Input,
-    waiting: usize,
-    bytes: &mut [u8],
-) -> Input {
-    let mut now = begin(place);
-    let mut turns = u64::MAX;
-    while turns > 0 {
-        turns -= 1;
-        let end = newline(bytes, now.next, now.filled);
-        if end < now.filled {
-            return found(now, end, bytes);
+    reader: &mut impl Read,
+    input: &mut Input,
+    page: &mut Page<'_, impl Print>,
+) -> io::Result<Option<Line>> {
+    input.from = input.next;
+    let mut lost = None;
+    for _ in 0..u64::MAX {
+        if let Some(n) = newline(input, page.run) {
+            return Ok(Some(found(input, lost, n, 1, page.run)));
         }
-        now = more(rt, input, kept(now, bytes), waiting, bytes);
-        if !now.more {
-            return last(now, bytes);
+        lost = lost.or(room(input, page.run));
+        let n = more(reader, input.filled, page)?;
+        if n == 0 {
+            break;
         }
+        input.filled = input.filled.saturating_add(n);
     }
-    last(now, bytes)
+    Ok(last(input, lost, page.run))
 }
 
-// Behind the line before.
-fn begin(place: Input) -> Input {
-    let mut now = place;
-    now.from = place.next;
-    now.lost = false;
-    now.remark = false;
-    now.number = text::up(place.number);
-    now
+// How many bytes from where the line is looked through stand before its newline, if that is there.
+fn newline(input: &Input, bytes: &[u8]) -> Option<usize> {
+    let rest = text::cut(bytes, input.next, input.filled);
+    rest.iter().position(|c| *c == b'\n')
 }
 
-// The line ends at the newline at an index.
-fn found(place: Input, end: usize, bytes: &[u8]) -> Input {
-    let mut now = place;
-    now.end = trimmed(bytes, place.from, end);
-    now.next = text::behind(end, 1);
-    now.more = true;
-    now
+// The line ends so many bytes on, and the next begins behind its newline, if it has one. lost is what
+// it is if it can't be kept.
+fn found(input: &mut Input, lost: Option<Line>, more: usize, newline: usize, bytes: &[u8]) -> Line {
+    let end = input.next.saturating_add(more);
+    input.next = end.saturating_add(newline);
+    input.lines = input.lines.saturating_add(1);
+    let line = Span {
+        from: input.from,
+        end,
+    };
+    lost.unwrap_or(Line::Kept(trimmed(line, bytes)))
 }
 
 // The input ends: what is left is a line, if there is something.
-fn last(place: Input, bytes: &[u8]) -> Input {
-    let mut now = place;
-    now.end = trimmed(bytes, place.from, place.filled);
-    now.next = place.filled;
-    now.more = left(place);
-    now
+fn last(input: &mut Input, lost: Option<Line>, bytes: &[u8]) -> Option<Line> {
+    if input.filled <= input.from && lost.is_none() {
+        return None;
+    }
+    let more = input.filled.saturating_sub(input.next);
+    Some(found(input, lost, more, 0, bytes))
 }
 
-// The end of a line that stands from one index to another, without a carriage return.
-fn trimmed(bytes: &[u8], from: usize, end: usize) -> usize {
-    if end <= from {
-        return end;
+// Without a carriage return at its end.
+fn trimmed(line: Span, bytes: &[u8]) -> Span {
+    match line.of(bytes) {
+        [kept @ .., b'\r'] => line.take(kept.len()),
+        _ => line,
     }
-    if bytes.len() < end {
-        return end;
-    }
-    if bytes[end - 1] == RETURN {
-        return end - 1;
-    }
-    end
 }
 
-// A line of which the rest can't be read is none.
-fn left(place: Input) -> bool {
-    if place.failed {
-        return false;
+// Room for more input: where there is none, the line that has begun goes to the start, or goes if it
+// is there already. What goes comes back.
+fn room(input: &mut Input, bytes: &mut [u8]) -> Option<Line> {
+    input.next = input.filled;
+    if input.filled < text::START {
+        return None;
     }
-    if place.from < place.filled {
-        return true;
+    if INPUT < input.from {
+        let n = slid(input.from, input.filled, bytes);
+        begin(input, n);
+        return None;
     }
-    place.lost
+    begin(input, 0);
+    Some(lost(bytes))
 }
 
-// Where a newline is from an index on, or the end of what is there.
-fn newline(bytes: &[u8], from: usize, filled: usize) -> usize {
-    if bytes.len() < filled {
-        return filled;
-    }
-    let mut at = from;
-    while at < filled {
-        if bytes[at] == NEWLINE {
-            return at;
-        }
-        at += 1;
-    }
-    filled
+// So many bytes of a line stand at the start.
+fn begin(input: &mut Input, n: usize) {
+    input.from = INPUT;
+    input.filled = INPUT.saturating_add(n);
+    input.next = input.filled;
 }
 
-// Room for more input: where there is none, the line that has begun goes to the start, or goes if
-// it is there already.
-fn kept(place: Input, bytes: &mut [u8]) -> Input {
-    let mut now = place;
-    now.next = place.filled;
-    if place.filled < text::NOTES {
-        return now;
+// How many bytes there are from one index to another, which go to the start.
+fn slid(from: usize, end: usize, bytes: &mut [u8]) -> usize {
+    if bytes.len() < end || end < from || from < INPUT {
+        return 0;
     }
-    if INPUT < place.from {
-        return slid(now, bytes);
-    }
-    if !place.lost {
-        now.remark = is_remark(bytes);
-    }
-    now.lost = true;
-    now.from = INPUT;
-    now.next = INPUT;
-    now.filled = INPUT;
-    now
+    octets::slide(bytes, from, INPUT, end - from);
+    end - from
 }
 
-fn is_remark(bytes: &[u8]) -> bool {
-    if bytes.len() <= INPUT {
-        return false;
+// What a line is that begins at the start and can't be kept.
+fn lost(bytes: &[u8]) -> Line {
+    match bytes.get(INPUT) {
+        Some(b'#') => Line::Remark,
+        _ => Line::Long,
     }
-    bytes[INPUT] == b'#'
 }
 
-fn slid(place: Input, bytes: &mut [u8]) -> Input {
-    let from = place.from;
-    let filled = place.filled;
-    let mut now = place;
-    if bytes.len() < filled {
-        return now;
-    }
-    if filled < from {
-        return now;
-    }
-    if from < INPUT {
-        return now;
-    }
-    octets::slide(bytes, from, INPUT, filled - from);
-    now.from = INPUT;
-    now.filled = INPUT + (filled - from);
-    now.next = INPUT + (filled - from);
-    now
-}
-
-// What a read puts behind the input that is there. Before it all answers are written, so that
-// whoever gives one line at a time has them; a file is read in large pieces. Where they can't be
-// written there is no more input.
+// How many bytes a read puts behind the input that is there; 0 at its end. Before it all answers are
+// written, so that whoever gives one line at a time has them; a file is read in large pieces. Where
+// they can't be written there is no more input.
 fn more(
-    rt: &impl Print,
-    input: &mut impl Read,
-    place: Input,
-    waiting: usize,
-    bytes: &mut [u8],
-) -> Input {
-    text::flush(rt, bytes, waiting);
-    let mut now = place;
-    now.more = false;
-    if text::failed(bytes) {
-        return now;
+    reader: &mut impl Read,
+    filled: usize,
+    page: &mut Page<'_, impl Print>,
+) -> io::Result<usize> {
+    page.flush();
+    if page.failed {
+        return Ok(0);
     }
-    match read(input, bytes, place.filled) {
-        Got::Bytes(n) => came(now, n),
-        Got::Failed => broken(now),
-    }
-}
-
-fn came(place: Input, n: usize) -> Input {
-    let mut now = place;
-    now.more = 0 < n;
-    now.filled = text::behind(place.filled, n);
-    now
-}
-
-fn broken(place: Input) -> Input {
-    let mut now = place;
-    now.failed = true;
-    now
-}
-
-// How many bytes came, 0 at the end of the input.
-#[derive(Clone, Copy)]
-enum Got {
-    Bytes(usize),
-    Failed,
-}
-
-fn read(input: &mut impl Read, bytes: &mut [u8], from: usize) -> Got {
-    let end = text::NOTES;
-    if bytes.len() < end {
-        return Got::Bytes(0);
-    }
-    if end < from {
-        return Got::Bytes(0);
-    }
-    let part = &mut bytes[from..end];
-    match input.read(part) {
-        Ok(n) => Got::Bytes(n),
-        Err(_) => Got::Failed,
+    match page.run.get_mut(filled..text::START) {
+        Some(part) => reader.read(part),
+        None => Ok(0),
     }
 }

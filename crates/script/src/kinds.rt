@@ -1,60 +1,47 @@
 // Kinds of requests, as `send` has one and `sendall` a row.
-use super::number::Bytes;
-use super::words;
+use super::Unread;
+use super::words::BLANK;
+use model::ReplyFdKind;
+use text::Span;
 
-// No kind.
-pub(crate) const NONE: u8 = 3;
+// The kind that a word names.
+pub(crate) fn of(word: &[u8]) -> Option<ReplyFdKind> {
+    match word {
+        b"none" => Some(ReplyFdKind::NoReply),
+        b"reply" => Some(ReplyFdKind::ReplyWithoutFds),
+        b"fds" => Some(ReplyFdKind::ReplyWithFds),
+        _ => None,
+    }
+}
 
-// The words from one index to another: their bytes go to the start of them. Where they can't be
+// A row, which may be empty: the numbers of its kinds go to its start, a byte each. Where it can't be
 // read some may be gone.
-pub(crate) fn read(input: &mut [u8], start: usize, end: usize) -> Bytes {
-    if input.len() < end {
-        return Bytes::Bad(2);
-    }
-    if end < start {
-        return Bytes::Bad(2);
-    }
-    behind(start, end, all(&mut input[start..end]))
+pub(crate) fn read(input: &mut [u8], rest: Option<Span>) -> Result<Span, Unread> {
+    let Some(row) = rest else {
+        return Ok(Span::EMPTY);
+    };
+    let Some(part) = input.get_mut(row.from..row.end) else {
+        return Err(Unread::Word(2));
+    };
+    Ok(row.take(numbers(part)?))
 }
 
-// Counted from the start of the words, as an index.
-fn behind(start: usize, end: usize, bytes: Bytes) -> Bytes {
-    match bytes {
-        Bytes::End(n) => Bytes::End(words::after(start, n, end)),
-        Bytes::Bad(word) => Bytes::Bad(word),
-    }
-}
-
-fn all(rest: &mut [u8]) -> Bytes {
+// How many there are. Each word ends before a blank or at the end. Indices are counted, since an
+// iterator over the words would lend the bytes that the numbers are written to.
+fn numbers(part: &mut [u8]) -> Result<usize, Unread> {
     let mut start = 0;
-    let mut count = 0;
-    while start <= rest.len() {
-        let end = words::end(rest, start);
-        let byte = byte_at(rest, start, end);
-        if byte == NONE {
-            return Bytes::Bad(text::behind(count, 2) as u64);
+    let mut count: usize = 0;
+    for end in 0..=part.len() {
+        if part.get(end).is_some_and(|c| *c != BLANK) {
+            continue;
         }
-        count = put(rest, count, byte);
-        start = end + 1;
+        let word = text::cut(part, start, end);
+        let kind = of(word).ok_or(Unread::Word((count as u64).saturating_add(2)))?;
+        if let Some(place) = part.get_mut(count) {
+            *place = kind as u8;
+            count += 1;
+        }
+        start = end.saturating_add(1);
     }
-    Bytes::End(count)
-}
-
-// The byte of the word from one index to another.
-fn byte_at(rest: &[u8], start: usize, end: usize) -> u8 {
-    of(text::cut(rest, start, end))
-}
-
-pub(crate) fn of(word: &[u8]) -> u8 {
-    words::find(b"none reply fds", word, NONE)
-}
-
-// The byte in the next place, and how many places are taken then. A word is longer than its byte,
-// so there always is one.
-fn put(rest: &mut [u8], count: usize, byte: u8) -> usize {
-    if count < rest.len() {
-        rest[count] = byte;
-        return count + 1;
-    }
-    count
+    Ok(count)
 }

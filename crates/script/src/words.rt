@@ -1,67 +1,67 @@
-// The words of a line.
-ghost use Rattle.std.specs.Prelude.{◌≤◌, length};
+// The words of a line: single blanks part them.
+ghost use Rattle.std.specs.Prelude.{◌≡◌, ◌≤◌, length};
 
-// Where the first word ends of the line that stands from one index to another.
-pub fn name_end(input: &[u8], from: usize, last: usize) -> usize {
-    let line = text::cut(input, from, last);
-    after(from, end(line, 0), last)
-}
+use super::Unread;
+use text::Span;
 
-// Where the word that starts at an index ends.
-pub(crate) fn end(line: &[u8], start: usize) -> usize
-    requires { start ≤ length line.now }
-    ensures { (start ≤ result) × (result ≤ length line.now) }
+pub(crate) const BLANK: u8 = b' ';
+
+// The first word of a line.
+pub fn name(line: Span, input: &[u8]) -> Span
+    ensures from { result.from ≡ line.from }
+    ensures end { result.end ≤ line.end }
 {
-    let mut at = start;
-    while at < line.len() {
-        if line[at] == b' ' {
-            return at;
-        }
-        at += 1;
-    }
-    at
+    line.take(length(line.of(input)))
 }
 
-// Which word of a row another word is, counted from 0, or a number where it is none.
-pub(crate) fn find(row: &[u8], word: &[u8], none: u8) -> u8 {
-    let mut start = 0;
-    let mut count: u8 = 0;
-    while start < row.len() {
-        let end = end(row, start);
-        if same(text::cut(row, start, end), word) {
-            return count;
-        }
-        count = next(count);
-        start = end + 1;
-    }
-    none
+// How long the first word is.
+pub(crate) fn length(words: &[u8]) -> usize
+    ensures { result ≤ length words.now }
+{
+    words
+        .iter()
+        .position(|c| *c == BLANK)
+        .unwrap_or(words.len())
 }
 
-fn next(n: u8) -> u8 {
-    if n < u8::MAX { n + 1 } else { n }
+// What stands behind the first word, if it isn't alone.
+pub(crate) fn rest(line: Span, word: Span) -> Option<Span> {
+    if line.end <= word.end {
+        return None;
+    }
+    Some(Span {
+        from: word.end + 1,
+        end: line.end,
+    })
 }
 
-pub fn same(a: &[u8], b: &[u8]) -> bool {
-    if a.len() != b.len() {
-        return false;
-    }
-    let mut i = 0;
-    while i < a.len() {
-        if a[i] != b[i] {
-            return false;
-        }
-        i += 1;
-    }
-    true
+// Where something has to stand behind the name: a missing word counts as the one that it would be.
+pub(crate) fn some(rest: Option<Span>) -> Result<Span, Unread> {
+    rest.ok_or(Unread::Word(2))
 }
 
-// The index so many bytes behind another, at most an end.
-pub(crate) fn after(from: usize, n: usize, end: usize) -> usize {
-    if end < from {
-        return end;
+// What a name says that has to be alone.
+pub(crate) fn alone<T: Copy>(rest: Option<Span>, said: T) -> Result<T, Unread> {
+    match rest {
+        None => Ok(said),
+        Some(_) => Err(Unread::Word(2)),
     }
-    if end - from < n {
-        return end;
+}
+
+// What a name says that has to have a word behind it, and nothing behind that.
+pub(crate) fn fixed<T: Copy>(word: &[u8], rest: &[u8], said: T) -> Result<T, Unread> {
+    let mut words = rest.split(|c| *c == BLANK);
+    if words.next() != Some(word) {
+        return Err(Unread::Word(2));
     }
-    from + n
+    no_more(words.next(), 3)?;
+    Ok(said)
+}
+
+// No word is left: where there is one it is one too many, and that is its number.
+pub(crate) fn no_more(word: Option<&[u8]>, number: u64) -> Result<(), Unread> {
+    match word {
+        None => Ok(()),
+        Some(_) => Err(Unread::Word(number)),
+    }
 }

@@ -1,5 +1,5 @@
 -- How a send comes out: what would be sent, and the whole step. Assumes nothing.
-use Rattle.std.specs.Prelude.{◌≡◌, Bool, List, ℕ, ◌≤◌, ◌<◌, leb}
+use Rattle.std.specs.Prelude.{◌≡◌, Bool, List, ℕ, ◌≤◌, ◌<◌, leb, Ok, Err}
 use Rattle.std.proofs.Math.Path.{ap}
 use Rattle.std.proofs.Common.{◌∙◌, le-leb}
 use Rattle.std.proofs.lemmas.Bool.{lt-leb}
@@ -12,7 +12,6 @@ use Rattle.refusal.specs.Numbers.{number_of}
 use Rattle.refusal.specs.declared.Refusal.{Refusal}
 use Rattle.model.specs.declared.Connection.{Connection}
 use Rattle.model.specs.declared.ReplyFdKind.{ReplyFdKind}
-use Rattle.model.specs.declared.Sent.TheVariants as Sent
 use Rattle.sending.specs.Send.{sendable, sent_done, send_exact, GoesUnder, SendStep}
 
 -- ---- what would be sent
@@ -41,13 +40,13 @@ module _ (c : Connection) (kind : ReplyFdKind) (hr : Bool) (h : hr ≡ has_reply
 
 module _ (c : Connection) (kind : ReplyFdKind) (q : List ℕ) where
   -- It is refused,
-  pub send_refused : (r : Refusal) → refuses (number_of r) ≡ sendable c kind → SendStep c kind q (Sent.Refused r) q
+  pub send_refused : (r : Refusal) → refuses (number_of r) ≡ sendable c kind → SendStep c kind q (Err r) q
   unfolding send_exact pass
   send_refused r e = record { exact = λ s f. exact_refused same _ _ (number_of r) (ap (λ a. pass a (λ n. gives (sent_done c (rooms q s f) kind n))) e) }
 
   -- or it goes.
   pub send_done : (x : Numbers) (q' : List ℕ) (next : Connection) → gives x ≡ sendable c kind → GoesUnder c kind x.number x.expected q next q'
-      → SendStep c kind q (Sent.Number (record { 0 = x.number }) next) q'
+      → SendStep c kind q (Ok (record { number = (record { 0 = x.number }); connection = next })) q'
   unfolding send_exact pass answer_of rooms_of
   send_done x q' next e g =
       record {

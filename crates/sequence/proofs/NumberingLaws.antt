@@ -1,9 +1,9 @@
 -- Laws of `specs/Numbering.antt`. Assumes nothing.
-use Rattle.std.specs.Prelude.{◌≡◌, ℕ, ◌+◌, ◌%◌, ◌<◌, ◌≤◌, refl}
+use Rattle.std.specs.Prelude.{◌≡◌, ℕ, ◌+◌, ◌%◌, ◌<◌, ◌≤◌, refl, Result}
 use Rattle.std.proofs.Common.{sym, ap, ◌∙◌, arith, lt-ltb, le-ltb}
-use Rattle.refusal.specs.Answer.{Answer, gives, refuses, refuse, decides}
-use Rattle.refusal.specs.Numbers.{refusal_of, listed}
-use Rattle.sequence.specs.declared.Full.{Full}
+use Rattle.refusal.specs.Answer.{Answer, gives, refuses, refuse, says_one}
+use Rattle.refusal.specs.declared.Refusal.{Refusal}
+use Rattle.sequence.specs.declared.SequenceNumber.{SequenceNumber}
 use Rattle.sequence.specs.Numbering.{last_number, wire_values, Least, in_range, FullNumber, says_full, full}
 
 -- There is one least number, and it is that sum.
@@ -36,15 +36,10 @@ unfolding full
 full_near read t p q = omega arith
 
 -- Two answers that say the same are equal.
-back : Answer ℕ → Full
-back (gives n) = Full.Number (record { 0 = n })
-back (refuses n) = Full.Refused (refusal_of n)
-
-pub full_one : (a b : Full) → says_full a ≡ says_full b → a ≡ b
-unfolding back
-full_one = decides says_full back (elim [ Full.Number n ↦ refl | Full.Refused r ↦ ap Full.Refused (listed r) ])
+pub full_one : (a b : Result SequenceNumber Refusal) → says_full a ≡ says_full b → a ≡ b
+full_one = says_one _ (λ n. record { 0 = n }) (λ n. refl)
 
 -- So any two answers of `full_number` are equal.
-pub full_number_one : {read wire : ℕ} (a b : Full) → FullNumber read wire (says_full a) → FullNumber read wire (says_full b) → a ≡ b
+pub full_number_one : {read wire : ℕ} (a b : Result SequenceNumber Refusal) → FullNumber read wire (says_full a) → FullNumber read wire (says_full b) → a ≡ b
 full_number_one {read} {wire} a b p q =
     full_one a b (p.answers ∙ ap in_range (least_one read wire p.number q.number p.is_least q.is_least) ∙ sym q.answers)

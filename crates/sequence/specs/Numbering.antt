@@ -1,8 +1,8 @@
 -- 01, Numbering and filing: the full number of a packet. Assumes nothing.
-use Rattle.std.specs.Prelude.{◌≡◌, ℕ, ◌+◌, ◌-◌, ◌%◌, ◌≤◌, nat_lt}
-use Rattle.refusal.specs.Answer.{Answer, gives, refuses, refuse}
-use Rattle.refusal.specs.Numbers.{number_of}
-use Rattle.sequence.specs.declared.Full.{Full}
+use Rattle.std.specs.Prelude.{◌≡◌, ℕ, ◌+◌, ◌-◌, ◌%◌, ◌≤◌, nat_lt, Result}
+use Rattle.refusal.specs.Answer.{Answer, gives, refuse, says}
+use Rattle.refusal.specs.declared.Refusal.{Refusal}
+use Rattle.sequence.specs.declared.SequenceNumber.{SequenceNumber}
 
 -- 01, Rooms: full numbers run from 0 to 2^63 - 1
 abbrev pub last_number : ℕ
@@ -28,10 +28,9 @@ pub record FullNumber (read wire : ℕ) (a : Answer ℕ) : Type 0 where
   pub is_least : Least read wire number
   pub answers : a ≡ in_range number
 
--- what the enum `Full` says
-abbrev pub says_full : Full → Answer ℕ
-says_full (Full.Number n) = gives n.0
-says_full (Full.Refused r) = refuses (number_of r)
+-- what a number or its refusal says
+abbrev pub says_full : Result SequenceNumber Refusal → Answer ℕ
+says_full = says (λ n. n.0)
 
 -- ---- laws
 

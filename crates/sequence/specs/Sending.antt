@@ -1,10 +1,10 @@
 -- 01, Sending. Assumes nothing.
-use Rattle.std.specs.Prelude.{◌≡◌, ℕ, ◌+◌, ◌-◌, ◌<◌, ◌≤◌, Bool, true, false, not, nat_le, refl}
-use Rattle.std.proofs.Common.{sym, ap, arith, le-leb, leb-true, leb-false}
+use Rattle.std.specs.Prelude.{◌≡◌, ℕ, ◌+◌, ◌-◌, ◌<◌, ◌≤◌, Bool, true, false, not, nat_le, refl, Result}
+use Rattle.std.proofs.Common.{sym, arith, le-leb, leb-true, leb-false}
 use Rattle.std.proofs.lemmas.Bool.{lt-leb}
 use Rattle.octets.specs.Logic.{both, choose}
-use Rattle.refusal.specs.Answer.{Answer, gives, refuses, refuse, decides}
-use Rattle.refusal.specs.Numbers.{number_of, refusal_of, listed}
+use Rattle.refusal.specs.Answer.{Answer, gives, refuse, says, says_one}
+use Rattle.refusal.specs.declared.Refusal.{Refusal}
 use Rattle.sequence.specs.Numbering.{last_number}
 use Rattle.sequence.specs.declared.Sent.{Sent}
 
@@ -34,10 +34,9 @@ sending written expected has-reply = sending_if (must_sync written expected) wri
 unfoldable pub sending_by : ℕ → ℕ → ℕ → Bool → Answer Numbers
 sending_by span written expected has-reply = sending_if (nat_le (expected + span) written) written expected has-reply
 
--- what the enum `Sent` says
-abbrev pub says_sent : Sent → Answer Numbers
-says_sent (Sent.Number n e) = gives (record { number = n.0; expected = e.0 })
-says_sent (Sent.Refused r) = refuses (number_of r)
+-- what a sent request or its refusal says
+abbrev pub says_sent : Result Sent Refusal → Answer Numbers
+says_sent = says (λ s. record { number = s.number.0; expected = s.expected.0 })
 
 -- ---- laws
 
@@ -55,10 +54,5 @@ sync_by_difference written expected h = go (nat_le expected (written - sync_span
     go false e = let p : written - sync_span < expected = leb-false _ _ e in sym (lt-leb (expected + sync_span) written (omega arith))
 
 -- Two answers that say the same are equal.
-back : Answer Numbers → Sent
-back (gives n) = Sent.Number (record { 0 = n.number }) (record { 0 = n.expected })
-back (refuses n) = Sent.Refused (refusal_of n)
-
-pub sent_one_lem : (a b : Sent) → says_sent a ≡ says_sent b → a ≡ b
-unfolding back
-sent_one_lem = decides says_sent back (elim [ Sent.Number n e ↦ refl | Sent.Refused r ↦ ap Sent.Refused (listed r) ])
+pub sent_one_lem : (a b : Result Sent Refusal) → says_sent a ≡ says_sent b → a ≡ b
+sent_one_lem = says_one _ (λ n. record { number = record { 0 = n.number }; expected = record { 0 = n.expected } }) (λ s. refl)

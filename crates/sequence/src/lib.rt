@@ -30,18 +30,11 @@ pub const SYNC_SPAN: u64 = 65534;
 // How many values 16 bits have: the wire wraps there.
 const WIRE_VALUES: u64 = 65536;
 
-// What the number of a packet is.
+// What sending a request comes to: its number, and the next reply expected after it.
 #[derive(Clone, Copy)]
-pub enum Full {
-    Number(SequenceNumber),
-    Refused(Refusal),
-}
-
-// What sending a request comes to: its number, and then the next reply expected.
-#[derive(Clone, Copy)]
-pub enum Sent {
-    Number(SequenceNumber, SequenceNumber),
-    Refused(Refusal),
+pub struct Sent {
+    pub number: SequenceNumber,
+    pub expected: SequenceNumber,
 }
 
 // The last read and a step: the packet's 16 bits less the low 16 of the last read, wrapping at
@@ -51,24 +44,24 @@ fn least(last: u64, wire: u16) -> u64
     ensures { Least last wire result }
 {
     let low = (last % WIRE_VALUES) as u16;
-    let step = std::num::wrapping_sub_u16(wire, low);
+    let step = wire.wrapping_sub(low);
     last + step as u64
 }
 
 // The full number of a packet: the least one at or above the last read whose low 16 bits are the
 // packet's. Refused by 3 where that is past the last number.
-pub fn full_number(read: SequenceNumber, wire: WireNumber) -> Full
+pub fn full_number(read: SequenceNumber, wire: WireNumber) -> Result<SequenceNumber, Refusal>
     ensures { FullNumber read.0 wire.0 (says_full result) }
 {
     let last = read.0;
     if LAST_NUMBER < last {
-        return Full::Refused(Refusal::NumberEnd);
+        return Err(Refusal::NumberEnd);
     }
     let number = least(last, wire.0);
     if LAST_NUMBER < number {
-        return Full::Refused(Refusal::NumberEnd);
+        return Err(Refusal::NumberEnd);
     }
-    Full::Number(SequenceNumber(number))
+    Ok(SequenceNumber(number))
 }
 
 // Whether only a request with a reply may be sent.
@@ -84,19 +77,22 @@ fn must_sync(written: u64, expected: u64) -> bool
 // The number of the next request, and the next reply expected after it. Refused by 3 at the end of
 // the numbers, and then by 6 where the request has no reply and a sync must come first; a request
 // with a reply is never refused by 6.
-pub fn send(written: SequenceNumber, expected: SequenceNumber, reply: bool) -> Sent
+pub fn send(written: SequenceNumber, expected: SequenceNumber, reply: bool) -> Result<Sent, Refusal>
     ensures { SendsNumber written.0 expected.0 reply result }
 {
     let last = written.0;
     if LAST_NUMBER <= last {
-        return Sent::Refused(Refusal::NumberEnd);
+        return Err(Refusal::NumberEnd);
     }
     let number = SequenceNumber(last + 1);
     if reply {
-        return Sent::Number(number, number);
+        return Ok(Sent {
+            number,
+            expected: number,
+        });
     }
     if must_sync(last, expected.0) {
-        return Sent::Refused(Refusal::SyncFirst);
+        return Err(Refusal::SyncFirst);
     }
-    Sent::Number(number, expected)
+    Ok(Sent { number, expected })
 }

@@ -13,17 +13,16 @@
 --      p                       unused, p=pad(n)
 --      d     STRING8           authorization-protocol-data
 --      q                       unused, q=pad(d)
-use Rattle.std.specs.Prelude.{◌≡◌, refl, not, List, [], ◌∷◌, ◌++◌, ℕ, ◌+◌, ◌≤◌, ltb, length}
+use Rattle.std.specs.Prelude.{◌≡◌, refl, not, List, [], ◌∷◌, ◌++◌, ℕ, ◌+◌, ◌≤◌, ltb, length, Result}
 use Rattle.std.proofs.Common.{sym, ap, ◌∙◌, append_assoc, arith, length-append, ltb-false}
 use Rattle.octets.specs.Logic.{either, either_left, either_right}
 use Rattle.octets.specs.Bytes.{legal, bytes_of, length_bytes_of}
 use Rattle.octets.specs.Field.{put_field}
 use Rattle.octets.specs.Put.{put, put_more}
 use Rattle.octets.specs.Lent.{leaves}
-use Rattle.refusal.specs.Answer.{Answer, gives, refuses, refuse, gives_past, gives_rest, decides}
-use Rattle.refusal.specs.Numbers.{number_of, refusal_of, listed}
+use Rattle.refusal.specs.Answer.{Answer, gives, refuses, refuse, gives_past, gives_rest, says, says_one}
 use Rattle.setup_request.specs.Pad.{pad, zeros, padded, length_zeros, length_padded}
-use Rattle.setup_request.specs.declared.Written.{Written}
+use Rattle.refusal.specs.declared.Refusal.{Refusal}
 
 -- 01, Framing and handshake: the client speaks version 11, 0
 abbrev pub major_version : ℕ
@@ -61,10 +60,9 @@ pub record Writes (o : ℕ) (name «data» before : List ℕ) (a : Answer ℕ) (
   pub answers : a ≡ room_for o (length name) (length «data») (length before) (length (setup_request o name «data»))
   pub left_is : left ≡ leaves a (setup_request o name «data») before
 
--- what the enum `Written` says
-abbrev pub says_written : Written → Answer ℕ
-says_written (Written.Bytes n) = gives n
-says_written (Written.Refused r) = refuses (number_of r)
+-- what the result says
+abbrev pub says_written : Result ℕ Refusal → Answer ℕ
+says_written = says (λ n. n)
 
 -- ---- laws
 
@@ -143,16 +141,12 @@ pub writes_refused : (o : ℕ) (m d before : List ℕ) (n : ℕ) → refuses n �
 writes_refused o m d before n e = record { answers = e ∙ ap (room_for o (length m) (length d) (length before)) (sym (length_request o m d)); left_is = refl }
 
 -- Two answers that say the same are equal.
-back : Answer ℕ → Written
-back (gives n) = Written.Bytes n
-back (refuses n) = Written.Refused (refusal_of n)
 
-pub written_one : (a b : Written) → says_written a ≡ says_written b → a ≡ b
-unfolding back
-written_one = decides says_written back (elim [ Written.Bytes n ↦ refl | Written.Refused r ↦ ap Written.Refused (listed r) ])
+pub written_one : (a b : Result ℕ Refusal) → says_written a ≡ says_written b → a ≡ b
+written_one = says_one _ (λ n. n) (λ x. refl)
 
 -- So any two outcomes of `setup_request` are equal, its answer and the output that it leaves.
-pub writes_one : {o : ℕ} {name «data» before u v : List ℕ} (a b : Written) → Writes o name «data» before (says_written a) u → Writes o name «data» before (says_written b) v → (a ≡ b) × (u ≡ v)
+pub writes_one : {o : ℕ} {name «data» before u v : List ℕ} (a b : Result ℕ Refusal) → Writes o name «data» before (says_written a) u → Writes o name «data» before (says_written b) v → (a ≡ b) × (u ≡ v)
 writes_one {o} {name = name} {«data» = d} {before = before} a b p q =
     let e : says_written a ≡ says_written b = p.answers ∙ sym q.answers in
     (written_one a b e, p.left_is ∙ ap (λ (k : Answer ℕ). leaves k (setup_request o name d) before) e ∙ sym q.left_is)

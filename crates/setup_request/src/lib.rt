@@ -23,46 +23,35 @@ const NAME_AT: usize = 12;
 
 pub const MOST_TEXT: usize = 65535;
 
-// How many bytes were written.
-#[derive(Clone, Copy)]
-pub enum Written {
-    Bytes(usize),
-    Refused(Refusal),
-}
-
 // The request that opens a connection (`with_authorization` of the Rust), with the authorization's
 // protocol name and data, both empty for none. Refused by 13 for another byte order, then by 16 for
 // a name or data over 65,535 bytes, then by 8 where out is too small; bytes of out past the request
 // stay.
-pub fn setup_request(order: u8, name: &[u8], data: &[u8], out: &mut [u8]) -> Written
+pub fn setup_request(order: u8, name: &[u8], data: &[u8], out: &mut [u8]) -> Result<usize, Refusal>
     ensures { Writes order name.now «data».now out.old (says_written result) out.new }
 {
-    match room_for(order, name.len(), data.len(), out.len()) {
-        Written::Bytes(n) => {
-            put_request(order, name, data, out);
-            Written::Bytes(n)
-        }
-        Written::Refused(refusal) => Written::Refused(refusal),
-    }
+    let n = room_for(order, name.len(), data.len(), out.len())?;
+    put_request(order, name, data, out);
+    Ok(n)
 }
 
-fn room_for(order: u8, name: usize, data: usize, have: usize) -> Written
+fn room_for(order: u8, name: usize, data: usize, have: usize) -> Result<usize, Refusal>
     ensures { says_written result ≡ room_for order name «data» have (request_size name «data») }
 {
     if !octets::is_legal(order) {
-        return Written::Refused(Refusal::BadOrder);
+        return Err(Refusal::BadOrder);
     }
     if MOST_TEXT < name {
-        return Written::Refused(Refusal::LongAuth);
+        return Err(Refusal::LongAuth);
     }
     if MOST_TEXT < data {
-        return Written::Refused(Refusal::LongAuth);
+        return Err(Refusal::LongAuth);
     }
     let need = size(name, data);
     if have < need {
-        return Written::Refused(Refusal::OutShort);
+        return Err(Refusal::OutShort);
     }
-    Written::Bytes(need)
+    Ok(need)
 }
 
 // How many bytes the request has for a name and data of so many bytes.
@@ -122,9 +111,5 @@ fn put_zeros(out: &mut [u8], at: usize, n: usize)
     requires { at + n ≤ length out.old }
     ensures { out.new ≡ put out.old at (zeros n) }
 {
-    let mut i = 0;
-    while i < n {
-        out[at + i] = 0;
-        i += 1;
-    }
+    out[at..at + n].fill(0);
 }

@@ -1,20 +1,24 @@
 // What stands behind the bar: byte order and rooms, the packets' bytes, the reader, the ids and the
 // handshake. Bytes are shown as a digest or, in full, in hex; where there are none, nothing is.
-use crate::{digest, packets};
-use held::Window;
+ghost use Rattle.std.specs.Prelude.{◌≡◌, length};
 
-// What is there of a packet or of a setup: byte order, how long its buffer is, where that begins in
-// the run of bytes, and how many are filled.
+use crate::digest;
+use crate::records::Records;
+use held::Window;
+use id_allocator::IdAllocator;
+use text::{Page, Span};
+
+// What is there of a packet or of a setup: byte order, how long its buffer is, and the bytes of the
+// run that are filled.
 #[derive(Clone, Copy)]
 pub struct Partial {
     pub order: u8,
     pub room: usize,
-    pub from: usize,
-    pub filled: usize,
+    pub filled: Span,
 }
 
-// What counts as state beside `Told`: the connection's byte order and rooms, the reader, the three
-// numbers of the allocator, and the handshake. The window says where packets are.
+// What counts as state beside `Told`: the connection's byte order and rooms, the reader, the
+// allocator, and the handshake. The window says where packets are.
 #[derive(Clone, Copy)]
 pub struct Beside {
     pub order: u8,
@@ -22,103 +26,108 @@ pub struct Beside {
     pub store: usize,
     pub window: Window,
     pub reader: Partial,
-    pub next: u64,
-    pub last: u64,
-    pub step: u64,
+    pub ids: Option<IdAllocator>,
     pub handshake: Partial,
 }
 
-pub fn behind(
-    rt: &impl Print,
-    b: Beside,
-    full: bool,
-    store: &[u8],
-    out: &mut [u8],
-    waiting: usize,
-) -> usize {
-    let a = rooms(rt, b, full, out, waiting);
-    let c = held_bytes(rt, b.window, full, store, out, a);
-    let d = part(rt, b" reader ", b.reader, full, out, c);
-    let e = ids(rt, b, out, d);
-    part(rt, b" handshake ", b.handshake, full, out, e)
+// `full` stays a flag: it also writes a word.
+pub fn behind(page: &mut Page<impl Print>, b: Beside, full: bool, store: &[u8])
+    ensures { length page.new.run.now ≡ length page.old.run.now }
+{
+    rooms(page, b, full);
+    held_bytes(page, b.window, full, store);
+    part(page, b" reader ", b.reader, full);
+    ids(page, b.ids);
+    part(page, b" handshake ", b.handshake, full);
 }
 
-fn rooms(rt: &impl Print, b: Beside, full: bool, out: &mut [u8], waiting: usize) -> usize {
-    let a = text::word(rt, out, waiting, b" |");
-    let c = marked(rt, full, out, a);
-    let d = lettered(rt, b" order ", b.order, out, c);
-    let e = text::counted(rt, out, d, b" rooms ", b.requests as u64);
-    text::counted(rt, out, e, b" ", b.store as u64)
-}
-
-fn marked(rt: &impl Print, full: bool, out: &mut [u8], waiting: usize) -> usize {
-    if !full {
-        return waiting;
+fn rooms(page: &mut Page<impl Print>, b: Beside, full: bool)
+    ensures { length page.new.run.now ≡ length page.old.run.now }
+{
+    page.word(b" |");
+    if full {
+        page.word(b" full");
     }
-    text::word(rt, out, waiting, b" full")
+    lettered(page, b" order ", b.order);
+    page.counted(b" rooms ", b.requests as u64);
+    page.counted(b" ", b.store as u64);
 }
 
-fn lettered(rt: &impl Print, word: &[u8], letter: u8, out: &mut [u8], waiting: usize) -> usize {
-    let a = text::word(rt, out, waiting, word);
-    text::word(rt, out, a, &[letter])
+fn lettered(page: &mut Page<impl Print>, word: &[u8], letter: u8)
+    ensures { length page.new.run.now ≡ length page.old.run.now }
+{
+    page.word(word);
+    page.word(&[letter]);
 }
 
 // Events first, as before the bar: where replies stand among them is no state.
-fn held_bytes(
-    rt: &impl Print,
-    w: Window,
-    full: bool,
-    store: &[u8],
-    out: &mut [u8],
-    waiting: usize,
-) -> usize {
-    let start = w.start;
-    let end = w.end;
-    let a = text::word(rt, out, waiting, b" held");
-    if end <= start {
-        return a;
+fn held_bytes(page: &mut Page<impl Print>, window: Window, full: bool, store: &[u8])
+    ensures { length page.new.run.now ≡ length page.old.run.now }
+{
+    page.word(b" held");
+    if window.end <= window.start {
+        return;
     }
     if full {
-        let b = packets::tell(rt, store, start, end, held::IN_EVENTS, out, a);
-        return packets::tell(rt, store, start, end, held::IN_REPLIES, out, b);
+        hex(page, store, window, held::IN_EVENTS);
+        hex(page, store, window, held::IN_REPLIES);
+        return;
     }
-    let h = packets::fold(store, start, end, held::IN_EVENTS, digest::EMPTY);
-    digest::tell(
-        rt,
-        packets::fold(store, start, end, held::IN_REPLIES, h),
-        out,
-        a,
-    )
+    let h = fold(digest::EMPTY, store, window, held::IN_EVENTS);
+    digest::tell(page, fold(h, store, window, held::IN_REPLIES));
 }
 
-fn part(
-    rt: &impl Print,
-    word: &[u8],
-    p: Partial,
-    full: bool,
-    out: &mut [u8],
-    waiting: usize,
-) -> usize {
-    let a = lettered(rt, word, p.order, out, waiting);
-    let b = text::counted(rt, out, a, b" ", p.room as u64);
-    let c = text::counted(rt, out, b, b" ", p.filled as u64);
-    if p.filled == 0 {
-        return c;
+// The packets of a kind in hex.
+fn hex(page: &mut Page<impl Print>, store: &[u8], window: Window, kind: u8)
+    ensures { length page.new.run.now ≡ length page.old.run.now }
+{
+    for record in Records::of(store, window) {
+        if record.label.kind == kind {
+            page.hex(record.packet());
+        }
+    }
+}
+
+// The digest of the records of a kind, behind bytes of which it is h.
+fn fold(h: u64, store: &[u8], window: Window, kind: u8) -> u64 {
+    let mut now = h;
+    for record in Records::of(store, window) {
+        if record.label.kind == kind {
+            now = digest::fold(now, record.bytes);
+        }
+    }
+    now
+}
+
+fn part(page: &mut Page<impl Print>, word: &[u8], p: Partial, full: bool)
+    ensures { length page.new.run.now ≡ length page.old.run.now }
+{
+    lettered(page, word, p.order);
+    page.counted(b" ", p.room as u64);
+    page.counted(b" ", p.filled.length() as u64);
+    if p.filled.length() == 0 {
+        return;
     }
     if full {
-        return text::packet(rt, out, c, p.from, p.filled);
+        page.packet(p.filled);
+        return;
     }
-    let end = text::behind(p.from, p.filled);
-    let h = digest::fold(digest::EMPTY, text::cut(out, p.from, end));
-    digest::tell(rt, h, out, c)
+    let h = digested(page.run, p.filled);
+    digest::tell(page, h);
 }
 
-// Before there are any the step is 0.
-fn ids(rt: &impl Print, b: Beside, out: &mut [u8], waiting: usize) -> usize {
-    if b.step == 0 {
-        return text::word(rt, out, waiting, b" ids none");
-    }
-    let a = text::counted(rt, out, waiting, b" ids ", b.next);
-    let c = text::counted(rt, out, a, b" ", b.last);
-    text::counted(rt, out, c, b" ", b.step)
+fn digested(run: &[u8], part: Span) -> u64 {
+    digest::fold(digest::EMPTY, part.of(run))
+}
+
+fn ids(page: &mut Page<impl Print>, ids: Option<IdAllocator>)
+    ensures { length page.new.run.now ≡ length page.old.run.now }
+{
+    let Some(ids) = ids else {
+        page.word(b" ids none");
+        return;
+    };
+    page.counted(b" ids ", ids.next);
+    page.counted(b" ", ids.last);
+    page.counted(b" ", ids.step);
 }

@@ -1,7 +1,6 @@
-// The ids of masks and of ranges. Each call is lent the allocator, and so runs the call by value.
-ghost use Rattle.id_allocator.specs.Lent.{Generates, Updates};
-
-use id_allocator::{IdAllocator, IdTurn, Ids, NextId, RangeTurn, Updated};
+// The ids of masks and of ranges. The allocator is lent to each call.
+use id_allocator::IdAllocator;
+use refusal::Refusal;
 use std::io;
 
 pub(crate) fn of_masks(rt: &impl Print) -> io::Result<()> {
@@ -15,14 +14,8 @@ pub(crate) fn of_masks(rt: &impl Print) -> io::Result<()> {
 }
 
 fn mask(rt: &impl Print, base: u32, bits: u32, most: u32) -> io::Result<()> {
-    say::word(rt, b"mask")?;
-    say::number(rt, base as u64)?;
-    say::number(rt, bits as u64)?;
-    match IdAllocator::new(base, bits) {
-        Ids::Ready(a) => run(rt, a, most)?,
-        Ids::Refused(r) => say::refused(rt, r)?,
-    }
-    say::end(rt)
+    print!(rt; "mask {base} {bits}")?;
+    run(rt, IdAllocator::new(base, bits), most)
 }
 
 pub(crate) fn of_ranges(rt: &impl Print) -> io::Result<()> {
@@ -38,66 +31,36 @@ pub(crate) fn of_ranges(rt: &impl Print) -> io::Result<()> {
 
 // A range for an allocator of step 2.
 fn range(rt: &impl Print, start: u32, count: u32) -> io::Result<()> {
-    match IdAllocator::new(0x100, 6) {
-        Ids::Ready(a) => {
-            say::word(rt, b"range")?;
-            say::number(rt, start as u64)?;
-            say::number(rt, count as u64)?;
-            ranged(rt, lent_range(a, start, count))?;
-        }
-        Ids::Refused(r) => say::refused(rt, r)?,
-    }
-    say::end(rt)
+    print!(rt; "range {start} {count}")?;
+    run(rt, ranged(start, count), 5)
 }
 
-fn ranged(rt: &impl Print, turn: RangeTurn) -> io::Result<()> {
-    let answer = turn.answer;
+fn ranged(start: u32, count: u32) -> Result<IdAllocator, Refusal> {
+    let mut ids = IdAllocator::new(0x100, 6)?;
+    id_allocator::update_xid_range(&mut ids, start, count)?;
+    Ok(ids)
+}
+
+// At most so many ids, up to the first refusal, and the end of the line.
+fn run(rt: &impl Print, answer: Result<IdAllocator, Refusal>, most: u32) -> io::Result<()> {
     match answer {
-        Updated::Done => run(rt, turn.left, 5),
-        Updated::Refused(r) => say::refused(rt, r),
+        Ok(ids) => all(rt, ids, most)?,
+        Err(refusal) => refused(rt, refusal)?,
     }
+    println!(rt;)
 }
 
-// At most so many ids, up to the first refusal.
-fn run(rt: &impl Print, from: IdAllocator, most: u32) -> io::Result<()> {
-    let mut a = from;
-    let mut done: u32 = 0;
-    while done < most {
-        let turn = lent_id(a);
-        a = turn.left;
-        let answer = turn.answer;
-        match answer {
-            NextId::Id(id) => say::number(rt, id as u64)?,
-            NextId::Refused(r) => {
-                say::refused(rt, r)?;
-                return Ok(());
-            }
+fn all(rt: &impl Print, from: IdAllocator, most: u32) -> io::Result<()> {
+    let mut ids = from;
+    for _ in 0..most {
+        match id_allocator::generate_id(&mut ids) {
+            Ok(id) => print!(rt; " {id}")?,
+            Err(refusal) => return refused(rt, refusal),
         }
-        done += 1;
     }
     Ok(())
 }
 
-// Lends a local for an id.
-fn lent_id(a: IdAllocator) -> IdTurn
-    ensures { Generates a result.answer result.left }
-{
-    let mut held = a;
-    let answer = id_allocator::generate_id(&mut held);
-    IdTurn {
-        answer: answer,
-        left: held,
-    }
-}
-
-// Lends a local for a range.
-fn lent_range(a: IdAllocator, start: u32, count: u32) -> RangeTurn
-    ensures { Updates a start count result.answer result.left }
-{
-    let mut held = a;
-    let answer = id_allocator::update_xid_range(&mut held, start, count);
-    RangeTurn {
-        answer: answer,
-        left: held,
-    }
+fn refused(rt: &impl Print, refusal: Refusal) -> io::Result<()> {
+    print!(rt; " refused {}", refusal.number())
 }

@@ -1,49 +1,38 @@
 // XC-MISC and error packets, as an X server sent them.
+use octets::{BIG, LITTLE};
+use refusal::Refusal;
+use say::{Answer, Hex, Numbers};
 use std::io;
-use x11_utils::{Parsed, X11Error};
-use xc_misc::{ListAnswer, RangeAnswer, VersionAnswer, Written};
+use x11_utils::X11Error;
 
 // The opcode that the server gave the extension.
 const OPCODE: u8 = 136;
 
 pub(crate) fn requests(rt: &impl Print) -> io::Result<()> {
-    requests_in(rt, octets::LITTLE)?;
-    requests_in(rt, octets::BIG)?;
-    requests_in(rt, 0)
+    for order in [LITTLE, BIG, 0] {
+        requests_in(rt, order)?;
+    }
+    Ok(())
 }
 
 fn requests_in(rt: &impl Print, order: u8) -> io::Result<()> {
-    let mut space = [255u8; 9];
-    let out: &mut [u8] = &mut space;
-    written(
-        rt,
-        xc_misc::get_version_request(order, OPCODE, 1, 2, out),
-        out,
-    )?;
-    written(
-        rt,
-        xc_misc::get_xid_list_request(order, OPCODE, 3, out),
-        out,
-    )?;
-    written(rt, xc_misc::get_xid_range_request(order, OPCODE, out), out)?;
-    let mut narrow = [255u8; 3];
-    let short: &mut [u8] = &mut narrow;
-    written(
-        rt,
-        xc_misc::get_xid_range_request(order, OPCODE, short),
-        short,
-    )
+    let mut out = [255u8; 9];
+    let version = xc_misc::get_version_request(order, OPCODE, 1, 2, &mut out);
+    written(rt, version, &out)?;
+    let list = xc_misc::get_xid_list_request(order, OPCODE, 3, &mut out);
+    written(rt, list, &out)?;
+    let range = xc_misc::get_xid_range_request(order, OPCODE, &mut out);
+    written(rt, range, &out)?;
+    let mut short = [255u8; 3];
+    let refused = xc_misc::get_xid_range_request(order, OPCODE, &mut short);
+    written(rt, refused, &short)
 }
 
 // The answer, and the whole output.
-fn written(rt: &impl Print, answer: Written, out: &[u8]) -> io::Result<()> {
-    say::word(rt, b"request")?;
-    match answer {
-        Written::Bytes(n) => say::number(rt, n as u64)?,
-        Written::Refused(r) => say::refused(rt, r)?,
-    }
-    say::bytes(rt, out)?;
-    say::end(rt)
+fn written(rt: &impl Print, answer: Result<usize, Refusal>, out: &[u8]) -> io::Result<()> {
+    let n = Answer(answer.map(|n| Numbers([n as u64])));
+    let bytes = Hex(out);
+    println!(rt; "request{n}{bytes}")
 }
 
 pub(crate) fn errors(rt: &impl Print) -> io::Result<()> {
@@ -54,22 +43,22 @@ pub(crate) fn errors(rt: &impl Print) -> io::Result<()> {
 fn errors_little(rt: &impl Print) -> io::Result<()> {
     error(
         rt,
-        octets::LITTLE,
+        LITTLE,
         b"\x00\x03\x06\x00\x78\x56\x34\x12\x00\x00\x03\x00\x00\x00\x00\x00\x00\x00\x00\x00\x00\x00\x00\x00\x00\x00\x00\x00\x00\x00\x00\x00",
     )?;
     error(
         rt,
-        octets::LITTLE,
+        LITTLE,
         b"\x00\x01\x07\x00\x78\x56\x34\x12\x4d\x00\x88\x00\x00\x00\x00\x00\x00\x00\x00\x00\x00\x00\x00\x00\x00\x00\x00\x00\x00\x00\x00\x00",
     )?;
     error(
         rt,
-        octets::LITTLE,
+        LITTLE,
         b"\x00\x01\x08\x00\x78\x56\x34\x12\x00\x00\x7e\x00\x00\x00\x00\x00\x00\x00\x00\x00\x00\x00\x00\x00\x00\x00\x00\x00\x00\x00\x00\x00",
     )?;
     error(
         rt,
-        octets::LITTLE,
+        LITTLE,
         b"\x00\x10\x0a\x00\x78\x56\x34\x12\x02\x00\x88\x00\x00\x00\x00\x00\x00\x00\x00\x00\x00\x00\x00\x00\x00\x00\x00\x00\x00\x00\x00\x00",
     )
 }
@@ -77,40 +66,39 @@ fn errors_little(rt: &impl Print) -> io::Result<()> {
 fn errors_big(rt: &impl Print) -> io::Result<()> {
     error(
         rt,
-        octets::BIG,
+        BIG,
         b"\x00\x03\x00\x06\x12\x34\x56\x78\x00\x00\x03\x00\x00\x00\x00\x00\x2e\x58\x31\x31\x2d\x75\x6e\x69\x78\x2f\x58\x37\x37\x20\x61\x2e",
     )?;
     error(
         rt,
-        octets::BIG,
+        BIG,
         b"\x00\x01\x00\x07\x12\x34\x56\x78\x00\x4d\x88\x00\x00\x00\x00\x00\x2e\x58\x31\x31\x2d\x75\x6e\x69\x78\x2f\x58\x37\x37\x20\x61\x2e",
     )?;
     error(
         rt,
-        octets::BIG,
+        BIG,
         b"\x00\x01\x00\x08\x12\x34\x56\x78\x00\x00\x7e\x00\x00\x00\x00\x00\x2e\x58\x31\x31\x2d\x75\x6e\x69\x78\x2f\x58\x37\x37\x20\x61\x2e",
     )?;
     error(
         rt,
-        octets::BIG,
+        BIG,
         b"\x00\x10\x00\x0a\x12\x34\x56\x78\x00\x02\x88\x00\x00\x00\x00\x00\x2e\x58\x31\x31\x2d\x75\x6e\x69\x78\x2f\x58\x37\x37\x20\x61\x2e",
     )
 }
 
 // Code, wire number, bad value, minor and major opcode.
 fn error(rt: &impl Print, order: u8, packet: &[u8]) -> io::Result<()> {
-    say::word(rt, b"error")?;
-    match X11Error::try_parse(order, packet) {
-        Parsed::Error(e) => {
-            say::number(rt, e.code as u64)?;
-            say::number(rt, e.sequence.0 as u64)?;
-            say::number(rt, e.value as u64)?;
-            say::number(rt, e.minor as u64)?;
-            say::number(rt, e.major as u64)?;
-        }
-        Parsed::Refused(r) => say::refused(rt, r)?,
-    }
-    say::end(rt)
+    let answer = X11Error::try_parse(order, packet);
+    let fields = Answer(answer.map(|e| {
+        Numbers([
+            u64::from(e.code),
+            u64::from(e.sequence.0),
+            u64::from(e.value),
+            u64::from(e.minor),
+            u64::from(e.major),
+        ])
+    }));
+    println!(rt; "error{fields}")
 }
 
 pub(crate) fn replies(rt: &impl Print) -> io::Result<()> {
@@ -121,22 +109,22 @@ pub(crate) fn replies(rt: &impl Print) -> io::Result<()> {
 fn replies_little(rt: &impl Print) -> io::Result<()> {
     version(
         rt,
-        octets::LITTLE,
+        LITTLE,
         b"\x01\x00\x02\x00\x00\x00\x00\x00\x01\x00\x01\x00\x00\x00\x00\x00\x00\x00\x00\x00\x00\x00\x00\x00\x00\x00\x00\x00\x00\x00\x00\x00",
     )?;
     range(
         rt,
-        octets::LITTLE,
+        LITTLE,
         b"\x01\x00\x03\x00\x00\x00\x00\x00\x00\x00\x20\x00\x00\x00\x20\x00\x00\x00\x00\x00\x00\x00\x00\x00\x00\x00\x00\x00\x00\x00\x00\x00",
     )?;
     list(
         rt,
-        octets::LITTLE,
+        LITTLE,
         b"\x01\x00\x04\x00\x03\x00\x00\x00\x03\x00\x00\x00\x00\x00\x00\x00\x00\x00\x00\x00\x00\x00\x00\x00\x00\x00\x00\x00\x00\x00\x00\x00\x00\x00\x20\x00\x01\x00\x20\x00\x02\x00\x20\x00",
     )?;
     list(
         rt,
-        octets::LITTLE,
+        LITTLE,
         b"\x01\x00\x05\x00\x00\x00\x00\x00\x00\x00\x00\x00\x00\x00\x00\x00\x00\x00\x00\x00\x00\x00\x00\x00\x00\x00\x00\x00\x00\x00\x00\x00",
     )
 }
@@ -144,22 +132,22 @@ fn replies_little(rt: &impl Print) -> io::Result<()> {
 fn replies_big(rt: &impl Print) -> io::Result<()> {
     version(
         rt,
-        octets::BIG,
+        BIG,
         b"\x01\x00\x00\x02\x00\x00\x00\x00\x00\x01\x00\x01\x00\x00\x00\x00\x00\x00\x00\x00\x00\x00\x00\x00\x00\x00\x00\x00\x00\x00\x00\x00",
     )?;
     range(
         rt,
-        octets::BIG,
+        BIG,
         b"\x01\x00\x00\x03\x00\x00\x00\x00\x00\x20\x00\x00\x00\x20\x00\x00\x00\x00\x00\x00\x00\x00\x00\x00\x00\x00\x00\x00\x00\x00\x00\x00",
     )?;
     list(
         rt,
-        octets::BIG,
+        BIG,
         b"\x01\x00\x00\x04\x00\x00\x00\x03\x00\x00\x00\x03\x00\x00\x00\x00\x00\x00\x00\x00\x00\x00\x00\x00\x00\x00\x00\x00\x00\x00\x00\x00\x00\x20\x00\x00\x00\x20\x00\x01\x00\x20\x00\x02",
     )?;
     list(
         rt,
-        octets::BIG,
+        BIG,
         b"\x01\x00\x00\x05\x00\x00\x00\x00\x00\x00\x00\x00\x00\x00\x00\x00\x00\x00\x00\x00\x00\x00\x00\x00\x00\x00\x00\x00\x00\x00\x00\x00",
     )
 }
@@ -174,27 +162,27 @@ pub(crate) fn made(rt: &impl Print) -> io::Result<()> {
 fn made_little(rt: &impl Print) -> io::Result<()> {
     version(
         rt,
-        octets::LITTLE,
+        LITTLE,
         b"\x01\xc8\x04\x03\x00\x00\x00\x00\x01\x00\x02\x00\x0d\x0c\x0b\x0a\x00\x00\x00\x00\x00\x00\x00\x00\x00\x00\x00\x00\x00\x00\x00\x00",
     )?;
     range(
         rt,
-        octets::LITTLE,
+        LITTLE,
         b"\x01\xc8\x04\x03\x00\x00\x00\x00\x05\x00\x20\x00\xfb\xff\x1f\x00\x00\x00\x00\x00\x00\x00\x00\x00\x00\x00\x00\x00\x00\x00\x00\x00",
     )?;
     list(
         rt,
-        octets::LITTLE,
+        LITTLE,
         b"\x01\xc8\x04\x03\x01\x00\x00\x00\x02\x00\x00\x00\x0c\x0d\x0e\x0f\x10\x11\x12\x13\x14\x15\x16\x17\x18\x19\x1a\x1b\x1c\x1d\x1e\x1f\x05\x00\x20\x00\x09\x00\x20\x00\x0d\x00\x20\x00",
     )?;
     list(
         rt,
-        octets::LITTLE,
+        LITTLE,
         b"\x01\xc8\x04\x03\x03\x00\x00\x00\x02\x00\x00\x00\x0c\x0d\x0e\x0f\x10\x11\x12\x13\x14\x15\x16\x17\x18\x19\x1a\x1b\x1c\x1d\x1e\x1f\x05\x00\x20\x00\x09\x00\x20\x00\x0d\x00\x20\x00",
     )?;
     list(
         rt,
-        octets::LITTLE,
+        LITTLE,
         b"\x01\xc8\x04\x03\x01\x00\x00\x00\x04\x00\x00\x00\x0c\x0d\x0e\x0f\x10\x11\x12\x13\x14\x15\x16\x17\x18\x19\x1a\x1b\x1c\x1d\x1e\x1f\x05\x00\x20\x00\x09\x00\x20\x00\x0d\x00\x20\x00",
     )
 }
@@ -202,81 +190,73 @@ fn made_little(rt: &impl Print) -> io::Result<()> {
 fn made_big(rt: &impl Print) -> io::Result<()> {
     version(
         rt,
-        octets::BIG,
+        BIG,
         b"\x01\xc8\x03\x04\x00\x00\x00\x00\x00\x01\x00\x02\x0a\x0b\x0c\x0d\x00\x00\x00\x00\x00\x00\x00\x00\x00\x00\x00\x00\x00\x00\x00\x00",
     )?;
     range(
         rt,
-        octets::BIG,
+        BIG,
         b"\x01\xc8\x03\x04\x00\x00\x00\x00\x00\x20\x00\x05\x00\x1f\xff\xfb\x00\x00\x00\x00\x00\x00\x00\x00\x00\x00\x00\x00\x00\x00\x00\x00",
     )?;
     list(
         rt,
-        octets::BIG,
+        BIG,
         b"\x01\xc8\x03\x04\x00\x00\x00\x01\x00\x00\x00\x02\x0c\x0d\x0e\x0f\x10\x11\x12\x13\x14\x15\x16\x17\x18\x19\x1a\x1b\x1c\x1d\x1e\x1f\x00\x20\x00\x05\x00\x20\x00\x09\x00\x20\x00\x0d",
     )?;
     list(
         rt,
-        octets::BIG,
+        BIG,
         b"\x01\xc8\x03\x04\x00\x00\x00\x03\x00\x00\x00\x02\x0c\x0d\x0e\x0f\x10\x11\x12\x13\x14\x15\x16\x17\x18\x19\x1a\x1b\x1c\x1d\x1e\x1f\x00\x20\x00\x05\x00\x20\x00\x09\x00\x20\x00\x0d",
     )?;
     list(
         rt,
-        octets::BIG,
+        BIG,
         b"\x01\xc8\x03\x04\x00\x00\x00\x01\x00\x00\x00\x04\x0c\x0d\x0e\x0f\x10\x11\x12\x13\x14\x15\x16\x17\x18\x19\x1a\x1b\x1c\x1d\x1e\x1f\x00\x20\x00\x05\x00\x20\x00\x09\x00\x20\x00\x0d",
     )
 }
 
 fn version(rt: &impl Print, order: u8, packet: &[u8]) -> io::Result<()> {
-    say::word(rt, b"version")?;
-    match xc_misc::get_version_reply(order, packet) {
-        VersionAnswer::Reply(v) => {
-            say::number(rt, v.sequence.0 as u64)?;
-            say::number(rt, v.length as u64)?;
-            say::number(rt, v.major as u64)?;
-            say::number(rt, v.minor as u64)?;
-        }
-        VersionAnswer::Refused(r) => say::refused(rt, r)?,
-    }
-    say::end(rt)
+    let answer = xc_misc::get_version_reply(order, packet);
+    let fields = Answer(answer.map(|v| {
+        Numbers([
+            u64::from(v.sequence.0),
+            u64::from(v.length),
+            u64::from(v.major),
+            u64::from(v.minor),
+        ])
+    }));
+    println!(rt; "version{fields}")
 }
 
 fn range(rt: &impl Print, order: u8, packet: &[u8]) -> io::Result<()> {
-    say::word(rt, b"range")?;
-    match xc_misc::get_xid_range_reply(order, packet) {
-        RangeAnswer::Reply(v) => {
-            say::number(rt, v.sequence.0 as u64)?;
-            say::number(rt, v.length as u64)?;
-            say::number(rt, v.start as u64)?;
-            say::number(rt, v.count as u64)?;
-        }
-        RangeAnswer::Refused(r) => say::refused(rt, r)?,
-    }
-    say::end(rt)
+    let answer = xc_misc::get_xid_range_reply(order, packet);
+    let fields = Answer(answer.map(|v| {
+        Numbers([
+            u64::from(v.sequence.0),
+            u64::from(v.length),
+            u64::from(v.start),
+            u64::from(v.count),
+        ])
+    }));
+    println!(rt; "range{fields}")
 }
 
 // The fields, and all four places of the lent room.
 fn list(rt: &impl Print, order: u8, packet: &[u8]) -> io::Result<()> {
-    say::word(rt, b"list")?;
-    let mut space = [7u32; 4];
-    let ids: &mut [u32] = &mut space;
-    match xc_misc::get_xid_list_reply(order, packet, ids) {
-        ListAnswer::Reply(v) => {
-            say::number(rt, v.sequence.0 as u64)?;
-            say::number(rt, v.length as u64)?;
-            say::number(rt, v.count as u64)?;
-        }
-        ListAnswer::Refused(r) => say::refused(rt, r)?,
-    }
-    say::all(rt, ids)?;
-    say::end(rt)
+    let mut room = [7u32; 4];
+    let answer = xc_misc::get_xid_list_reply(order, packet, &mut room);
+    let fields = Answer(answer.map(|v| {
+        Numbers([u64::from(v.sequence.0), u64::from(v.length), v.count as u64])
+    }));
+    let ids = Numbers(room.map(|id| u64::from(id)));
+    println!(rt; "list{fields}{ids}")
 }
 
 // Each refusal, damaged from the packets above.
 pub(crate) fn refused(rt: &impl Print) -> io::Result<()> {
     list(
         rt,
-        octets::LITTLE,
+        LITTLE,
         b"\x01\x00\x04\x00\x03\x00\x00\x00\x03\x00\x00\x00\x00\x00\x00\x00\x00\x00\x00\x00\x00\x00\x00\x00\x00\x00\x00\x00\x00\x00\x00",
     )?;
     list(
@@ -286,27 +266,27 @@ pub(crate) fn refused(rt: &impl Print) -> io::Result<()> {
     )?;
     list(
         rt,
-        octets::LITTLE,
+        LITTLE,
         b"\x02\x00\x04\x00\x03\x00\x00\x00\x03\x00\x00\x00\x00\x00\x00\x00\x00\x00\x00\x00\x00\x00\x00\x00\x00\x00\x00\x00\x00\x00\x00\x00\x00\x00\x20\x00\x01\x00\x20\x00\x02\x00\x20\x00",
     )?;
     list(
         rt,
-        octets::LITTLE,
+        LITTLE,
         b"\x01\x00\x04\x00\x04\x00\x00\x00\x03\x00\x00\x00\x00\x00\x00\x00\x00\x00\x00\x00\x00\x00\x00\x00\x00\x00\x00\x00\x00\x00\x00\x00\x00\x00\x20\x00\x01\x00\x20\x00\x02\x00\x20\x00",
     )?;
     list(
         rt,
-        octets::LITTLE,
+        LITTLE,
         b"\x01\x00\x04\x00\x03\x00\x00\x00\x05\x00\x00\x00\x00\x00\x00\x00\x00\x00\x00\x00\x00\x00\x00\x00\x00\x00\x00\x00\x00\x00\x00\x00\x00\x00\x20\x00\x01\x00\x20\x00\x02\x00\x20\x00",
     )?;
     list(
         rt,
-        octets::LITTLE,
+        LITTLE,
         b"\x01\x00\x04\x00\x06\x00\x00\x00\x06\x00\x00\x00\x00\x00\x00\x00\x00\x00\x00\x00\x00\x00\x00\x00\x00\x00\x00\x00\x00\x00\x00\x00\x00\x00\x20\x00\x01\x00\x20\x00\x02\x00\x20\x00\x00\x00\x00\x00\x00\x00\x00\x00\x00\x00\x00\x00",
     )?;
     error(
         rt,
-        octets::LITTLE,
+        LITTLE,
         b"\x01\x00\x04\x00\x03\x00\x00\x00\x03\x00\x00\x00\x00\x00\x00\x00\x00\x00\x00\x00\x00\x00\x00\x00\x00\x00\x00\x00\x00\x00\x00\x00",
     )
 }

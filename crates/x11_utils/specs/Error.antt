@@ -7,15 +7,13 @@
 --      2     CARD16      minor opcode
 --      1     CARD8       major opcode
 --      21                unused
-use Rattle.std.specs.Prelude.{◌≡◌, refl, List, ℕ, get_or}
-use Rattle.std.proofs.Common.{ap}
+use Rattle.std.specs.Prelude.{◌≡◌, refl, List, ℕ, get_or, Result}
 use Rattle.octets.specs.Field.{field}
-use Rattle.refusal.specs.Answer.{Answer, gives, refuses, after, decides}
-use Rattle.refusal.specs.Numbers.{number_of, refusal_of, listed}
+use Rattle.refusal.specs.Answer.{Answer, gives, after, says, says_one}
 use Rattle.packet.specs.Packet.{error_code, wire_number}
 use Rattle.x11_utils.specs.Packet.{checked}
 use Rattle.x11_utils.specs.declared.X11Error.{X11Error}
-use Rattle.x11_utils.specs.declared.Parsed.{Parsed}
+use Rattle.refusal.specs.declared.Refusal.{Refusal}
 
 -- the fields, at their places in the layout
 unfoldable pub error_of : ℕ → List ℕ → X11Error
@@ -31,16 +29,11 @@ error_of o p = record {
 unfoldable pub parsed : ℕ → List ℕ → Answer X11Error
 parsed o p = after (checked o p error_code) (gives (error_of o p))
 
--- what the enum `Parsed` says
-abbrev pub says_parsed : Parsed → Answer X11Error
-says_parsed (Parsed.Error e) = gives e
-says_parsed (Parsed.Refused r) = refuses (number_of r)
+-- what the result says
+abbrev pub says_parsed : Result X11Error Refusal → Answer X11Error
+says_parsed = says (λ e. e)
 
 -- Two answers that say the same are equal.
-back : Answer X11Error → Parsed
-back (gives e) = Parsed.Error e
-back (refuses n) = Parsed.Refused (refusal_of n)
 
-pub parsed_one : (a b : Parsed) → says_parsed a ≡ says_parsed b → a ≡ b
-unfolding back
-parsed_one = decides says_parsed back (elim [ Parsed.Error e ↦ refl | Parsed.Refused r ↦ ap Parsed.Refused (listed r) ])
+pub parsed_one : (a b : Result X11Error Refusal) → says_parsed a ≡ says_parsed b → a ≡ b
+parsed_one = says_one _ (λ e. e) (λ x. refl)

@@ -13,30 +13,24 @@ ghost use Rattle.x11_utils.specs.Promises.{ChecksPacket, ParsesError};
 use refusal::Refusal;
 use sequence::WireNumber;
 
-#[derive(Clone, Copy)]
-pub enum Checked {
-    Ready,
-    Refused(Refusal),
-}
-
 // Whether a packet's fields can be read. Refused, in this order, by 1 under 32 bytes, 2 over
 // 65,536, 13 for a byte order other than `l` and `B`, and 14 for another first byte.
-pub fn check_packet(order: u8, packet: &[u8], first: u8) -> Checked
+pub fn check_packet(order: u8, packet: &[u8], first: u8) -> Result<(), Refusal>
     ensures { ChecksPacket order packet.now first result }
 {
     if packet.len() < packet::LEAST_PACKET {
-        return Checked::Refused(Refusal::ShortPacket);
+        return Err(Refusal::ShortPacket);
     }
     if packet::MOST_PACKET < packet.len() {
-        return Checked::Refused(Refusal::LongPacket);
+        return Err(Refusal::LongPacket);
     }
     if !octets::is_legal(order) {
-        return Checked::Refused(Refusal::BadOrder);
+        return Err(Refusal::BadOrder);
     }
     if packet[0] != first {
-        return Checked::Refused(Refusal::BadContent);
+        return Err(Refusal::BadContent);
     }
-    Checked::Ready
+    Ok(())
 }
 
 // An error packet, as the server sent it.
@@ -53,21 +47,13 @@ pub struct X11Error {
     pub major: u8,
 }
 
-#[derive(Clone, Copy)]
-pub enum Parsed {
-    Error(X11Error),
-    Refused(Refusal),
-}
-
 impl X11Error {
     // The fields of an error packet in the given byte order. Refused as by `check_packet`.
-    pub fn try_parse(order: u8, packet: &[u8]) -> Parsed
+    pub fn try_parse(order: u8, packet: &[u8]) -> Result<X11Error, Refusal>
         ensures { ParsesError order packet.now result }
     {
-        match check_packet(order, packet, packet::ERROR) {
-            Checked::Ready => Parsed::Error(fields(order, packet)),
-            Checked::Refused(refusal) => Parsed::Refused(refusal),
-        }
+        check_packet(order, packet, packet::ERROR)?;
+        Ok(fields(order, packet))
     }
 }
 
@@ -80,9 +66,9 @@ fn fields(order: u8, packet: &[u8]) -> X11Error
     let minor = octets::get_u16(order, packet, 8);
     X11Error {
         code: packet[1],
-        sequence: sequence,
-        value: value,
-        minor: minor,
+        sequence,
+        value,
+        minor,
         major: packet[10],
     }
 }

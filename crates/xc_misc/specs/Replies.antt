@@ -9,22 +9,19 @@
 --      XCMiscGetVersion:   2 CARD16 server_major_version, 2 CARD16 server_minor_version
 --      XCMiscGetXIDRange:  4 XID start_id, 4 CARD32 count
 --      XCMiscGetXIDList:   4 CARD32 number of XIDs in ids, 20 unused, and at byte 32 the ids, 4 bytes each
-use Rattle.std.specs.Prelude.{◌≡◌, refl, Bool, true, false, not, List, ℕ, ◌+◌, ◌*◌, ◌≤◌, ◌<◌, leb, ltb, length}
+use Rattle.std.specs.Prelude.{◌≡◌, refl, Bool, true, false, not, List, ℕ, ◌+◌, ◌*◌, ◌≤◌, ◌<◌, leb, ltb, length, Result}
 use Rattle.std.proofs.Common.{sym, ap, ◌∙◌, lt-ltb, le-ltb, leb-true}
 use Rattle.std.proofs.lemmas.Bool.{not-false}
 use Rattle.octets.specs.Field.{field, fields}
 use Rattle.octets.specs.Lent.{leaves}
 use Rattle.octets.specs.Put.{put}
-use Rattle.refusal.specs.Answer.{Answer, gives, refuses, refuse, after, gives_past, after_given, after_refused, after_check, after_rest, decides}
-use Rattle.refusal.specs.Numbers.{number_of, refusal_of, listed}
+use Rattle.refusal.specs.Answer.{Answer, gives, refuses, refuse, after, gives_past, after_given, after_refused, after_check, after_rest, says, says_one}
 use Rattle.packet.specs.Packet.{least_packet, reply_code, length_at, wire_number}
 use Rattle.x11_utils.specs.Packet.{checked, ready_long}
 use Rattle.xc_misc.specs.declared.reply.GetVersionReply.{GetVersionReply}
 use Rattle.xc_misc.specs.declared.reply.GetXIDRangeReply.{GetXIDRangeReply}
 use Rattle.xc_misc.specs.declared.reply.GetXIDListReply.{GetXIDListReply}
-use Rattle.xc_misc.specs.declared.reply.VersionAnswer.{VersionAnswer}
-use Rattle.xc_misc.specs.declared.reply.RangeAnswer.{RangeAnswer}
-use Rattle.xc_misc.specs.declared.reply.ListAnswer.{ListAnswer}
+use Rattle.refusal.specs.declared.Refusal.{Refusal}
 
 -- where a list has its count of ids
 abbrev pub count_at : ℕ
@@ -74,18 +71,15 @@ pub record Lists (o : ℕ) (p before : List ℕ) (a : Answer GetXIDListReply) (l
   pub answers : a ≡ list o p (length before)
   pub left_is : left ≡ leaves a (ids_of o (list_of o p).count p) before
 
--- what the enums say
-abbrev pub says_version : VersionAnswer → Answer GetVersionReply
-says_version (VersionAnswer.Reply x) = gives x
-says_version (VersionAnswer.Refused r) = refuses (number_of r)
+-- what the results say
+abbrev pub says_version : Result GetVersionReply Refusal → Answer GetVersionReply
+says_version = says (λ x. x)
 
-abbrev pub says_range : RangeAnswer → Answer GetXIDRangeReply
-says_range (RangeAnswer.Reply x) = gives x
-says_range (RangeAnswer.Refused r) = refuses (number_of r)
+abbrev pub says_range : Result GetXIDRangeReply Refusal → Answer GetXIDRangeReply
+says_range = says (λ x. x)
 
-abbrev pub says_list : ListAnswer → Answer GetXIDListReply
-says_list (ListAnswer.Reply x) = gives x
-says_list (ListAnswer.Refused r) = refuses (number_of r)
+abbrev pub says_list : Result GetXIDListReply Refusal → Answer GetXIDListReply
+says_list = says (λ x. x)
 
 -- ---- laws
 
@@ -122,32 +116,18 @@ lists_given o p before left r e q h f =
     record { answers = ap gives q ∙ (simp t (after_given _ e)); left_is = f ∙ ap (λ (x : GetXIDListReply). put before 0 (ids_of o x.count p)) q }
 
 -- Two answers that say the same are equal.
-back_version : Answer GetVersionReply → VersionAnswer
-back_version (gives x) = VersionAnswer.Reply x
-back_version (refuses n) = VersionAnswer.Refused (refusal_of n)
 
-pub version_one : (a b : VersionAnswer) → says_version a ≡ says_version b → a ≡ b
-unfolding back_version
-version_one = decides says_version back_version (elim [ VersionAnswer.Reply x ↦ refl | VersionAnswer.Refused r ↦ ap VersionAnswer.Refused (listed r) ])
+pub version_one : (a b : Result GetVersionReply Refusal) → says_version a ≡ says_version b → a ≡ b
+version_one = says_one _ (λ x. x) (λ x. refl)
 
-back_range : Answer GetXIDRangeReply → RangeAnswer
-back_range (gives x) = RangeAnswer.Reply x
-back_range (refuses n) = RangeAnswer.Refused (refusal_of n)
+pub range_one : (a b : Result GetXIDRangeReply Refusal) → says_range a ≡ says_range b → a ≡ b
+range_one = says_one _ (λ x. x) (λ x. refl)
 
-pub range_one : (a b : RangeAnswer) → says_range a ≡ says_range b → a ≡ b
-unfolding back_range
-range_one = decides says_range back_range (elim [ RangeAnswer.Reply x ↦ refl | RangeAnswer.Refused r ↦ ap RangeAnswer.Refused (listed r) ])
-
-back_list : Answer GetXIDListReply → ListAnswer
-back_list (gives x) = ListAnswer.Reply x
-back_list (refuses n) = ListAnswer.Refused (refusal_of n)
-
-pub list_one : (a b : ListAnswer) → says_list a ≡ says_list b → a ≡ b
-unfolding back_list
-list_one = decides says_list back_list (elim [ ListAnswer.Reply x ↦ refl | ListAnswer.Refused r ↦ ap ListAnswer.Refused (listed r) ])
+pub list_one : (a b : Result GetXIDListReply Refusal) → says_list a ≡ says_list b → a ≡ b
+list_one = says_one _ (λ x. x) (λ x. refl)
 
 -- So any two outcomes of a call that reads a list are equal, its answer and the room that it leaves.
-pub lists_one : {o : ℕ} {p before u v : List ℕ} (a b : ListAnswer) → Lists o p before (says_list a) u → Lists o p before (says_list b) v → (a ≡ b) × (u ≡ v)
+pub lists_one : {o : ℕ} {p before u v : List ℕ} (a b : Result GetXIDListReply Refusal) → Lists o p before (says_list a) u → Lists o p before (says_list b) v → (a ≡ b) × (u ≡ v)
 lists_one {o} {p = p} {before = before} a b x y =
     let e : says_list a ≡ says_list b = x.answers ∙ sym y.answers in
     (list_one a b e, x.left_is ∙ ap (λ (k : Answer GetXIDListReply). leaves k (ids_of o (list_of o p).count p) before) e ∙ sym y.left_is)

@@ -1,13 +1,12 @@
 -- XC-MISC, Encoding: the requests. Assumes nothing.
-use Rattle.std.specs.Prelude.{◌≡◌, refl, not, List, [], ◌∷◌, ◌++◌, ℕ, suc, ◌≤◌, ltb, length, set}
+use Rattle.std.specs.Prelude.{◌≡◌, refl, not, List, [], ◌∷◌, ◌++◌, ℕ, suc, ◌≤◌, ltb, length, set, Result}
 use Rattle.std.proofs.Common.{sym, ap, ◌∙◌, append_assoc, arith, length-append, ltb-false}
 use Rattle.octets.specs.Bytes.{legal, bytes_of, length_bytes_of}
 use Rattle.octets.specs.Field.{put_field}
 use Rattle.octets.specs.Put.{put, put_more, set_two, length_put}
 use Rattle.octets.specs.Lent.{leaves}
-use Rattle.refusal.specs.Answer.{Answer, gives, refuses, refuse, gives_past, gives_rest, decides}
-use Rattle.refusal.specs.Numbers.{number_of, refusal_of, listed}
-use Rattle.xc_misc.specs.declared.request.Written.{Written}
+use Rattle.refusal.specs.Answer.{Answer, gives, refuses, refuse, gives_past, gives_rest, says, says_one}
+use Rattle.refusal.specs.declared.Refusal.{Refusal}
 
 -- The extension's opcode, the request's own, and the length of the request in units of four bytes.
 unfoldable pub header : ℕ → ℕ → ℕ → ℕ → List ℕ
@@ -34,10 +33,9 @@ pub record Writes (o : ℕ) (request before : List ℕ) (a : Answer ℕ) (left :
   pub answers : a ≡ room_for o (length before) (length request)
   pub left_is : left ≡ leaves a request before
 
--- what the enum `Written` says
-abbrev pub says_written : Written → Answer ℕ
-says_written (Written.Bytes n) = gives n
-says_written (Written.Refused r) = refuses (number_of r)
+-- what the result says
+abbrev pub says_written : Result ℕ Refusal → Answer ℕ
+says_written = says (λ n. n)
 
 -- ---- laws
 
@@ -102,16 +100,12 @@ pub writes_refused : (o : ℕ) (request before : List ℕ) (need n : ℕ) → le
 writes_refused o request before need n l e = record { answers = e ∙ ap (room_for o (length before)) (sym l); left_is = refl }
 
 -- Two answers that say the same are equal.
-back : Answer ℕ → Written
-back (gives n) = Written.Bytes n
-back (refuses n) = Written.Refused (refusal_of n)
 
-pub written_one : (a b : Written) → says_written a ≡ says_written b → a ≡ b
-unfolding back
-written_one = decides says_written back (elim [ Written.Bytes n ↦ refl | Written.Refused r ↦ ap Written.Refused (listed r) ])
+pub written_one : (a b : Result ℕ Refusal) → says_written a ≡ says_written b → a ≡ b
+written_one = says_one _ (λ n. n) (λ x. refl)
 
 -- So any two outcomes of a call that writes a request are equal, its answer and the output that it leaves.
-pub writes_one : {o : ℕ} {request before u v : List ℕ} (a b : Written) → Writes o request before (says_written a) u → Writes o request before (says_written b) v → (a ≡ b) × (u ≡ v)
+pub writes_one : {o : ℕ} {request before u v : List ℕ} (a b : Result ℕ Refusal) → Writes o request before (says_written a) u → Writes o request before (says_written b) v → (a ≡ b) × (u ≡ v)
 writes_one {request = request} {before = before} a b p q =
     let e : says_written a ≡ says_written b = p.answers ∙ sym q.answers in
     (written_one a b e, p.left_is ∙ ap (λ (k : Answer ℕ). leaves k request before) e ∙ sym q.left_is)

@@ -9,7 +9,7 @@ mod reply;
 mod request;
 
 pub use reply::{
-    GetVersionReply, GetXIDListReply, GetXIDRangeReply, ListAnswer, RangeAnswer, VersionAnswer,
-    get_version_reply, get_xid_list_reply, get_xid_range_reply,
+    GetVersionReply, GetXIDListReply, GetXIDRangeReply, get_version_reply, get_xid_list_reply,
+    get_xid_range_reply,
 };
-pub use request::{Written, get_version_request, get_xid_list_request, get_xid_range_request};
+pub use request::{get_version_request, get_xid_list_request, get_xid_range_request};

@@ -9,7 +9,6 @@ ghost use Rattle.xc_misc.specs.Promises.{ReadsVersion, ReadsRange};
 
 use refusal::Refusal;
 use sequence::WireNumber;
-use x11_utils::Checked;
 
 // Where a list has its count of ids.
 const COUNT_AT: usize = 8;
@@ -40,54 +39,34 @@ pub struct GetXIDListReply {
     pub count: u32,
 }
 
-#[derive(Clone, Copy)]
-pub enum VersionAnswer {
-    Reply(GetVersionReply),
-    Refused(Refusal),
-}
-
-#[derive(Clone, Copy)]
-pub enum RangeAnswer {
-    Reply(GetXIDRangeReply),
-    Refused(Refusal),
-}
-
-#[derive(Clone, Copy)]
-pub enum ListAnswer {
-    Reply(GetXIDListReply),
-    Refused(Refusal),
-}
-
 // Refused, in this order, by 1 under 32 bytes, 2 over 65,536, 13 for another byte order, 14 where
 // the first byte isn't 1 or the reply's length passes the end of the bytes given.
-pub fn get_version_reply(order: u8, packet: &[u8]) -> VersionAnswer
+pub fn get_version_reply(order: u8, packet: &[u8]) -> Result<GetVersionReply, Refusal>
     ensures { ReadsVersion order packet.now result }
 {
-    match check_reply(order, packet) {
-        Checked::Ready => VersionAnswer::Reply(version_fields(order, packet)),
-        Checked::Refused(refusal) => VersionAnswer::Refused(refusal),
-    }
+    check_reply(order, packet)?;
+    Ok(version_fields(order, packet))
 }
 
 // Refused as get_version_reply.
-pub fn get_xid_range_reply(order: u8, packet: &[u8]) -> RangeAnswer
+pub fn get_xid_range_reply(order: u8, packet: &[u8]) -> Result<GetXIDRangeReply, Refusal>
     ensures { ReadsRange order packet.now result }
 {
-    match check_reply(order, packet) {
-        Checked::Ready => RangeAnswer::Reply(range_fields(order, packet)),
-        Checked::Refused(refusal) => RangeAnswer::Refused(refusal),
-    }
+    check_reply(order, packet)?;
+    Ok(range_fields(order, packet))
 }
 
 // The ids go to the start of ids. Refused as get_version_reply, by 14 also where the id count
 // passes the end of the bytes given, and last by 8 where ids has too few places.
-pub fn get_xid_list_reply(order: u8, packet: &[u8], ids: &mut [u32]) -> ListAnswer
+pub fn get_xid_list_reply(
+    order: u8,
+    packet: &[u8],
+    ids: &mut [u32],
+) -> Result<GetXIDListReply, Refusal>
     ensures { Lists order packet.now ids.old (says_list result) ids.new }
 {
-    match check_list(order, packet) {
-        Checked::Ready => take_list(order, packet, ids),
-        Checked::Refused(refusal) => ListAnswer::Refused(refusal),
-    }
+    check_list(order, packet)?;
+    take_list(order, packet, ids)
 }
 
 // Whether the fixed 32 bytes and units of four more are within len bytes.
@@ -98,35 +77,33 @@ fn within(len: usize, units: u32) -> bool
 }
 
 // A packet that is a reply, and holds what its length says.
-fn check_reply(order: u8, packet: &[u8]) -> Checked
+fn check_reply(order: u8, packet: &[u8]) -> Result<(), Refusal>
     ensures { says_checked result ≡ reply_checked order packet.now }
 {
-    match x11_utils::check_packet(order, packet, packet::REPLY) {
-        Checked::Ready => check_units(order, packet, packet::LENGTH),
-        Checked::Refused(refusal) => Checked::Refused(refusal),
-    }
+    x11_utils::check_packet(order, packet, packet::REPLY)?;
+    check_units(order, packet, packet::LENGTH)
 }
 
 // A reply that also holds as many ids as it says.
-fn check_list(order: u8, packet: &[u8]) -> Checked
+fn check_list(order: u8, packet: &[u8]) -> Result<(), Refusal>
     ensures { says_checked result ≡ list_checked order packet.now }
 {
-    match check_reply(order, packet) {
-        Checked::Ready => check_units(order, packet, COUNT_AT),
-        Checked::Refused(refusal) => Checked::Refused(refusal),
-    }
+    check_reply(order, packet)?;
+    check_units(order, packet, COUNT_AT)
 }
 
-fn check_units(order: u8, packet: &[u8], at: usize) -> Checked
+fn check_units(order: u8, packet: &[u8], at: usize) -> Result<(), Refusal>
     requires { at + 4 ≤ length packet.now }
     ensures { says_checked result ≡ units_checked order packet.now at }
 {
     if within(packet.len(), octets::get_u32(order, packet, at)) {
-        return Checked::Ready;
+        return Ok(());
     }
-    Checked::Refused(Refusal::BadContent)
+    Err(Refusal::BadContent)
 }
 
+// Each reply is read by its own fields, which `version_of`, `range_of` and `list_of` say; one function for
+// the three would have as many cases.
 fn version_fields(order: u8, packet: &[u8]) -> GetVersionReply
     requires { least_packet ≤ length packet.now }
     ensures { result ≡ version_of order packet.now }
@@ -136,10 +113,10 @@ fn version_fields(order: u8, packet: &[u8]) -> GetVersionReply
     let major = octets::get_u16(order, packet, 8);
     let minor = octets::get_u16(order, packet, 10);
     GetVersionReply {
-        sequence: sequence,
-        length: length,
-        major: major,
-        minor: minor,
+        sequence,
+        length,
+        major,
+        minor,
     }
 }
 
@@ -152,10 +129,10 @@ fn range_fields(order: u8, packet: &[u8]) -> GetXIDRangeReply
     let start = octets::get_u32(order, packet, 8);
     let count = octets::get_u32(order, packet, 12);
     GetXIDRangeReply {
-        sequence: sequence,
-        length: length,
-        start: start,
-        count: count,
+        sequence,
+        length,
+        start,
+        count,
     }
 }
 
@@ -167,32 +144,30 @@ fn list_fields(order: u8, packet: &[u8]) -> GetXIDListReply
     let length = octets::get_u32(order, packet, packet::LENGTH);
     let count = octets::get_u32(order, packet, COUNT_AT);
     GetXIDListReply {
-        sequence: sequence,
-        length: length,
-        count: count,
+        sequence,
+        length,
+        count,
     }
 }
 
-fn take_list(order: u8, packet: &[u8], ids: &mut [u32]) -> ListAnswer
+fn take_list(order: u8, packet: &[u8], ids: &mut [u32]) -> Result<GetXIDListReply, Refusal>
     requires { gives tt ≡ list_checked order packet.now }
     ensures { Lists order packet.now ids.old (says_list result) ids.new }
 {
     let reply = list_fields(order, packet);
     let count = reply.count as usize;
     if ids.len() < count {
-        return ListAnswer::Refused(Refusal::OutShort);
+        return Err(Refusal::OutShort);
     }
     read_ids(order, packet, count, ids);
-    ListAnswer::Reply(reply)
+    Ok(reply)
 }
 
 fn read_ids(order: u8, packet: &[u8], count: usize, ids: &mut [u32])
     requires { (least_packet + 4 * count ≤ length packet.now) × (count ≤ length ids.old) }
     ensures { ids.new ≡ put ids.old 0 (ids_of order count packet.now) }
 {
-    let mut i = 0;
-    while i < count {
+    for i in 0..count {
         ids[i] = octets::get_u32(order, packet, packet::LEAST_PACKET + 4 * i);
-        i += 1;
     }
 }

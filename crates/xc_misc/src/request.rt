@@ -12,63 +12,55 @@ const GET_XID_RANGE: u8 = 1;
 
 const GET_XID_LIST: u8 = 2;
 
-// How many bytes were written.
-#[derive(Clone, Copy)]
-pub enum Written {
-    Bytes(usize),
-    Refused(Refusal),
-}
-
 // GetVersion with the version that the client wants. opcode is the extension's own. Refused by 8
 // where out has under eight bytes, then by 13 for another byte order; bytes past the eighth stay.
-pub fn get_version_request(order: u8, opcode: u8, major: u16, minor: u16, out: &mut [u8]) -> Written
+pub fn get_version_request(
+    order: u8,
+    opcode: u8,
+    major: u16,
+    minor: u16,
+    out: &mut [u8],
+) -> Result<usize, Refusal>
     ensures { Writes order (get_version order opcode major minor) out.old (says_written result) out.new }
 {
-    match room_for(order, out.len(), 8) {
-        Written::Bytes(n) => {
-            put_version(order, opcode, major, minor, out);
-            Written::Bytes(n)
-        }
-        Written::Refused(refusal) => Written::Refused(refusal),
-    }
+    let n = room_for(order, out.len(), 8)?;
+    put_version(order, opcode, major, minor, out);
+    Ok(n)
 }
 
 // GetXIDRange. Refused as get_version_request, where out has under four bytes.
-pub fn get_xid_range_request(order: u8, opcode: u8, out: &mut [u8]) -> Written
+pub fn get_xid_range_request(order: u8, opcode: u8, out: &mut [u8]) -> Result<usize, Refusal>
     ensures { Writes order (get_xid_range order opcode) out.old (says_written result) out.new }
 {
-    match room_for(order, out.len(), 4) {
-        Written::Bytes(n) => {
-            put_header(order, opcode, GET_XID_RANGE, 1, out);
-            Written::Bytes(n)
-        }
-        Written::Refused(refusal) => Written::Refused(refusal),
-    }
+    let n = room_for(order, out.len(), 4)?;
+    put_header(order, opcode, GET_XID_RANGE, 1, out);
+    Ok(n)
 }
 
 // GetXIDList for count ids. Refused as get_version_request.
-pub fn get_xid_list_request(order: u8, opcode: u8, count: u32, out: &mut [u8]) -> Written
+pub fn get_xid_list_request(
+    order: u8,
+    opcode: u8,
+    count: u32,
+    out: &mut [u8],
+) -> Result<usize, Refusal>
     ensures { Writes order (get_xid_list order opcode count) out.old (says_written result) out.new }
 {
-    match room_for(order, out.len(), 8) {
-        Written::Bytes(n) => {
-            put_list(order, opcode, count, out);
-            Written::Bytes(n)
-        }
-        Written::Refused(refusal) => Written::Refused(refusal),
-    }
+    let n = room_for(order, out.len(), 8)?;
+    put_list(order, opcode, count, out);
+    Ok(n)
 }
 
-fn room_for(order: u8, have: usize, need: usize) -> Written
+fn room_for(order: u8, have: usize, need: usize) -> Result<usize, Refusal>
     ensures { says_written result ≡ room_for order have need }
 {
     if have < need {
-        return Written::Refused(Refusal::OutShort);
+        return Err(Refusal::OutShort);
     }
     if !octets::is_legal(order) {
-        return Written::Refused(Refusal::BadOrder);
+        return Err(Refusal::BadOrder);
     }
-    Written::Bytes(need)
+    Ok(need)
 }
 
 fn put_header(order: u8, opcode: u8, minor: u8, units: u16, out: &mut [u8])

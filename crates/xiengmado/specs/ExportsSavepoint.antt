@@ -1,5 +1,5 @@
 -- THE PROMISES of the exports of savepoints, written as those of `Exports`, and that any two outcomes are equal. Assumes nothing.
-use Rattle.std.specs.Prelude.{◌≡◌, refl, Bool, true, false, not, List, [], ◌∷◌, ℕ, eqb, length}
+use Rattle.std.specs.Prelude.{◌≡◌, refl, Bool, true, false, not, List, [], ◌∷◌, ℕ, eqb, length, Result}
 use Rattle.std.proofs.Common.{sym, ap, subst, ◌∙◌, eq-eqb}
 use Rattle.octets.specs.Logic.{both, both_on}
 use Rattle.refusal.specs.Answer.{Answer, gives, refuses, refuse, pass}
@@ -8,11 +8,11 @@ use Rattle.model.specs.Reading.{Rooms, rooms}
 use Rattle.savepoint.specs.Saved.{Saved, decode}
 use Rattle.savepoint.specs.Calls.{Laid, laid, Measures, Saves, Restores, Values, fitting, placed, restored, values_of, rooms_after, buffer_after}
 use Rattle.saving.specs.declared.Client.{Client}
-use Rattle.saving.specs.declared.Restored.{Restored}
 use Rattle.saving.specs.Says.{says_restored}
 use Rattle.rows.specs.State.{connection_slots, three_slots, connection_of, connection_row, reader_of, reader_row, ids_of, ids_row}
 use Rattle.answers.specs.Exported.{Exported, returned, shown_of, shown_at, exported_one, exported_left}
 use Rattle.answers.specs.Shown.{number}
+use Rattle.refusal.specs.declared.Refusal.{Refusal}
 
 -- the client of three rows, and with the rooms and the buffer
 abbrev pub client_in : (state reader ids : List ℕ) → Client
@@ -154,10 +154,10 @@ restores_off {bytes} slots {requests = requests} {store = store} {buf = buf} h p
     restores_given (restored_unfit (decode bytes) requests store (rooms requests store slots) buf ∙ ap (λ (t : Bool). restored_in t bytes (rooms requests store slots) buf) h) p g
 
 -- Rows given by the case of an answer.
-pub gives_at : {e k : Restored} {state reader ids state' reader' ids' : List ℕ} {r : ℕ} → e ≡ k → r ≡ returned (says_restored k) → state' ≡ shown_of (λ v. connection_row state v.0) (says_restored k) state
+pub gives_at : {e k : Result Client Refusal} {state reader ids state' reader' ids' : List ℕ} {r : ℕ} → e ≡ k → r ≡ returned (says_restored k) → state' ≡ shown_of (λ v. connection_row state v.0) (says_restored k) state
     → reader' ≡ shown_of (λ v. reader_row reader v.1.0) (says_restored k) reader → ids' ≡ shown_of (λ v. ids_row ids v.1.1) (says_restored k) ids → GivesRows (says_restored e) state reader ids state' reader' ids' r
 gives_at {k = k} {state = state} {reader = reader} {ids = ids} {state' = state'} {reader' = reader'} {ids' = ids'} {r = r} q n c p a =
-    subst (λ (x : Restored). GivesRows (says_restored x) state reader ids state' reader' ids' r) (sym q) (record { returns = n; connection = c; packets = p; allocator = a })
+    subst (λ (x : Result Client Refusal). GivesRows (says_restored x) state reader ids state' reader' ids' r) (sym q) (record { returns = n; connection = c; packets = p; allocator = a })
 
 -- The test of the rows, once its last part is left.
 pub fit_last : (state reader ids : List ℕ) → length state ≡ connection_slots → length reader ≡ three_slots → eqb (length ids) three_slots ≡ rows_fit state reader ids

@@ -1,8 +1,10 @@
 // `connection`: the public calls that make many steps. What stopped one is a number: 0 for the end,
 // that of the refusal of the next step, 255 for a byte that is no kind, or 254 for part of a packet.
+ghost use Rattle.answers.specs.Exported.{returned_of};
 ghost use Rattle.xiengmado.specs.Exports.{XmSendRequests, XmEnqueuePackets, XmPollForEvents};
 
 use answers::{give_events, give_fed, give_sent_many};
+use refusal::Refusal;
 
 // How many were sent, the last number written and what stopped it.
 pub fn xm_send_requests(
@@ -14,8 +16,8 @@ pub fn xm_send_requests(
     count: &mut usize,
     number: &mut u64,
     stop: &mut u32,
-) -> u32
-    ensures { XmSendRequests state.old requests.old store.now slots.now kinds.now count.old number.old stop.old state.new requests.new count.new number.new stop.new result }
+) -> Result<(), Refusal>
+    ensures { XmSendRequests state.old requests.old store.now slots.now kinds.now count.old number.old stop.old state.new requests.new count.new number.new stop.new (returned_of result) }
 {
     let now = rows::connection(state);
     let answer = connection::send_requests(now, requests, store, slots, kinds);
@@ -32,8 +34,8 @@ pub fn xm_enqueue_packets(
     size: &mut usize,
     count: &mut usize,
     stop: &mut u32,
-) -> u32
-    ensures { XmEnqueuePackets state.old requests.now store.old slots.old bytes.now size.old count.old stop.old state.new store.new slots.new size.new count.new stop.new result }
+) -> Result<(), Refusal>
+    ensures { XmEnqueuePackets state.old requests.now store.old slots.old bytes.now size.old count.old stop.old state.new store.new slots.new size.new count.new stop.new (returned_of result) }
 {
     let now = rows::connection(state);
     let answer = connection::enqueue_packets(now, requests, store, slots, bytes);
@@ -51,8 +53,8 @@ pub fn xm_poll_for_events(
     count: &mut usize,
     size: &mut usize,
     stop: &mut u32,
-) -> u32
-    ensures { XmPollForEvents state.old requests.now store.old slots.now out.old marks.old count.old size.old stop.old state.new store.new out.new marks.new count.new size.new stop.new result }
+) -> Result<(), Refusal>
+    ensures { XmPollForEvents state.old requests.now store.old slots.now out.old marks.old count.old size.old stop.old state.new store.new out.new marks.new count.new size.new stop.new (returned_of result) }
 {
     let now = rows::connection(state);
     let answer = connection::poll_for_events(now, requests, store, slots, out, marks);

@@ -1,8 +1,8 @@
 // `xc_misc`: three requests and three replies.
+ghost use Rattle.answers.specs.Exported.{returned_of};
 ghost use Rattle.xiengmado.specs.ExportsLeaves.{XmXcMiscGetVersionRequest, XmXcMiscGetXidRangeRequest, XmXcMiscGetXidListRequest, XmXcMiscGetVersionReply, XmXcMiscGetXidRangeReply, XmXcMiscGetXidListReply};
 
-use answers::{DONE, code};
-use xc_misc::{ListAnswer, RangeAnswer, VersionAnswer, Written};
+use refusal::Refusal;
 
 pub fn xm_xc_misc_get_version_request(
     order: u8,
@@ -11,17 +11,11 @@ pub fn xm_xc_misc_get_version_request(
     minor: u16,
     out: &mut [u8],
     size: &mut usize,
-) -> u32
-    ensures { XmXcMiscGetVersionRequest order opcode major minor out.old size.old out.new size.new result }
+) -> Result<(), Refusal>
+    ensures { XmXcMiscGetVersionRequest order opcode major minor out.old size.old out.new size.new (returned_of result) }
 {
-    let answer = xc_misc::get_version_request(order, opcode, major, minor, out);
-    match answer {
-        Written::Bytes(n) => {
-            *size = n;
-            DONE
-        }
-        Written::Refused(refusal) => code(refusal),
-    }
+    *size = xc_misc::get_version_request(order, opcode, major, minor, out)?;
+    Ok(())
 }
 
 pub fn xm_xc_misc_get_xid_range_request(
@@ -29,17 +23,11 @@ pub fn xm_xc_misc_get_xid_range_request(
     opcode: u8,
     out: &mut [u8],
     size: &mut usize,
-) -> u32
-    ensures { XmXcMiscGetXidRangeRequest order opcode out.old size.old out.new size.new result }
+) -> Result<(), Refusal>
+    ensures { XmXcMiscGetXidRangeRequest order opcode out.old size.old out.new size.new (returned_of result) }
 {
-    let answer = xc_misc::get_xid_range_request(order, opcode, out);
-    match answer {
-        Written::Bytes(n) => {
-            *size = n;
-            DONE
-        }
-        Written::Refused(refusal) => code(refusal),
-    }
+    *size = xc_misc::get_xid_range_request(order, opcode, out)?;
+    Ok(())
 }
 
 pub fn xm_xc_misc_get_xid_list_request(
@@ -48,17 +36,11 @@ pub fn xm_xc_misc_get_xid_list_request(
     count: u32,
     out: &mut [u8],
     size: &mut usize,
-) -> u32
-    ensures { XmXcMiscGetXidListRequest order opcode count out.old size.old out.new size.new result }
+) -> Result<(), Refusal>
+    ensures { XmXcMiscGetXidListRequest order opcode count out.old size.old out.new size.new (returned_of result) }
 {
-    let answer = xc_misc::get_xid_list_request(order, opcode, count, out);
-    match answer {
-        Written::Bytes(n) => {
-            *size = n;
-            DONE
-        }
-        Written::Refused(refusal) => code(refusal),
-    }
+    *size = xc_misc::get_xid_list_request(order, opcode, count, out)?;
+    Ok(())
 }
 
 pub fn xm_xc_misc_get_version_reply(
@@ -68,21 +50,15 @@ pub fn xm_xc_misc_get_version_reply(
     length: &mut u32,
     major: &mut u16,
     minor: &mut u16,
-) -> u32
-    ensures { XmXcMiscGetVersionReply order packet.now sequence.old length.old major.old minor.old sequence.new length.new major.new minor.new result }
+) -> Result<(), Refusal>
+    ensures { XmXcMiscGetVersionReply order packet.now sequence.old length.old major.old minor.old sequence.new length.new major.new minor.new (returned_of result) }
 {
-    let answer = xc_misc::get_version_reply(order, packet);
-    match answer {
-        VersionAnswer::Reply(reply) => {
-            let wire = reply.sequence;
-            *sequence = wire.0;
-            *length = reply.length;
-            *major = reply.major;
-            *minor = reply.minor;
-            DONE
-        }
-        VersionAnswer::Refused(refusal) => code(refusal),
-    }
+    let reply = xc_misc::get_version_reply(order, packet)?;
+    *sequence = reply.sequence.0;
+    *length = reply.length;
+    *major = reply.major;
+    *minor = reply.minor;
+    Ok(())
 }
 
 pub fn xm_xc_misc_get_xid_range_reply(
@@ -92,21 +68,15 @@ pub fn xm_xc_misc_get_xid_range_reply(
     length: &mut u32,
     start: &mut u32,
     count: &mut u32,
-) -> u32
-    ensures { XmXcMiscGetXidRangeReply order packet.now sequence.old length.old start.old count.old sequence.new length.new start.new count.new result }
+) -> Result<(), Refusal>
+    ensures { XmXcMiscGetXidRangeReply order packet.now sequence.old length.old start.old count.old sequence.new length.new start.new count.new (returned_of result) }
 {
-    let answer = xc_misc::get_xid_range_reply(order, packet);
-    match answer {
-        RangeAnswer::Reply(reply) => {
-            let wire = reply.sequence;
-            *sequence = wire.0;
-            *length = reply.length;
-            *start = reply.start;
-            *count = reply.count;
-            DONE
-        }
-        RangeAnswer::Refused(refusal) => code(refusal),
-    }
+    let reply = xc_misc::get_xid_range_reply(order, packet)?;
+    *sequence = reply.sequence.0;
+    *length = reply.length;
+    *start = reply.start;
+    *count = reply.count;
+    Ok(())
 }
 
 pub fn xm_xc_misc_get_xid_list_reply(
@@ -116,18 +86,12 @@ pub fn xm_xc_misc_get_xid_list_reply(
     sequence: &mut u16,
     length: &mut u32,
     count: &mut u32,
-) -> u32
-    ensures { XmXcMiscGetXidListReply order packet.now ids.old sequence.old length.old count.old ids.new sequence.new length.new count.new result }
+) -> Result<(), Refusal>
+    ensures { XmXcMiscGetXidListReply order packet.now ids.old sequence.old length.old count.old ids.new sequence.new length.new count.new (returned_of result) }
 {
-    let answer = xc_misc::get_xid_list_reply(order, packet, ids);
-    match answer {
-        ListAnswer::Reply(reply) => {
-            let wire = reply.sequence;
-            *sequence = wire.0;
-            *length = reply.length;
-            *count = reply.count;
-            DONE
-        }
-        ListAnswer::Refused(refusal) => code(refusal),
-    }
+    let reply = xc_misc::get_xid_list_reply(order, packet, ids)?;
+    *sequence = reply.sequence.0;
+    *length = reply.length;
+    *count = reply.count;
+    Ok(())
 }

@@ -1,32 +1,29 @@
 // `sequence`: the number of a packet, and that of a request.
+ghost use Rattle.answers.specs.Exported.{returned_of};
 ghost use Rattle.xiengmado.specs.ExportsLeaves.{XmFullNumber, XmSend};
 
-use answers::{DONE, code};
-use sequence::{Full, Sent, SequenceNumber, WireNumber};
+use refusal::Refusal;
+use sequence::{SequenceNumber, WireNumber};
 
-pub fn xm_full_number(read: u64, wire: u16, number: &mut u64) -> u32
-    ensures { XmFullNumber read wire number.old number.new result }
+pub fn xm_full_number(read: u64, wire: u16, number: &mut u64) -> Result<(), Refusal>
+    ensures { XmFullNumber read wire number.old number.new (returned_of result) }
 {
-    let answer = sequence::full_number(SequenceNumber(read), WireNumber(wire));
-    match answer {
-        Full::Number(full) => {
-            *number = full.0;
-            DONE
-        }
-        Full::Refused(refusal) => code(refusal),
-    }
+    let full = sequence::full_number(SequenceNumber(read), WireNumber(wire))?;
+    *number = full.0;
+    Ok(())
 }
 
-pub fn xm_send(written: u64, expected: u64, reply: bool, number: &mut u64, next: &mut u64) -> u32
-    ensures { XmSend written expected reply number.old next.old number.new next.new result }
+pub fn xm_send(
+    written: u64,
+    expected: u64,
+    reply: bool,
+    number: &mut u64,
+    next: &mut u64,
+) -> Result<(), Refusal>
+    ensures { XmSend written expected reply number.old next.old number.new next.new (returned_of result) }
 {
-    let answer = sequence::send(SequenceNumber(written), SequenceNumber(expected), reply);
-    match answer {
-        Sent::Number(sent, then) => {
-            *number = sent.0;
-            *next = then.0;
-            DONE
-        }
-        Sent::Refused(refusal) => code(refusal),
-    }
+    let sent = sequence::send(SequenceNumber(written), SequenceNumber(expected), reply)?;
+    *number = sent.number.0;
+    *next = sent.expected.0;
+    Ok(())
 }

@@ -1,6 +1,8 @@
 // `connection`: the public calls, over a state in sixteen lent numbers and the three rooms.
 ghost use Rattle.xiengmado.specs.Exports.{XmConnectionNew, XmSendRequest, XmDiscardReply, XmEnqueueFds, XmEnqueuePacket, XmPollForReplyOrError, XmPollCheckForReplyOrError, XmPollForReply, XmPollForEventWithSequence, XmTakeClosedFds, XmPrepareCheckForReplyOrError};
 
+use answers::returned;
+
 #[unsafe(no_mangle)]
 pub extern "C" fn xm_connection_new(
     state: &mut [u64],
@@ -11,7 +13,7 @@ pub extern "C" fn xm_connection_new(
 ) -> u32
     ensures { XmConnectionNew state.old order requests.now store.now slots.now state.new result }
 {
-    xiengmado::client::xm_connection_new(state, order, requests, store, slots)
+    returned(xiengmado::client::xm_connection_new(state, order, requests, store, slots))
 }
 
 #[unsafe(no_mangle)]
@@ -25,7 +27,7 @@ pub extern "C" fn xm_send_request(
 ) -> u32
     ensures { XmSendRequest state.old requests.old store.now slots.now kind number.old state.new requests.new number.new result }
 {
-    xiengmado::client::xm_send_request(state, requests, store, slots, kind, number)
+    returned(xiengmado::client::xm_send_request(state, requests, store, slots, kind, number))
 }
 
 #[unsafe(no_mangle)]
@@ -39,7 +41,7 @@ pub extern "C" fn xm_discard_reply(
 ) -> u32
     ensures { XmDiscardReply state.old requests.old store.old slots.old number mode state.new requests.new store.new slots.new result }
 {
-    xiengmado::client::xm_discard_reply(state, requests, store, slots, number, mode)
+    returned(xiengmado::client::xm_discard_reply(state, requests, store, slots, number, mode))
 }
 
 #[unsafe(no_mangle)]
@@ -52,7 +54,7 @@ pub extern "C" fn xm_enqueue_fds(
 ) -> u32
     ensures { XmEnqueueFds state.old requests.now store.now slots.old list.now state.new slots.new result }
 {
-    xiengmado::client::xm_enqueue_fds(state, requests, store, slots, list)
+    returned(xiengmado::client::xm_enqueue_fds(state, requests, store, slots, list))
 }
 
 #[unsafe(no_mangle)]
@@ -68,9 +70,9 @@ pub extern "C" fn xm_enqueue_packet(
 ) -> u32
     ensures { XmEnqueuePacket state.old requests.now store.old slots.old packet.now place.old number.old class.old state.new store.new slots.new place.new number.new class.new result }
 {
-    xiengmado::client::xm_enqueue_packet(
+    returned(xiengmado::client::xm_enqueue_packet(
         state, requests, store, slots, packet, place, number, class,
-    )
+    ))
 }
 
 #[unsafe(no_mangle)]
@@ -89,9 +91,9 @@ pub extern "C" fn xm_poll_for_reply_or_error(
 ) -> u32
     ensures { XmPollForReplyOrError state.old requests.now store.old slots.old number out.old fds.old found.old size.old count.old class.old state.new store.new slots.new out.new fds.new found.new size.new count.new class.new result }
 {
-    xiengmado::client::xm_poll_for_reply_or_error(
+    returned(xiengmado::client::xm_poll_for_reply_or_error(
         state, requests, store, slots, number, out, fds, found, size, count, class,
-    )
+    ))
 }
 
 #[unsafe(no_mangle)]
@@ -108,9 +110,9 @@ pub extern "C" fn xm_poll_check_for_reply_or_error(
 ) -> u32
     ensures { XmPollCheckForReplyOrError state.old requests.now store.old slots.old number out.old res.old size.old class.old state.new store.new slots.new out.new res.new size.new class.new result }
 {
-    xiengmado::client::xm_poll_check_for_reply_or_error(
+    returned(xiengmado::client::xm_poll_check_for_reply_or_error(
         state, requests, store, slots, number, out, res, size, class,
-    )
+    ))
 }
 
 #[unsafe(no_mangle)]
@@ -127,9 +129,9 @@ pub extern "C" fn xm_poll_for_reply(
 ) -> u32
     ensures { XmPollForReply state.old requests.now store.old slots.old number out.old res.old size.old class.old state.new store.new slots.new out.new res.new size.new class.new result }
 {
-    xiengmado::client::xm_poll_for_reply(
+    returned(xiengmado::client::xm_poll_for_reply(
         state, requests, store, slots, number, out, res, size, class,
-    )
+    ))
 }
 
 #[unsafe(no_mangle)]
@@ -146,9 +148,9 @@ pub extern "C" fn xm_poll_for_event_with_sequence(
 ) -> u32
     ensures { XmPollForEventWithSequence state.old requests.now store.old slots.now out.old found.old number.old size.old class.old state.new store.new out.new found.new number.new size.new class.new result }
 {
-    xiengmado::client::xm_poll_for_event_with_sequence(
+    returned(xiengmado::client::xm_poll_for_event_with_sequence(
         state, requests, store, slots, out, found, number, size, class,
-    )
+    ))
 }
 
 #[unsafe(no_mangle)]
@@ -162,7 +164,7 @@ pub extern "C" fn xm_take_closed_fds(
 ) -> u32
     ensures { XmTakeClosedFds state.old requests.now store.now slots.old out.old count.old state.new slots.new out.new count.new result }
 {
-    xiengmado::client::xm_take_closed_fds(state, requests, store, slots, out, count)
+    returned(xiengmado::client::xm_take_closed_fds(state, requests, store, slots, out, count))
 }
 
 #[unsafe(no_mangle)]
@@ -176,7 +178,7 @@ pub extern "C" fn xm_prepare_check_for_reply_or_error(
 ) -> u32
     ensures { XmPrepareCheckForReplyOrError state.now requests.now store.now slots.now number sync.old sync.new result }
 {
-    xiengmado::client::xm_prepare_check_for_reply_or_error(
+    returned(xiengmado::client::xm_prepare_check_for_reply_or_error(
         state, requests, store, slots, number, sync,
-    )
+    ))
 }

@@ -1,6 +1,8 @@
 // `setup_request`, and `connect`: a handshake in three lent numbers beside its buffer.
 ghost use Rattle.xiengmado.specs.ExportsHandshake.{XmSetupRequest, XmConnectNew, XmConnectRemainingCapacity, XmConnectBuffer, XmConnectAdvance, XmConnectSetup, XmConnectVendor, XmConnectReason};
 
+use answers::returned;
+
 #[unsafe(no_mangle)]
 pub extern "C" fn xm_setup_request(
     order: u8,
@@ -11,14 +13,14 @@ pub extern "C" fn xm_setup_request(
 ) -> u32
     ensures { XmSetupRequest order name.now auth.now out.old size.old out.new size.new result }
 {
-    xiengmado::handshake::xm_setup_request(order, name, auth, out, size)
+    returned(xiengmado::handshake::xm_setup_request(order, name, auth, out, size))
 }
 
 #[unsafe(no_mangle)]
 pub extern "C" fn xm_connect_new(connect: &mut [u64], order: u8, buf: &[u8]) -> u32
     ensures { XmConnectNew connect.old order buf.now connect.new result }
 {
-    xiengmado::handshake::xm_connect_new(connect, order, buf)
+    returned(xiengmado::handshake::xm_connect_new(connect, order, buf))
 }
 
 #[unsafe(no_mangle)]
@@ -29,7 +31,7 @@ pub extern "C" fn xm_connect_remaining_capacity(
 ) -> u32
     ensures { XmConnectRemainingCapacity connect.now buf.now size.old size.new result }
 {
-    xiengmado::handshake::xm_connect_remaining_capacity(connect, buf, size)
+    returned(xiengmado::handshake::xm_connect_remaining_capacity(connect, buf, size))
 }
 
 #[unsafe(no_mangle)]
@@ -41,7 +43,7 @@ pub extern "C" fn xm_connect_buffer(
 ) -> u32
     ensures { XmConnectBuffer connect.now buf.now start.old size.old start.new size.new result }
 {
-    xiengmado::handshake::xm_connect_buffer(connect, buf, start, size)
+    returned(xiengmado::handshake::xm_connect_buffer(connect, buf, start, size))
 }
 
 #[unsafe(no_mangle)]
@@ -53,7 +55,7 @@ pub extern "C" fn xm_connect_advance(
 ) -> u32
     ensures { XmConnectAdvance connect.old buf.now amount complete.old connect.new complete.new result }
 {
-    xiengmado::handshake::xm_connect_advance(connect, buf, amount, complete)
+    returned(xiengmado::handshake::xm_connect_advance(connect, buf, amount, complete))
 }
 
 #[unsafe(no_mangle)]
@@ -65,7 +67,7 @@ pub extern "C" fn xm_connect_setup(
 ) -> u32
     ensures { XmConnectSetup connect.now buf.now status.old fields.old status.new fields.new result }
 {
-    xiengmado::handshake::xm_connect_setup(connect, buf, status, fields)
+    returned(xiengmado::handshake::xm_connect_setup(connect, buf, status, fields))
 }
 
 #[unsafe(no_mangle)]
@@ -77,7 +79,7 @@ pub extern "C" fn xm_connect_vendor(
 ) -> u32
     ensures { XmConnectVendor connect.now buf.now start.old size.old start.new size.new result }
 {
-    xiengmado::handshake::xm_connect_vendor(connect, buf, start, size)
+    returned(xiengmado::handshake::xm_connect_vendor(connect, buf, start, size))
 }
 
 #[unsafe(no_mangle)]
@@ -89,5 +91,5 @@ pub extern "C" fn xm_connect_reason(
 ) -> u32
     ensures { XmConnectReason connect.now buf.now start.old size.old start.new size.new result }
 {
-    xiengmado::handshake::xm_connect_reason(connect, buf, start, size)
+    returned(xiengmado::handshake::xm_connect_reason(connect, buf, start, size))
 }

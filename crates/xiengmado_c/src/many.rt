@@ -1,6 +1,8 @@
 // `connection`: the public calls that make many steps.
 ghost use Rattle.xiengmado.specs.Exports.{XmSendRequests, XmEnqueuePackets, XmPollForEvents};
 
+use answers::returned;
+
 #[unsafe(no_mangle)]
 pub extern "C" fn xm_send_requests(
     state: &mut [u64],
@@ -14,7 +16,9 @@ pub extern "C" fn xm_send_requests(
 ) -> u32
     ensures { XmSendRequests state.old requests.old store.now slots.now kinds.now count.old number.old stop.old state.new requests.new count.new number.new stop.new result }
 {
-    xiengmado::many::xm_send_requests(state, requests, store, slots, kinds, count, number, stop)
+    returned(xiengmado::many::xm_send_requests(
+        state, requests, store, slots, kinds, count, number, stop,
+    ))
 }
 
 #[unsafe(no_mangle)]
@@ -30,7 +34,9 @@ pub extern "C" fn xm_enqueue_packets(
 ) -> u32
     ensures { XmEnqueuePackets state.old requests.now store.old slots.old bytes.now size.old count.old stop.old state.new store.new slots.new size.new count.new stop.new result }
 {
-    xiengmado::many::xm_enqueue_packets(state, requests, store, slots, bytes, size, count, stop)
+    returned(xiengmado::many::xm_enqueue_packets(
+        state, requests, store, slots, bytes, size, count, stop,
+    ))
 }
 
 #[unsafe(no_mangle)]
@@ -47,7 +53,7 @@ pub extern "C" fn xm_poll_for_events(
 ) -> u32
     ensures { XmPollForEvents state.old requests.now store.old slots.now out.old marks.old count.old size.old stop.old state.new store.new out.new marks.new count.new size.new stop.new result }
 {
-    xiengmado::many::xm_poll_for_events(
+    returned(xiengmado::many::xm_poll_for_events(
         state, requests, store, slots, out, marks, count, size, stop,
-    )
+    ))
 }

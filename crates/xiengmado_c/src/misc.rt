@@ -1,6 +1,8 @@
 // `xc_misc`: three requests and three replies.
 ghost use Rattle.xiengmado.specs.ExportsLeaves.{XmXcMiscGetVersionRequest, XmXcMiscGetXidRangeRequest, XmXcMiscGetXidListRequest, XmXcMiscGetVersionReply, XmXcMiscGetXidRangeReply, XmXcMiscGetXidListReply};
 
+use answers::returned;
+
 #[unsafe(no_mangle)]
 pub extern "C" fn xm_xc_misc_get_version_request(
     order: u8,
@@ -12,7 +14,9 @@ pub extern "C" fn xm_xc_misc_get_version_request(
 ) -> u32
     ensures { XmXcMiscGetVersionRequest order opcode major minor out.old size.old out.new size.new result }
 {
-    xiengmado::misc::xm_xc_misc_get_version_request(order, opcode, major, minor, out, size)
+    returned(xiengmado::misc::xm_xc_misc_get_version_request(
+        order, opcode, major, minor, out, size,
+    ))
 }
 
 #[unsafe(no_mangle)]
@@ -24,7 +28,7 @@ pub extern "C" fn xm_xc_misc_get_xid_range_request(
 ) -> u32
     ensures { XmXcMiscGetXidRangeRequest order opcode out.old size.old out.new size.new result }
 {
-    xiengmado::misc::xm_xc_misc_get_xid_range_request(order, opcode, out, size)
+    returned(xiengmado::misc::xm_xc_misc_get_xid_range_request(order, opcode, out, size))
 }
 
 #[unsafe(no_mangle)]
@@ -37,7 +41,7 @@ pub extern "C" fn xm_xc_misc_get_xid_list_request(
 ) -> u32
     ensures { XmXcMiscGetXidListRequest order opcode count out.old size.old out.new size.new result }
 {
-    xiengmado::misc::xm_xc_misc_get_xid_list_request(order, opcode, count, out, size)
+    returned(xiengmado::misc::xm_xc_misc_get_xid_list_request(order, opcode, count, out, size))
 }
 
 #[unsafe(no_mangle)]
@@ -51,7 +55,9 @@ pub extern "C" fn xm_xc_misc_get_version_reply(
 ) -> u32
     ensures { XmXcMiscGetVersionReply order packet.now sequence.old length.old major.old minor.old sequence.new length.new major.new minor.new result }
 {
-    xiengmado::misc::xm_xc_misc_get_version_reply(order, packet, sequence, length, major, minor)
+    returned(xiengmado::misc::xm_xc_misc_get_version_reply(
+        order, packet, sequence, length, major, minor,
+    ))
 }
 
 #[unsafe(no_mangle)]
@@ -65,7 +71,9 @@ pub extern "C" fn xm_xc_misc_get_xid_range_reply(
 ) -> u32
     ensures { XmXcMiscGetXidRangeReply order packet.now sequence.old length.old start.old count.old sequence.new length.new start.new count.new result }
 {
-    xiengmado::misc::xm_xc_misc_get_xid_range_reply(order, packet, sequence, length, start, count)
+    returned(xiengmado::misc::xm_xc_misc_get_xid_range_reply(
+        order, packet, sequence, length, start, count,
+    ))
 }
 
 #[unsafe(no_mangle)]
@@ -79,5 +87,7 @@ pub extern "C" fn xm_xc_misc_get_xid_list_reply(
 ) -> u32
     ensures { XmXcMiscGetXidListReply order packet.now ids.old sequence.old length.old count.old ids.new sequence.new length.new count.new result }
 {
-    xiengmado::misc::xm_xc_misc_get_xid_list_reply(order, packet, ids, sequence, length, count)
+    returned(xiengmado::misc::xm_xc_misc_get_xid_list_reply(
+        order, packet, ids, sequence, length, count,
+    ))
 }

@@ -1,11 +1,13 @@
 // `x11_utils`: what a packet must be, and the fields of an error.
 ghost use Rattle.xiengmado.specs.ExportsLeaves.{XmCheckPacket, XmError};
 
+use answers::returned;
+
 #[unsafe(no_mangle)]
 pub extern "C" fn xm_check_packet(order: u8, packet: &[u8], first: u8) -> u32
     ensures { XmCheckPacket order packet.now first result }
 {
-    xiengmado::packets::xm_check_packet(order, packet, first)
+    returned(xiengmado::packets::xm_check_packet(order, packet, first))
 }
 
 #[unsafe(no_mangle)]
@@ -20,5 +22,5 @@ pub extern "C" fn xm_error(
 ) -> u32
     ensures { XmError order packet.now error.old sequence.old value.old minor.old major.old error.new sequence.new value.new minor.new major.new result }
 {
-    xiengmado::packets::xm_error(order, packet, error, sequence, value, minor, major)
+    returned(xiengmado::packets::xm_error(order, packet, error, sequence, value, minor, major))
 }

@@ -1,6 +1,8 @@
 // What the rooms of a connection hold, read without a state.
 ghost use Rattle.xiengmado.specs.Exports.{XmRequestAt, XmRecordAt};
 
+use answers::returned;
+
 #[unsafe(no_mangle)]
 pub extern "C" fn xm_request_at(
     requests: &[u8],
@@ -10,7 +12,7 @@ pub extern "C" fn xm_request_at(
 ) -> u32
     ensures { XmRequestAt requests.now number descriptors.old mode.old descriptors.new mode.new result }
 {
-    xiengmado::rooms::xm_request_at(requests, number, descriptors, mode)
+    returned(xiengmado::rooms::xm_request_at(requests, number, descriptors, mode))
 }
 
 #[unsafe(no_mangle)]
@@ -25,5 +27,5 @@ pub extern "C" fn xm_record_at(
 ) -> u32
     ensures { XmRecordAt store.now at end kind.old number.old size.old count.old kind.new number.new size.new count.new result }
 {
-    xiengmado::rooms::xm_record_at(store, at, end, kind, number, size, count)
+    returned(xiengmado::rooms::xm_record_at(store, at, end, kind, number, size, count))
 }

@@ -1,6 +1,8 @@
 // `saving`: a client written to bytes and read back.
 ghost use Rattle.xiengmado.specs.ExportsSavepoint.{XmSavepointLength, XmSave, XmRestore};
 
+use answers::returned;
+
 #[unsafe(no_mangle)]
 pub extern "C" fn xm_savepoint_length(
     state: &[u64],
@@ -14,9 +16,9 @@ pub extern "C" fn xm_savepoint_length(
 ) -> u32
     ensures { XmSavepointLength state.now requests.now store.now slots.now reader.now buf.now ids.now length.old length.new result }
 {
-    xiengmado::savepoints::xm_savepoint_length(
+    returned(xiengmado::savepoints::xm_savepoint_length(
         state, requests, store, slots, reader, buf, ids, length,
-    )
+    ))
 }
 
 #[unsafe(no_mangle)]
@@ -33,7 +35,9 @@ pub extern "C" fn xm_save(
 ) -> u32
     ensures { XmSave state.now requests.now store.now slots.now reader.now buf.now ids.now out.old length.old out.new length.new result }
 {
-    xiengmado::savepoints::xm_save(state, requests, store, slots, reader, buf, ids, out, length)
+    returned(xiengmado::savepoints::xm_save(
+        state, requests, store, slots, reader, buf, ids, out, length,
+    ))
 }
 
 #[unsafe(no_mangle)]
@@ -49,5 +53,7 @@ pub extern "C" fn xm_restore(
 ) -> u32
     ensures { XmRestore bytes.now state.old requests.old store.old slots.now reader.old buf.old ids.old state.new requests.new store.new reader.new buf.new ids.new result }
 {
-    xiengmado::savepoints::xm_restore(bytes, state, requests, store, slots, reader, buf, ids)
+    returned(xiengmado::savepoints::xm_restore(
+        bytes, state, requests, store, slots, reader, buf, ids,
+    ))
 }

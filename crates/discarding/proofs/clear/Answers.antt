@@ -1,5 +1,5 @@
 use Rattle.std.proofs.Common.{sym, ◌∙◌}
-use Rattle.discarding.specs.Steps.{clear_error, clear_reply, clear_any}
+use Rattle.discarding.specs.Steps.{clear_error, clear_reply}
 use Rattle.discarding.proofs.clear.Goals as goal
 
 pub returns-then-is_error : goal.returns-then-is_error
@@ -7,6 +7,3 @@ returns-then-is_error c = clear_error _ _ _ _ c.in-DiscardReply.is _ _ c.class_a
 
 pub returns-else-is_error : goal.returns-else-is_error
 returns-else-is_error c = clear_reply _ _ _ _ c.in-DiscardReply.is _ _ _ c.class_at.ensures (sym c.is_error.ensures ∙ c.if-is_error.false) c.remove.ensures
-
-pub returns-in-DiscardReplyAndError : goal.returns-in-DiscardReplyAndError
-returns-in-DiscardReplyAndError c = clear_any _ _ _ _ c.in-DiscardReplyAndError.is _ _ c.remove-in-DiscardReplyAndError.ensures

@@ -8,4 +8,4 @@ pub returns-then-c-number : goal.returns-then-c-number
 returns-then-c-number c = mode_past _ _ _ _ c.if-number-c.false c.if-c-number.true
 
 pub returns : goal.returns
-returns c = mode_set_lem _ _ _ _ _ _ c.if-number-c.false c.if-c-number.false c.mode_of.ensures c.put_mode.ensures
+returns c = mode_set_lem _ _ _ _ _ _ c.if-number-c.false c.if-c-number.false c.from.ensures c.put_mode.ensures

@@ -9,11 +9,11 @@ pub returns-then-not-is_reply : goal.returns-then-not-is_reply
 unfolding claimed choose both
 returns-then-not-is_reply c = simp (ap is_reply (sym c.requires.1) ∙ sym c.is_reply.ensures ∙ c.if-not-is_reply.true)
 
-pub returns-in-Nobody : goal.returns-in-Nobody
-returns-in-Nobody c = claims_nobody _ _ c.in-Nobody.is
+pub returns-in-None : goal.returns-in-None
+returns-in-None c = claims_nobody _ _ c.in-None.is
 
 pub returns-then-request : goal.returns-then-request
-returns-then-request c = claims_some _ _ _ c.in-Somebody.is (ap is_reply (sym c.requires.1) ∙ sym c.is_reply.ensures ∙ c.if-not-is_reply.false) c.if-request.true
+returns-then-request c = claims_some _ _ _ c.in-Some.is (ap is_reply (sym c.requires.1) ∙ sym c.is_reply.ensures ∙ c.if-not-is_reply.false) c.if-request.true
 
 pub returns-else-request : goal.returns-else-request
-returns-else-request c = claims_none _ _ _ c.in-Somebody.is c.if-request.false
+returns-else-request c = claims_none _ _ _ c.in-Some.is c.if-request.false

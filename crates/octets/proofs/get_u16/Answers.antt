@@ -1,6 +1,8 @@
-use Rattle.std.proofs.Common.{◌∙◌, arith}
-use Rattle.octets.specs.Field.{field_halves, field_one}
+use Rattle.octets.proofs.Numbers.{read_le_2, read_be_2}
 use Rattle.octets.proofs.get_u16.Goals as goal
 
+pub returns-then-order-eq-LITTLE : goal.returns-then-order-eq-LITTLE
+returns-then-order-eq-LITTLE c = read_le_2 _ _ _ c.requires c.if-order-eq-LITTLE.true c.from_le_bytes.ensures
+
 pub returns : goal.returns
-returns c = field_halves _ _ _ 1 _ _ (omega arith) (c.wide.ensures ∙ c.pick8.ensures) (c.wide-2.ensures ∙ c.pick8-2.ensures) (field_one _ _ _ (omega arith)) (field_one _ _ _ (omega arith))
+returns c = read_be_2 _ _ _ c.requires c.if-order-eq-LITTLE.false c.from_be_bytes.ensures

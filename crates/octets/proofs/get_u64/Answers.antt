@@ -1,6 +1,8 @@
-use Rattle.std.proofs.Common.{arith}
-use Rattle.octets.specs.Field.{field_halves}
+use Rattle.octets.proofs.Numbers.{read_le_8, read_be_8}
 use Rattle.octets.proofs.get_u64.Goals as goal
 
+pub returns-then-order-eq-LITTLE : goal.returns-then-order-eq-LITTLE
+returns-then-order-eq-LITTLE c = read_le_8 _ _ _ c.requires c.if-order-eq-LITTLE.true c.from_le_bytes.ensures
+
 pub returns : goal.returns
-returns c = field_halves _ _ _ 4 _ _ (omega arith) c.pick32.ensures c.pick32-2.ensures c.get_u32-a.ensures c.get_u32-b.ensures
+returns c = read_be_8 _ _ _ c.requires c.if-order-eq-LITTLE.false c.from_be_bytes.ensures

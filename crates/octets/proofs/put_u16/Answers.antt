@@ -1,9 +1,9 @@
-use Rattle.std.proofs.Common.{length-set, arith}
-use Rattle.octets.specs.Field.{put_halves, put_one}
+use Rattle.std.proofs.Common.{◌∙◌}
+use Rattle.octets.proofs.Numbers.{wrote_le_2, wrote_be_2, put_low, put_high}
 use Rattle.octets.proofs.put_u16.Goals as goal
 
-pub bounds-s-at-2 : goal.bounds-s-at-2
-bounds-s-at-2 c = simp length-set (omega arith)
+pub returns-then-order-eq-LITTLE : goal.returns-then-order-eq-LITTLE
+returns-then-order-eq-LITTLE c = put_low _ _ _ 2 _ c.if-order-eq-LITTLE.true c.copy_in.ensures (c.to_le_bytes.ensures ∙ wrote_le_2 _ c.ranges.x.fits)
 
 pub returns : goal.returns
-returns c = put_halves _ _ _ _ _ 1 _ (omega arith) c.pick8.ensures c.pick8-2.ensures (put_one _ _ _ _ (omega arith) (omega arith)) (put_one _ _ _ _ (simp length-set (omega arith)) (omega arith))
+returns c = put_high _ _ _ 2 _ c.if-order-eq-LITTLE.false c.copy_in-2.ensures (c.to_be_bytes.ensures ∙ wrote_be_2 _ c.ranges.x.fits)

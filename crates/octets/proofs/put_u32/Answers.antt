@@ -1,6 +1,9 @@
-use Rattle.std.proofs.Common.{arith}
-use Rattle.octets.specs.Field.{put_halves}
+use Rattle.std.proofs.Common.{◌∙◌}
+use Rattle.octets.proofs.Numbers.{wrote_le_4, wrote_be_4, put_low, put_high}
 use Rattle.octets.proofs.put_u32.Goals as goal
 
+pub returns-then-order-eq-LITTLE : goal.returns-then-order-eq-LITTLE
+returns-then-order-eq-LITTLE c = put_low _ _ _ 4 _ c.if-order-eq-LITTLE.true c.copy_in.ensures (c.to_le_bytes.ensures ∙ wrote_le_4 _ c.ranges.x.fits)
+
 pub returns : goal.returns
-returns c = put_halves _ _ _ _ _ 2 _ (omega arith) c.pick16.ensures c.pick16-2.ensures c.put_u16.ensures c.put_u16-2.ensures
+returns c = put_high _ _ _ 4 _ c.if-order-eq-LITTLE.false c.copy_in-2.ensures (c.to_be_bytes.ensures ∙ wrote_be_4 _ c.ranges.x.fits)

@@ -1,6 +1,9 @@
-use Rattle.std.proofs.Common.{arith}
-use Rattle.octets.specs.Field.{put_halves}
+use Rattle.std.proofs.Common.{◌∙◌}
+use Rattle.octets.proofs.Numbers.{wrote_le_8, wrote_be_8, put_low, put_high}
 use Rattle.octets.proofs.put_u64.Goals as goal
 
+pub returns-then-order-eq-LITTLE : goal.returns-then-order-eq-LITTLE
+returns-then-order-eq-LITTLE c = put_low _ _ _ 8 _ c.if-order-eq-LITTLE.true c.copy_in.ensures (c.to_le_bytes.ensures ∙ wrote_le_8 _ c.ranges.x.fits)
+
 pub returns : goal.returns
-returns c = put_halves _ _ _ _ _ 4 _ (omega arith) c.pick32.ensures c.pick32-2.ensures c.put_u32.ensures c.put_u32-2.ensures
+returns c = put_high _ _ _ 8 _ c.if-order-eq-LITTLE.false c.copy_in-2.ensures (c.to_be_bytes.ensures ∙ wrote_be_8 _ c.ranges.x.fits)

@@ -7,4 +7,4 @@ slot-at-requires c = c.requires
 
 pub returns : goal.returns
 unfolding request_at byte_at
-returns c = simp (c.request_of.ensures, c.slot-at.ensures.0)
+returns c = simp (c.from.ensures, c.slot-at.ensures.0)

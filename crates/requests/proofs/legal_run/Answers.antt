@@ -1,38 +1,51 @@
-use Rattle.std.proofs.Common.{◌≡◌, refl, sym, ap, ◌∙◌, Bool, true, false, List, ℕ, ◌+◌, ◌-◌, ◌≤◌, ◌<◌, arith, length, get_or}
+use Rattle.std.proofs.Common.{◌≡◌, refl, sym, ap, ◌∙◌, Bool, true, false, List, [], ◌∷◌, ℕ, ◌+◌, ◌≤◌, ◌<◌, arith, le-leb, length, take, get_or, add-one, take-suc}
 use borrow.Author.Tests.{lt-leb}
+use Rattle.std.proofs.Math.Seq.{take-length}
 use Rattle.octets.specs.Logic.{both}
-use Rattle.octets.specs.Put.{cut, cut_none}
+use Rattle.octets.specs.Put.{cut}
 use Rattle.requests.specs.Room.{last_byte, legal, legal_run}
+use Rattle.requests.specs.Legal.{legal_append}
 use Rattle.requests.proofs.legal_run.Goals as goal
-use Rattle.requests.proofs.legal_run.Goals.{then-room-i-gt-LAST_BYTE, else-room-i-gt-LAST_BYTE}
-use Rattle.requests.proofs.legal_run.Invariants.{rest, next, good}
+use Rattle.requests.proofs.legal_run.Goals.{then-byte-gt-LAST_BYTE, else-byte-gt-LAST_BYTE}
 
-bad : (w g g' : Bool) (room : List ℕ) (hi i : ℕ) → i < hi → hi ≤ length room → last_byte < get_or room i 0 → g' ≡ false → w ≡ both g (rest room hi i) → w ≡ both g' (rest room hi (i + 1))
+-- a turn: the byte that it passes is legal or not
+next : (l : List ℕ) (i : ℕ) → i < length l → legal_run (take (i + 1) l) ≡ both (legal_run (take i l)) (both (legal (get_or l i 0)) true)
+unfolding legal_run
+next l i h =
+    ap (λ (n : ℕ). legal_run (take n l)) (add-one i) ∙ ap legal_run (take-suc l i 0 h) ∙ legal_append (take i l) (get_or l i 0 ∷ [])
+
+good : (g g' : Bool) (l : List ℕ) (i : ℕ) → i < length l → get_or l i 0 ≤ last_byte → g' ≡ g → g ≡ legal_run (take i l) → g' ≡ legal_run (take (i + 1) l)
 unfolding both legal
-bad w true g' room hi i h f b q e = e ∙ next room hi i h f ∙ simp (q, lt-leb _ _ b)
-bad w false g' room hi i h f b q e = e ∙ simp q
-
-done : (w g : Bool) (room : List ℕ) (hi i : ℕ) → hi ≤ i → w ≡ both g (rest room hi i) → g ≡ w
-unfolding rest legal_run both
-done w g room hi i h e =
-    let z : hi - i ≡ 0 = omega arith in
-    sym (e ∙ ap (λ (n : ℕ). both g (legal_run (cut i n room))) z ∙ ap (λ (l : List ℕ). both g (legal_run l)) (cut_none room i) ∙ all g)
+good g g' l i h b q e = q ∙ sym (next l i h ∙ simp (sym e, le-leb _ _ b) (same g))
   where
-    all : (g : Bool) → both g true ≡ g
-    all true = refl
-    all false = refl
+    same : (g : Bool) → both g true ≡ g
+    same true = refl
+    same false = refl
 
-pub loop-i-init : goal.loop-i-init
-unfolding both
-loop-i-init c = record { most = omega arith; is = refl }
+bad : (g' : Bool) (l : List ℕ) (i : ℕ) → i < length l → last_byte < get_or l i 0 → g' ≡ false → g' ≡ legal_run (take (i + 1) l)
+unfolding both legal
+bad g' l i h b q = q ∙ sym (next l i h ∙ simp (lt-leb _ _ b) (none (legal_run (take i l))))
+  where
+    none : (g : Bool) → both g false ≡ false
+    none true = refl
+    none false = refl
 
-pub loop-i-preserved : goal.loop-i-preserved
-loop-i-preserved c =
-    elim c.if-room-i-gt-LAST_BYTE.branch [
-      | then-room-i-gt-LAST_BYTE w ↦ record { most = omega arith; is = bad _ _ _ _ _ _ (omega arith) (omega arith) w.if-room-i-gt-LAST_BYTE.true w.good-is c.loop-i.invariant.is }
-      | else-room-i-gt-LAST_BYTE w ↦ record { most = omega arith; is = good _ _ _ _ _ _ (omega arith) (omega arith) w.if-room-i-gt-LAST_BYTE.false w.good-is c.loop-i.invariant.is }
+all : (l : List ℕ) (i : ℕ) → length l ≤ i → i ≤ length l → legal_run (take i l) ≡ legal_run l
+all l i h f =
+    let e : i ≡ length l = omega arith in
+    ap (λ (n : ℕ). legal_run (take n l)) e ∙ ap legal_run (take-length l)
+
+pub loop-byte-init : goal.loop-byte-init
+unfolding legal_run
+loop-byte-init c = refl
+
+pub loop-byte-preserved : goal.loop-byte-preserved
+loop-byte-preserved c =
+    elim c.if-byte-gt-LAST_BYTE.branch [
+      | then-byte-gt-LAST_BYTE w ↦ bad _ _ _ c.loop-byte-test.true w.if-byte-gt-LAST_BYTE.true w.good-is
+      | else-byte-gt-LAST_BYTE w ↦ good _ _ _ _ c.loop-byte-test.true w.if-byte-gt-LAST_BYTE.false w.good-is c.loop-byte.invariant
     ]
 
 pub returns : goal.returns
-unfolding rest
-returns c = done _ _ _ _ _ c.loop-i-test.false c.loop-i.invariant.is
+unfolding cut
+returns c = c.loop-byte.invariant ∙ all _ _ c.loop-byte-test.false c.loop-byte.auto.byte-index-end

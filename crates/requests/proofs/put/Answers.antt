@@ -7,4 +7,4 @@ slot-at-requires c = c.requires
 
 pub returns : goal.returns
 unfolding put_request
-returns c = simp (c.byte_of.ensures, c.slot-at.ensures.0)
+returns c = simp (c.from.ensures, c.slot-at.ensures.0)

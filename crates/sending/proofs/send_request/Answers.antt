@@ -1,10 +1,9 @@
-use Rattle.std.proofs.Common.{sym, ap, ◌∙◌}
-use Rattle.sending.specs.Send.{says_going}
+use Rattle.refusal.specs.Answer.{passed_on}
 use Rattle.sending.specs.SendLaws.{send_refused, send_done}
 use Rattle.sending.proofs.send_request.Goals as goal
 
-pub returns-in-Under : goal.returns-in-Under
-returns-in-Under c = send_done _ _ _ _ _ _ (sym (ap says_going c.in-Under.is) ∙ c.sendable.ensures) c.send_under-next.ensures
+pub returns : goal.returns
+returns c = send_done _ _ _ _ _ _ c.in_ok-going.ensures c.send_under-connection.ensures
 
-pub returns-in-Refused : goal.returns-in-Refused
-returns-in-Refused c = send_refused _ _ _ _ (sym (ap says_going c.in-Refused.is) ∙ c.sendable.ensures)
+pub returns-in_err-going : goal.returns-in_err-going
+returns-in_err-going c = rw (passed_on c.from_residual.ensures.1) (send_refused _ _ _ _ c.in_err-going.ensures)

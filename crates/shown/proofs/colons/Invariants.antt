@@ -1,8 +1,5 @@
 use Rattle.std.proofs.Common.{◌≡◌, length}
 use Rattle.shown.proofs.colons.Given as goal
 
-abbrev pub invariant-loop-left : goal.invariant-loop-left
-invariant-loop-left g l = length l.out ≡ length l.initial.out
-
-abbrev pub decreases-loop-left : goal.decreases-loop-left
-decreases-loop-left g l = l.left
+abbrev pub invariant-loop-fd : goal.invariant-loop-fd
+invariant-loop-fd g l = length l.page.run.now ≡ length l.fn.page.run.now

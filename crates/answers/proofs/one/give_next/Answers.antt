@@ -1,10 +1,10 @@
 use Rattle.std.proofs.Common.{refl}
 use Rattle.model.specs.Says.{says_next}
-use Rattle.answers.specs.Exported.{kept_at}
+use Rattle.answers.specs.Exported.{kept_at, returned_passed}
 use Rattle.answers.proofs.one.give_next.Goals as goal
 
-pub returns-in-State : goal.returns-in-State
-returns-in-State c = kept_at says_next c.in-State.is refl refl refl c.put_connection.ensures
+pub returns-in_err-answer : goal.returns-in_err-answer
+returns-in_err-answer c = kept_at says_next c.in_err-answer.was refl (returned_passed _ _ c.from_residual.ensures.1) refl refl
 
-pub returns-in-Refused : goal.returns-in-Refused
-returns-in-Refused c = kept_at says_next c.in-Refused.is refl c.code.ensures refl refl
+pub returns : goal.returns
+returns c = kept_at says_next c.in_ok-answer.was refl refl refl c.put_connection.ensures

@@ -1,4 +1,4 @@
-use Rattle.std.proofs.Common.{refl, ◌+◌, arith, set, length-set}
+use Rattle.std.proofs.Common.{refl, arith}
 use Rattle.batch.specs.First.{FirstWithin, first_within, first_turn}
 use Rattle.batch.proofs.first.hand_first.Goals as goal
 use Rattle.batch.proofs.first.hand_first.Goals.{Start}
@@ -25,12 +25,5 @@ overflow_add-end c = omega (arith, c.length_at-len.ensures, within (goal.at.over
 pub slice_bounds-copy_in-end : goal.slice_bounds-copy_in-end
 slice_bounds-copy_in-end c = omega (arith, c.length_at-len.ensures, within (goal.at.slice_bounds-copy_in-end c).Start)
 
-pub bounds-marks-at-2 : goal.bounds-marks-at-2
-bounds-marks-at-2 c = omega (arith, c.requires.3.marked, length-set c.args.marks.now c.args.at c.number_at-number.result)
-
-pub bounds-marks-at-3 : goal.bounds-marks-at-3
-bounds-marks-at-3 c = let m = set c.args.marks.now c.args.at c.number_at-number.result in
-    omega (arith, c.requires.3.marked, length-set c.args.marks.now c.args.at c.number_at-number.result, length-set m (c.args.at + 1) c.length_at-len.result)
-
 pub returns : goal.returns
-returns c = first_turn _ _ c.requires.0 _ _ _ _ c.requires.2 c.requires.3 _ _ c.length_at-len.ensures c.number_at-number.ensures _ refl _ c.copy_in.ensures c.class_at-class.result c.class_at-class.ensures _ c.class_number.ensures
+returns c = first_turn _ _ c.requires.0 _ _ _ _ c.requires.2 c.requires.3 _ _ c.length_at-len.ensures c.number_at-number.ensures _ refl _ c.copy_in.ensures c.class_at-class.result c.class_at-class.ensures _ c.mark.ensures

@@ -58,9 +58,6 @@ overflow_add-at c = let z = turn_room _ _ _ _ c.loop-at.invariant.rest (omega ar
 pub overflow_add-at-in-loop-at : goal.overflow_add-at-in-loop-at
 overflow_add-at-in-loop-at c = let z = turn_room _ _ _ _ c.loop-at.invariant.rest (omega arith) in omega (arith, z)
 
-pub loop-at-smaller : goal.loop-at-smaller
-loop-at-smaller c = let z = turn_room _ _ _ _ c.loop-at.invariant.rest (omega arith) in omega (arith, z)
-
 pub loop-at-preserved : goal.loop-at-preserved
 loop-at-preserved c = again _ _ _ _ _ _ _ c.loop-at.invariant (omega arith) _ c.count_one-one.ensures _ c.length_at.ensures
 

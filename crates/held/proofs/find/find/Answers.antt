@@ -5,12 +5,12 @@ use Rattle.held.specs.Head.{header_size, num_of, len_of, fds_of, kind_of}
 use Rattle.held.specs.Reading.{read_all, records}
 use Rattle.held.specs.Rest.{Turn, rest_all, rest_none, turn, turn_room, turn_behind}
 use Rattle.held.specs.Find.{sought, suits, wanted}
-use Rattle.held.specs.declared.Found.{Found}
 use Rattle.held.proofs.find.find.Goals as goal
 use Rattle.held.proofs.find.find.Invariants.{Inv}
+use Rattle.std.specs.Prelude.{Some, None}
 
 module _ (s : List ℕ) (kind : ℕ) (any : Bool) (number start end at before : ℕ) (I : Inv s kind any number start end at before) where
-  ends : end ≤ at → Found.Nothing ≡ sought (wanted kind any number) start 0 (read_all (cut start (end - start) s))
+  ends : end ≤ at → None ≡ sought (wanted kind any number) start 0 (read_all (cut start (end - start) s))
   unfolding sought
   ends h = sym (I.same ∙ ap (sought (wanted kind any number) at before) (rest_none s at end I.hs I.rest h))
 
@@ -22,10 +22,10 @@ module _ (s : List ℕ) (kind : ℕ) (any : Bool) (number start end at before : 
     is-wanted = e ∙ (λ k. suits kind any number (T.here.kind k) (T.here.number k))
 
     hit : (len fds n : ℕ) → b ≡ true → len ≡ len_of (drop at s) → fds ≡ fds_of (drop at s) → n ≡ num_of (drop at s)
-        → Found.At (record { at = at; len = len; number = n; fds = fds; before = before }) ≡ sought (wanted kind any number) start 0 (read_all (cut start (end - start) s))
+        → Some (record { at = at; len = len; number = n; fds = fds; before = before }) ≡ sought (wanted kind any number) start 0 (read_all (cut start (end - start) s))
     unfolding sought
     hit len fds n t p q r =
-        (λ k. Found.At (record { at = at; len = (p ∙ T.here.len) k; number = (r ∙ T.here.number) k; fds = (q ∙ T.here.fds) k; before = before }))
+        (λ k. Some (record { at = at; len = (p ∙ T.here.len) k; number = (r ∙ T.here.number) k; fds = (q ∙ T.here.fds) k; before = before }))
         ∙ sym (choose_yes _ _ _ (sym is-wanted ∙ t))
         ∙ ap (sought (wanted kind any number) at before) (sym T.is)
         ∙ sym I.same
@@ -63,17 +63,11 @@ pub returns-then-hits : goal.returns-then-hits
 unfolding records
 returns-then-hits c = hit _ _ _ _ _ _ _ _ c.loop-at.invariant (omega arith) _ c.hits.ensures _ _ _ c.if-hits.true c.length_at-len.ensures c.count_at-fds.ensures c.number_at.ensures
 
-pub overflow_add-before : goal.overflow_add-before
-overflow_add-before c = omega (arith, c.loop-at.invariant.few)
-
 pub overflow_add-at : goal.overflow_add-at
 overflow_add-at c = let z = turn_room _ _ _ _ c.loop-at.invariant.rest (omega arith) in omega (arith, z)
 
 pub overflow_add-at-in-loop-at : goal.overflow_add-at-in-loop-at
 overflow_add-at-in-loop-at c = let z = turn_room _ _ _ _ c.loop-at.invariant.rest (omega arith) in omega (arith, z)
-
-pub loop-at-smaller : goal.loop-at-smaller
-loop-at-smaller c = let z = turn_room _ _ _ _ c.loop-at.invariant.rest (omega arith) in omega (arith, z)
 
 pub loop-at-preserved : goal.loop-at-preserved
 loop-at-preserved c = again _ _ _ _ _ _ _ _ c.loop-at.invariant (omega arith) _ c.hits.ensures _ _ c.if-hits.false c.length_at-len.ensures c.count_at-fds.ensures (omega arith)

@@ -1,9 +1,6 @@
 use Rattle.held.specs.Find.{found_event}
 use Rattle.held.proofs.find.find_event.Goals as goal
 
-pub find-requires : goal.find-requires
-find-requires c = c.requires
-
 pub returns : goal.returns
 unfolding found_event
 returns c = c.find.ensures

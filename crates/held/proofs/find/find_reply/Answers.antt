@@ -1,9 +1,6 @@
 use Rattle.held.specs.Find.{found_reply}
 use Rattle.held.proofs.find.find_reply.Goals as goal
 
-pub find-requires : goal.find-requires
-find-requires c = c.requires
-
 pub returns : goal.returns
 unfolding found_reply
 returns c = c.find.ensures

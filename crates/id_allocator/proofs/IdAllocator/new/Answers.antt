@@ -1,15 +1,11 @@
-use Rattle.std.proofs.Common.{arith, eq-eqb, ne_eqb}
-use lib.Bits.{or_lt}
+use Rattle.std.proofs.Common.{eq-eqb, ne_eqb}
 use Rattle.refusal.specs.Answer.{refuse}
-use Rattle.id_allocator.specs.Ids.{bits, new_ids}
+use Rattle.id_allocator.specs.Ids.{new_ids}
 use Rattle.id_allocator.proofs.IdAllocator.new.Goals as goal
 
 pub returns-then-mask-eq0 : goal.returns-then-mask-eq0
 unfolding new_ids refuse
 returns-then-mask-eq0 c = simp (eq-eqb _ _ c.if-mask-eq0.true)
-
-pub overflow_cast-last : goal.overflow_cast-last
-overflow_cast-last c = let a = c.args in omega (arith, or_lt bits a.base a.mask (omega arith) (omega arith))
 
 pub returns : goal.returns
 unfolding new_ids refuse

@@ -1,5 +1,4 @@
-use Rattle.std.proofs.Common.{refl, sym, ap, ◌∙◌, arith}
-use Rattle.listing.specs.Call.{says_next}
+use Rattle.std.proofs.Common.{refl, arith}
 use Rattle.listing.specs.Loop.{inv_start, inv_full, inv_none, inv_refused, packet_within, inv_next, part_rest}
 use Rattle.listing.proofs.lines.lines.Goals as goal
 
@@ -7,22 +6,22 @@ pub loop-out-init : goal.loop-out-init
 loop-out-init c = inv_start _ _ _ _
 
 pub bounds-bytes-used : goal.bounds-bytes-used
-bounds-bytes-used c = let p = packet_within _ _ _ _ _ _ _ _ c.loop-out.invariant c.loop-out-test.true _ (part_rest c.args.bytes.now c.loop-out.used) _ _ (ap says_next (sym c.in-Packet.is) ∙ c.ahead.ensures) in omega (arith, p.0, p.1)
+bounds-bytes-used c = let p = packet_within _ _ _ _ _ _ _ _ c.loop-out.invariant c.loop-out-test.true _ (part_rest c.args.bytes.now c.loop-out.used) _ _ (rw c.in-Ok-Some.field-0-is at c.in-Ok-Some.ensures) in omega (arith, p.0, p.1)
 
 pub overflow_add-used : goal.overflow_add-used
-overflow_add-used c = let p = packet_within _ _ _ _ _ _ _ _ c.loop-out.invariant c.loop-out-test.true _ (part_rest c.args.bytes.now c.loop-out.used) _ _ (ap says_next (sym c.in-Packet.is) ∙ c.ahead.ensures) in omega (arith, p.0, p.1)
+overflow_add-used c = let p = packet_within _ _ _ _ _ _ _ _ c.loop-out.invariant c.loop-out-test.true _ (part_rest c.args.bytes.now c.loop-out.used) _ _ (rw c.in-Ok-Some.field-0-is at c.in-Ok-Some.ensures) in omega (arith, p.0, p.1)
 
 pub loop-out-smaller : goal.loop-out-smaller
-loop-out-smaller c = let p = packet_within _ _ _ _ _ _ _ _ c.loop-out.invariant c.loop-out-test.true _ (part_rest c.args.bytes.now c.loop-out.used) _ _ (ap says_next (sym c.in-Packet.is) ∙ c.ahead.ensures) in omega (arith, p.0, p.1)
+loop-out-smaller c = let p = packet_within _ _ _ _ _ _ _ _ c.loop-out.invariant c.loop-out-test.true _ (part_rest c.args.bytes.now c.loop-out.used) _ _ (rw c.in-Ok-Some.field-0-is at c.in-Ok-Some.ensures) in omega (arith, p.0, p.1)
 
 pub loop-out-preserved : goal.loop-out-preserved
-loop-out-preserved c = inv_next _ _ _ _ _ _ _ _ c.loop-out.invariant c.loop-out-test.true _ (part_rest c.args.bytes.now c.loop-out.used) _ _ (ap says_next (sym c.in-Packet.is) ∙ c.ahead.ensures) _ _ c.line-end.ensures
+loop-out-preserved c = inv_next _ _ _ _ _ _ _ _ c.loop-out.invariant c.loop-out-test.true _ (part_rest c.args.bytes.now c.loop-out.used) _ _ (rw c.in-Ok-Some.field-0-is at c.in-Ok-Some.ensures) _ _ c.line-end.ensures
 
-pub returns-in-Part : goal.returns-in-Part
-returns-in-Part c = inv_none _ _ _ _ _ _ _ _ c.loop-out.invariant c.loop-out-test.true _ (part_rest c.args.bytes.now c.loop-out.used) _ _ (ap says_next (sym c.in-Part.is) ∙ c.ahead.ensures) c.closing.ensures
+pub returns-in-Ok-None : goal.returns-in-Ok-None
+returns-in-Ok-None c = inv_none _ _ _ _ _ _ _ _ c.loop-out.invariant c.loop-out-test.true _ (part_rest c.args.bytes.now c.loop-out.used) _ _ (rw c.in-Ok-None.field-0-is at c.in-Ok-None.ensures) c.closing.ensures
 
-pub returns-in-Refused : goal.returns-in-Refused
-returns-in-Refused c = inv_refused _ _ _ _ _ _ _ _ c.loop-out.invariant c.loop-out-test.true _ (part_rest c.args.bytes.now c.loop-out.used) _ _ _ (ap says_next (sym c.in-Refused.is) ∙ c.ahead.ensures) c.refused.ensures
+pub returns-in-Err : goal.returns-in-Err
+returns-in-Err c = inv_refused _ _ _ _ _ _ _ _ c.loop-out.invariant c.loop-out-test.true _ (part_rest c.args.bytes.now c.loop-out.used) _ _ _ c.in-Err.ensures c.refused.ensures
 
 pub returns : goal.returns
 returns c = inv_full _ _ _ _ _ _ _ _ c.loop-out.invariant _ c.loop-out-test.false refl refl refl refl

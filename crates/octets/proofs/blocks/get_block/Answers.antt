@@ -3,4 +3,4 @@ use Rattle.octets.specs.Field.{four_read}
 use Rattle.octets.proofs.blocks.get_block.Goals as goal
 
 pub returns : goal.returns
-returns c = four_read _ _ (λ i. (c.shared_slice_known-1.given i).fits) (omega arith) c.get_u64-a.ensures c.get_u64-b.ensures c.get_u64-c.ensures c.get_u64-d.ensures
+returns c = four_read _ _ (λ i. (c.type_inv.s i).fits) (omega arith) c.get_u64-a.ensures c.get_u64-b.ensures c.get_u64-c.ensures c.get_u64-d.ensures

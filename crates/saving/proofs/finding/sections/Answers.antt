@@ -1,24 +1,18 @@
-use Rattle.std.proofs.Common.{arith}
-use Rattle.saving.specs.Finding.{sections_none, no_numbers, numbers_within, no_settings, settings_within, no_requests, requests_within, all_found}
+use Rattle.std.proofs.Common.{refl}
+use Rattle.saving.specs.Finding.{no_numbers, no_settings, no_requests, requests_within, all_found}
 use Rattle.saving.proofs.finding.sections.Goals as goal
 
-pub returns-then-settings-eq0 : goal.returns-then-settings-eq0
-returns-then-settings-eq0 c = sections_none _ _ c.none.ensures (no_numbers _ (λ i. (c.shared_slice_known-1.given i).fits) _ c.numbers_at-settings.ensures c.if-settings-eq0.true)
+pub returns-in_err-settings : goal.returns-in_err-settings
+returns-in_err-settings c = rw c.from_residual.ensures (no_numbers _ (λ i. (c.type_inv.bytes i).fits) _ c.in_err-settings.ensures refl)
 
-pub numbers_at-requests-requires : goal.numbers_at-requests-requires
-numbers_at-requests-requires c = (numbers_within _ (λ i. (c.shared_slice_known-1.given i).fits) _ c.numbers_at-settings.ensures c.if-settings-eq0.false, omega arith)
+pub returns-in_err-requests : goal.returns-in_err-requests
+returns-in_err-requests c = rw c.from_residual-in_err-requests.ensures (no_settings _ (λ i. (c.type_inv.bytes i).fits) _ c.in_ok-settings.ensures.0 c.in_ok-settings.ensures.1 _ c.in_err-requests.ensures refl)
 
-pub returns-then-requests-eq0 : goal.returns-then-requests-eq0
-returns-then-requests-eq0 c = sections_none _ _ c.none-then-requests-eq0.ensures (no_settings _ (λ i. (c.shared_slice_known-1.given i).fits) _ c.numbers_at-settings.ensures c.if-settings-eq0.false _ c.numbers_at-requests.ensures c.if-requests-eq0.true)
-
-pub requests_at-replies-requires : goal.requests_at-replies-requires
-requests_at-replies-requires c = settings_within _ (λ i. (c.shared_slice_known-1.given i).fits) _ c.numbers_at-settings.ensures c.if-settings-eq0.false _ c.numbers_at-requests.ensures c.if-requests-eq0.false
-
-pub returns-then-replies-eq0 : goal.returns-then-replies-eq0
-returns-then-replies-eq0 c = sections_none _ _ c.none-then-replies-eq0.ensures (no_requests _ (λ i. (c.shared_slice_known-1.given i).fits) _ c.numbers_at-settings.ensures c.if-settings-eq0.false _ c.numbers_at-requests.ensures c.if-requests-eq0.false _ c.requests_at-replies.ensures c.if-replies-eq0.true)
+pub returns-in_err-replies : goal.returns-in_err-replies
+returns-in_err-replies c = rw c.from_residual-in_err-replies.ensures (no_requests _ (λ i. (c.type_inv.bytes i).fits) _ c.in_ok-settings.ensures.0 c.in_ok-settings.ensures.1 _ c.in_ok-requests.ensures.0 c.in_ok-requests.ensures.1 _ c.in_err-replies.ensures refl)
 
 pub held_sections-requires : goal.held_sections-requires
-held_sections-requires c = requests_within _ (λ i. (c.shared_slice_known-1.given i).fits) _ c.numbers_at-settings.ensures c.if-settings-eq0.false _ c.numbers_at-requests.ensures c.if-requests-eq0.false _ c.requests_at-replies.ensures c.if-replies-eq0.false
+held_sections-requires c = requests_within _ (λ i. (c.type_inv.bytes i).fits) _ c.in_ok-settings.ensures.0 c.in_ok-settings.ensures.1 _ c.in_ok-requests.ensures.0 c.in_ok-requests.ensures.1 _ c.in_ok-replies.ensures.0 c.in_ok-replies.ensures.1
 
 pub returns : goal.returns
-returns c = all_found _ (λ i. (c.shared_slice_known-1.given i).fits) _ c.numbers_at-settings.ensures c.if-settings-eq0.false _ c.numbers_at-requests.ensures c.if-requests-eq0.false _ c.requests_at-replies.ensures c.if-replies-eq0.false _ c.held_sections.ensures
+returns c = all_found _ (λ i. (c.type_inv.bytes i).fits) _ c.in_ok-settings.ensures.0 c.in_ok-settings.ensures.1 _ c.in_ok-requests.ensures.0 c.in_ok-requests.ensures.1 _ c.in_ok-replies.ensures.0 c.in_ok-replies.ensures.1 _ c.held_sections.ensures

@@ -1,11 +1,12 @@
+use Rattle.std.proofs.Common.{arith}
 use Rattle.saving.specs.Laying.{mode_keep, mode_reply, mode_all}
 use Rattle.saving.proofs.laying.mode_of.Goals as goal
 
-pub returns-then-number-eq0 : goal.returns-then-number-eq0
-returns-then-number-eq0 c = mode_keep _ c.if-number-eq0.true
+pub returns-in-0 : goal.returns-in-0
+returns-in-0 c = mode_keep _ c.in-0.is
 
-pub returns-then-number-eq1 : goal.returns-then-number-eq1
-returns-then-number-eq1 c = mode_reply _ c.if-number-eq0.false c.if-number-eq1.true
+pub returns-in-1 : goal.returns-in-1
+returns-in-1 c = mode_reply _ c.in-1.is
 
-pub returns : goal.returns
-returns c = mode_all _ c.if-number-eq0.false c.if-number-eq1.false
+pub returns-in_default : goal.returns-in_default
+returns-in_default c = mode_all _ (λ z. omega arith) (λ z. omega arith)

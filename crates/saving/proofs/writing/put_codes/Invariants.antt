@@ -1,9 +1,5 @@
 use Rattle.saving.specs.Writing.{Codes}
-use Rattle.std.proofs.Common.{◌-◌}
 use Rattle.saving.proofs.writing.put_codes.Given as goal
 
 abbrev pub invariant-loop-i : goal.invariant-loop-i
 invariant-loop-i l = Codes l.initial.out l.to l.requests l.first l.count l.out l.i
-
-abbrev pub decreases-loop-i : goal.decreases-loop-i
-decreases-loop-i l = l.count - l.i

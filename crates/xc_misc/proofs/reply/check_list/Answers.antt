@@ -1,16 +1,15 @@
-use Rattle.x11_utils.specs.Packet.{says_checked}
-use Rattle.refusal.specs.Answer.{after_given, after_refused}
-use Rattle.std.proofs.Common.{sym, ap, ◌∙◌, arith}
+use Rattle.refusal.specs.Answer.{after_given, after_refused, passed_on}
+use Rattle.std.proofs.Common.{◌∙◌, arith}
 use Rattle.xc_misc.specs.Replies.{list_checked, reply_long}
 use Rattle.xc_misc.proofs.reply.check_list.Goals as goal
 
 pub check_units-requires : goal.check_units-requires
-check_units-requires c = let l = reply_long _ _ (sym (ap says_checked c.in-Ready.is) ∙ c.check_reply.ensures) in omega arith
+check_units-requires c = let l = reply_long _ _ c.in_ok-check_reply.ensures in omega arith
 
-pub returns-in-Ready : goal.returns-in-Ready
+pub returns : goal.returns
 unfolding list_checked
-returns-in-Ready c = c.check_units.ensures ∙ after_given _ (sym (ap says_checked c.in-Ready.is) ∙ c.check_reply.ensures)
+returns c = c.check_units.ensures ∙ after_given _ c.in_ok-check_reply.ensures
 
-pub returns-in-Refused : goal.returns-in-Refused
+pub returns-in_err-check_reply : goal.returns-in_err-check_reply
 unfolding list_checked
-returns-in-Refused c = after_refused _ (sym (ap says_checked c.in-Refused.is) ∙ c.check_reply.ensures)
+returns-in_err-check_reply c = rw (passed_on c.from_residual.ensures.1) (after_refused _ c.in_err-check_reply.ensures)

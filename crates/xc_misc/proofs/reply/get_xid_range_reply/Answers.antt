@@ -1,16 +1,15 @@
-use Rattle.x11_utils.specs.Packet.{says_checked}
-use Rattle.refusal.specs.Answer.{gives, after_given, after_refused}
-use Rattle.std.proofs.Common.{sym, ap, ◌∙◌}
+use Rattle.refusal.specs.Answer.{gives, after_given, after_refused, passed_on}
+use Rattle.std.proofs.Common.{ap, ◌∙◌}
 use Rattle.xc_misc.specs.Replies.{range, reply_long}
 use Rattle.xc_misc.proofs.reply.get_xid_range_reply.Goals as goal
 
 pub range_fields-requires : goal.range_fields-requires
-range_fields-requires c = reply_long _ _ (sym (ap says_checked c.in-Ready.is) ∙ c.check_reply.ensures)
+range_fields-requires c = reply_long _ _ c.in_ok-check_reply.ensures
 
-pub returns-in-Ready : goal.returns-in-Ready
+pub returns : goal.returns
 unfolding range
-returns-in-Ready c = ap gives c.range_fields.ensures ∙ after_given _ (sym (ap says_checked c.in-Ready.is) ∙ c.check_reply.ensures)
+returns c = ap gives c.range_fields.ensures ∙ after_given _ c.in_ok-check_reply.ensures
 
-pub returns-in-Refused : goal.returns-in-Refused
+pub returns-in_err-check_reply : goal.returns-in_err-check_reply
 unfolding range
-returns-in-Refused c = after_refused _ (sym (ap says_checked c.in-Refused.is) ∙ c.check_reply.ensures)
+returns-in_err-check_reply c = rw (passed_on c.from_residual.ensures.1) (after_refused _ c.in_err-check_reply.ensures)

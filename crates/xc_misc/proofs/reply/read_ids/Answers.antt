@@ -24,10 +24,7 @@ done order count i packet ids₀ ids h f e =
     e ∙ ap (λ (n : ℕ). put ids₀ 0 (ids_of order n packet)) q
 
 pub loop-i-init : goal.loop-i-init
-loop-i-init c = record { most = omega arith; is = none _ _ _; long = refl }
+loop-i-init c = record { is = none _ _ _; long = refl }
 
 pub loop-i-preserved : goal.loop-i-preserved
-loop-i-preserved c = record { most = omega arith; is = turn _ _ _ _ _ _ (omega arith) c.get_u32.ensures c.loop-i.invariant.is; long = simp length-set (omega arith) }
-
-pub returns : goal.returns
-returns c = done _ _ _ _ _ _ (omega arith) (omega arith) c.loop-i.invariant.is
+loop-i-preserved c = record { is = turn _ _ _ _ _ _ (omega arith) c.get_u32.ensures c.loop-i.invariant.is; long = simp length-set (omega arith) }

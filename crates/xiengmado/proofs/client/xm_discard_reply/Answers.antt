@@ -1,9 +1,12 @@
-use Rattle.std.proofs.Common.{refl, sym, ◌∙◌}
-use Rattle.answers.specs.Exported.{kept_off, kept_on, on, off}
+use Rattle.std.proofs.Common.{refl, ap, ◌∙◌}
+use Rattle.refusal.specs.Numbers.{number_of}
+use Rattle.refusal.specs.Answer.{refuses}
+use Rattle.answers.specs.Exported.{kept_by, kept_on, on, off, returned_passed}
+use Rattle.answers.specs.Shown.{mode_meant, mode_meaningless}
 use Rattle.xiengmado.proofs.client.xm_discard_reply.Goals as goal
 
-pub returns-then-not-is_mode : goal.returns-then-not-is_mode
-returns-then-not-is_mode c = kept_off (off (sym c.is_mode.ensures ∙ c.if-not-is_mode.true) refl)
+pub returns-in_err-mode : goal.returns-in_err-mode
+returns-in_err-mode c = let z = mode_meaningless _ c.in_err-mode.ensures in kept_by (refuses 9) (off z.0 refl) (returned_passed _ _ c.from_residual.ensures.1 ∙ ap number_of z.1) refl refl
 
 pub returns : goal.returns
-returns c = kept_on c.give_next.ensures (on (sym c.is_mode.ensures ∙ c.if-not-is_mode.false) (rw (c.connection-now.ensures, c.mode_of.ensures) at c.discard_reply-answer.ensures))
+returns c = let z = mode_meant _ c.in_ok-mode.ensures in kept_on c.give_next.ensures (on z.0 (rw (c.connection-now.ensures, z.1) at c.discard_reply-answer.ensures))

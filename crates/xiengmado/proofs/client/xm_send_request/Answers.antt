@@ -8,4 +8,4 @@ pub returns-then-kind-gt-MOST_KIND : goal.returns-then-kind-gt-MOST_KIND
 returns-then-kind-gt-MOST_KIND c = kept_off (off (lt-leb _ _ c.if-kind-gt-MOST_KIND.true) refl)
 
 pub returns : goal.returns
-returns c = kept_sent _ _ _ c.give_sent.ensures (rw (c.connection-now.ensures, c.kind_of.ensures) at c.send_request-answer.ensures) (on (le-leb _ _ c.if-kind-gt-MOST_KIND.false) (rw (c.connection-now.ensures, c.kind_of.ensures) at c.send_request-answer.ensures))
+returns c = kept_sent _ _ _ c.give_sent.ensures (rw (c.connection-now.ensures, c.from.ensures) at c.send_request-answer.ensures) (on (le-leb _ _ c.if-kind-gt-MOST_KIND.false) (rw (c.connection-now.ensures, c.from.ensures) at c.send_request-answer.ensures))

@@ -4,4 +4,4 @@ use Rattle.answers.specs.Shown.{setup_roomed}
 use Rattle.xiengmado.proofs.handshake.xm_connect_setup.Goals as goal
 
 pub returns : goal.returns
-returns c = kept_on c.give_setup.ensures (ap (setup_roomed _) (rw c.handshake-at.ensures at c.setup-answer.ensures))
+returns c = kept_on c.give_setup.ensures (ap (setup_roomed _) (rw c.handshake.ensures at c.setup.ensures))

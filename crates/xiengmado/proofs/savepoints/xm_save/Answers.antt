@@ -1,5 +1,0 @@
-use Rattle.answers.specs.Exported.{exported_on}
-use Rattle.xiengmado.proofs.savepoints.xm_save.Goals as goal
-
-pub returns : goal.returns
-returns c = exported_on c.give_saved.ensures (rw c.client-now.ensures at c.save-answer.ensures)
