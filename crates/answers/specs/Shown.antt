@@ -23,7 +23,6 @@ use Rattle.connect.specs.declared.reply.SetupFailed.{SetupFailed}
 use Rattle.connect.specs.declared.reply.SetupAuthenticate.{SetupAuthenticate}
 use Rattle.model.specs.Model as Model
 use Rattle.requests.specs.declared.Mode.{Mode}
-use Rattle.requests.specs.Room as Room
 use Rattle.held.specs.Head as Head
 use Rattle.model.specs.Model.{Filing}
 use Rattle.model.specs.Says.{Shown, none, packet, ShownPoll, again, no_reply, reply, IfShown, IfPolled, Under, Bare}
@@ -232,7 +231,9 @@ mode_in n = choose (is_mode n) (Ok (mode_of n)) (Err BadRoom)
 
 -- what becomes of the answers of a request: 0 where nothing is discarded, 1 for DiscardReply, 2 for DiscardReplyAndError
 abbrev pub mode_number : Mode → ℕ
-mode_number mode = Room.mode_number mode
+mode_number Mode.Keep = 0
+mode_number Mode.DiscardReply = 1
+mode_number Mode.DiscardReplyAndError = 2
 
 -- what a held record is: 0 for a reply, 1 for an event
 unfoldable pub kind_number : ℕ → ℕ

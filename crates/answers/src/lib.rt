@@ -22,7 +22,7 @@ pub use many::{give_events, give_fed, give_sent_many};
 pub use one::{
     give_closed, give_enqueued, give_event, give_next, give_poll, give_polled, give_sent,
 };
-pub use words::{MOST_KIND, discard_mode, kind_number};
+pub use words::{MOST_KIND, discard_mode, kind_number, mode_number};
 
 // 1 for true.
 pub fn bit(b: bool) -> u8

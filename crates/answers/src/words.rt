@@ -4,11 +4,12 @@
 ghost use Rattle.std.specs.Prelude.{◌≡◌};
 ghost use Rattle.model.specs.SaysBatch.{says_stop};
 ghost use Rattle.model.specs.Feed.{says_halt};
-ghost use Rattle.answers.specs.Shown.{place_number, stop_number, halt_number, mode_in, kind_number};
+ghost use Rattle.answers.specs.Shown.{place_number, stop_number, halt_number, mode_in, mode_number, kind_number};
 
 use crate::code;
 use model::{DiscardMode, Halt, Place, Stop};
 use refusal::Refusal;
+use requests::Mode;
 
 // The largest number that means a kind.
 pub const MOST_KIND: u8 = 2;
@@ -28,6 +29,18 @@ pub fn discard_mode(number: u8) -> Result<DiscardMode, Refusal>
         1 => Ok(DiscardMode::DiscardReply),
         2 => Ok(DiscardMode::DiscardReplyAndError),
         _ => Err(Refusal::BadRoom),
+    }
+}
+
+// Not the conversion of `requests`, whose numbers are those of its own bytes: what C is shown stays
+// where these change.
+pub fn mode_number(mode: Mode) -> u8
+    ensures { result ≡ mode_number mode }
+{
+    match mode {
+        Mode::Keep => 0,
+        Mode::DiscardReply => 1,
+        Mode::DiscardReplyAndError => 2,
     }
 }
 

@@ -1,4 +1,4 @@
--- What the contract of `number::decimal` cites: a number as text. Assumes nothing.
+-- A number as text, digit by digit from its end: a second saying of `decimal`, which `decimal_is` ties to it. Assumes nothing.
 use Rattle.std.specs.Prelude.{ℕ, zero, suc, ◌+◌, ◌-◌, ◌/◌, ◌%◌, ◌^◌, ◌<◌, ◌≤◌, cond, List, [], ◌∷◌, ◌++◌, nat_lt}
 
 -- the ASCII code of a digit below 16: `0` to `9`, then `a` to `f`

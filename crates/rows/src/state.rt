@@ -64,8 +64,8 @@ pub fn connection(s: &[u64]) -> Connection
             SPARE,
             SPARE,
             SPARE,
-            SPARE,
-        ] if order < BYTES => Connection {
+            last,
+        ] if order < BYTES && last == SPARE => Connection {
             order: order as u8,
             capacity: capacity as usize,
             room: room as usize,

@@ -3,7 +3,7 @@
 ghost use Rattle.answers.specs.Exported.{returned_of};
 ghost use Rattle.xiengmado.specs.Exports.{XmRequestAt, XmRecordAt};
 
-use answers::{bit, kind_number};
+use answers::{bit, kind_number, mode_number};
 use refusal::Refusal;
 
 // What is kept of the request of a number: whether its reply has descriptors, and its mode (0 none, 1
@@ -22,7 +22,7 @@ pub fn xm_request_at(
     }
     let request = requests::get(requests, number);
     *descriptors = bit(request.descriptors);
-    *mode = u8::from(request.mode);
+    *mode = mode_number(request.mode);
     Ok(())
 }
 

@@ -11,4 +11,4 @@ pub get-request-requires : goal.get-request-requires
 get-request-requires c = let z = (sized_is _ _).0 (sym c.sized.ensures ∙ c.if-not-sized.false) in omega (arith, z.least, z.holds)
 
 pub returns : goal.returns
-returns c = exported_by _ (kept_some _ _ c.capacity.ensures (sym c.sized.ensures ∙ c.if-not-sized.false)) refl (rw (c.from.ensures, c.bit.ensures, c.get-request.ensures))
+returns c = exported_by _ (kept_some _ _ c.capacity.ensures (sym c.sized.ensures ∙ c.if-not-sized.false)) refl (rw (c.mode_number.ensures, c.bit.ensures, c.get-request.ensures))
