@@ -7,6 +7,8 @@
 // the three parts is decided, and is no state. Which reply holds which is the caller's to know.
 #![tactic(auto)]
 
+mod moves;
+
 ghost use Rattle.std.specs.Prelude.{◌≡◌, ◌+◌, ◌≤◌, length};
 ghost use Rattle.descriptors.specs.Room.{most_descriptors, total, room, Sound, sound, enqueue, hold_counts, close_waiting, close_held, hand_out, take_closed, closing, held_run, Gives};
 
@@ -45,7 +47,7 @@ pub fn enqueue(slots: &mut [u32], counts: Counts, list: &[u32]) -> Counts
     ensures { room slots.new result ≡ enqueue list.now (room slots.old counts) }
 {
     let end = counts.closed + counts.held + counts.waiting;
-    slots[end..end + list.len()].copy_from_slice(list);
+    moves::copy(slots, end, list, 0, list.len());
     Counts {
         waiting: counts.waiting + list.len(),
         ..counts
@@ -71,7 +73,7 @@ pub fn close_waiting(slots: &mut [u32], counts: Counts, n: usize) -> Counts
 {
     let start = counts.closed;
     let mid = start + counts.held;
-    slots[start..mid + n].rotate_left(counts.held);
+    moves::rotate(slots, start, mid, mid + n);
     Counts {
         closed: start + n,
         waiting: counts.waiting - n,
@@ -86,7 +88,7 @@ pub fn close_held(slots: &mut [u32], counts: Counts, at: usize, n: usize) -> Cou
 {
     let start = counts.closed;
     let run = start + at;
-    slots[start..run + n].rotate_left(at);
+    moves::rotate(slots, start, run, run + n);
     Counts {
         closed: start + n,
         held: counts.held - n,
@@ -102,7 +104,7 @@ pub fn hand_out(slots: &mut [u32], counts: Counts, at: usize, n: usize, out: &mu
     let from = counts.closed + at;
     let next = from + n;
     let end = counts.closed + counts.held + counts.waiting;
-    out[..n].copy_from_slice(&slots[from..next]);
+    moves::copy(out, 0, slots, from, n);
     slots.copy_within(next..end, from);
     Counts {
         held: counts.held - n,
@@ -116,7 +118,7 @@ pub fn take_closed(slots: &mut [u32], counts: Counts, out: &mut [u32]) -> Counts
     ensures { Gives (take_closed (room slots.old counts)) (closing (room slots.old counts)) out.old (room slots.new result) out.new }
 {
     let n = counts.closed;
-    out[..n].copy_from_slice(&slots[..n]);
+    moves::copy(out, 0, slots, 0, n);
     slots.copy_within(n..n + counts.held + counts.waiting, 0);
     Counts {
         closed: 0,

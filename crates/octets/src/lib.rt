@@ -12,6 +12,7 @@ ghost use Rattle.std.specs.Prelude.{◌≡◌, ◌+◌, ◌≤◌, length};
 ghost use Rattle.octets.specs.Bytes.{legal};
 ghost use Rattle.octets.specs.Field.{field, put_field};
 
+use moves::copy_bytes;
 pub use moves::{copy_in, copy_out, rotate, slide};
 
 // A part of a buffer: where it starts, and where the bytes behind it start.
@@ -90,10 +91,10 @@ pub fn put_u16(order: u8, s: &mut [u8], at: usize, x: u16)
     ensures { s.new ≡ put_field order s.old at 2 x }
 {
     if order == LITTLE {
-        copy_in(s, at, &u16::to_le_bytes(x));
+        copy_bytes(s, at, &u16::to_le_bytes(x));
         return;
     }
-    copy_in(s, at, &u16::to_be_bytes(x));
+    copy_bytes(s, at, &u16::to_be_bytes(x));
 }
 
 // x over the four bytes from at on.
@@ -102,10 +103,10 @@ pub fn put_u32(order: u8, s: &mut [u8], at: usize, x: u32)
     ensures { s.new ≡ put_field order s.old at 4 x }
 {
     if order == LITTLE {
-        copy_in(s, at, &u32::to_le_bytes(x));
+        copy_bytes(s, at, &u32::to_le_bytes(x));
         return;
     }
-    copy_in(s, at, &u32::to_be_bytes(x));
+    copy_bytes(s, at, &u32::to_be_bytes(x));
 }
 
 // x over the eight bytes from at on.
@@ -114,8 +115,8 @@ pub fn put_u64(order: u8, s: &mut [u8], at: usize, x: u64)
     ensures { s.new ≡ put_field order s.old at 8 x }
 {
     if order == LITTLE {
-        copy_in(s, at, &u64::to_le_bytes(x));
+        copy_bytes(s, at, &u64::to_le_bytes(x));
         return;
     }
-    copy_in(s, at, &u64::to_be_bytes(x));
+    copy_bytes(s, at, &u64::to_be_bytes(x));
 }

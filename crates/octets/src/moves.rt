@@ -1,9 +1,10 @@
 // Moves within one slice, and copies between two.
 //
-// A run of 32 to 64 bytes is moved as its first block and its last one, which may share bytes. Both
-// are read before either is written, so it may overlap the place it goes to. A longer run goes in
-// turns of 64 bytes, from the end that is safe, and what the turns leave by the library's
-// `copy_within`, which goes byte by byte.
+// A run of 32 to 64 bytes is its first block and its last one, which may share bytes. Both are read
+// before either is written, so it may overlap the place it goes to. A longer run goes in turns of 64
+// bytes, from the end that is safe, and what the turns leave goes byte by byte, within a slice by the
+// library's `copy_within`. Its `copy_from_slice` and `rotate_left` serve no archive for C here: they
+// call memmove, which whoever links such an archive would have to bring.
 ghost use Rattle.std.specs.Prelude.{◌≡◌, ◌+◌, ◌-◌, ◌≤◌, ◌++◌, length};
 ghost use Rattle.octets.specs.Put.{put, cut};
 
@@ -69,8 +70,38 @@ pub fn copy_in(dst: &mut [u8], at: usize, src: &[u8])
     requires { at + length src.now ≤ length dst.old }
     ensures { dst.new ≡ put dst.old at src.now }
 {
-    let end = at + src.len();
-    dst[at..end].copy_from_slice(src);
+    let n = src.len();
+    if SIZE <= n && n <= TURN {
+        copy_ends(dst, at, src, 0, n);
+        return;
+    }
+    for i in 0..n / TURN {
+        let from = TURN * i;
+        copy_ends(dst, at + from, src, from, TURN);
+    }
+    let done = n - n % TURN;
+    copy_bytes(dst, at + done, &src[done..]);
+}
+
+// The n bytes of src from index from on, in two blocks.
+fn copy_ends(dst: &mut [u8], at: usize, src: &[u8], from: usize, n: usize)
+    requires { (32 ≤ n) × (n ≤ 64) × (from + n ≤ length src.now) × (at + n ≤ length dst.old) }
+    ensures { dst.new ≡ put dst.old at (cut from n src.now) }
+{
+    let rest = n - SIZE;
+    let first = get_block(src, from);
+    let last = get_block(src, from + rest);
+    put_block(dst, at, first);
+    put_block(dst, at + rest, last);
+}
+
+pub(crate) fn copy_bytes(dst: &mut [u8], at: usize, src: &[u8])
+    requires { at + length src.now ≤ length dst.old }
+    ensures { dst.new ≡ put dst.old at src.now }
+{
+    for i in 0..src.len() {
+        dst[at + i] = src[i];
+    }
 }
 
 // The n bytes of src from index from on over the first of dst.
@@ -87,5 +118,7 @@ pub fn rotate(s: &mut [u8], at: usize, mid: usize, end: usize)
     requires { (at ≤ mid) × (mid ≤ end) × (end ≤ length s.old) }
     ensures { s.new ≡ put s.old at (cut mid (end - mid) s.old ++ cut at (mid - at) s.old) }
 {
-    s[at..end].rotate_left(mid - at);
+    s[at..mid].reverse();
+    s[mid..end].reverse();
+    s[at..end].reverse();
 }

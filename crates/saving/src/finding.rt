@@ -78,7 +78,13 @@ fn requests_at(bytes: &[u8], at: usize) -> Option<usize>
 fn are_codes(bytes: &[u8]) -> bool
     ensures { result ≡ list_all is_code bytes.now }
 {
-    bytes.iter().all(|code| *code <= LAST_CODE)
+    let mut good = true;
+    for &code in bytes {
+        if LAST_CODE < code {
+            good = false;
+        }
+    }
+    good
 }
 
 // A section of held packets of a kind, with numbers up to the last, which never fall where they
