@@ -1,147 +1,147 @@
--- Fields by the library's conversions between numbers and bytes. Assumes nothing.
-use Rattle.std.specs.Prelude.{◌≡◌, refl, ℕ, zero, suc, ◌+◌, ◌-◌, ◌/◌, ◌≤◌, ◌<◌, ◌^◌, List, [], ◌∷◌, reverse, length, get_or}
-use Rattle.std.specs.Int.{w16, w32, w64, from_le_bytes, from_be_bytes, to_le_bytes, to_be_bytes}
-use Rattle.std.proofs.Common.{sym, ap, ◌∙◌, arith, eq-eqb, ne_eqb}
-use Rattle.std.proofs.lemmas.Nat.{le_bytes_2, le_bytes_4, le_bytes_8, be_bytes_2, be_bytes_4, be_bytes_8}
-use Rattle.std.proofs.Math.Decide.{dec_lt}
-use Rattle.std.proofs.Math.ListN.{get_or-eq_default}
-use Rattle.std.proofs.lemmas.List.{get_or-reverse, length-reverse}
+-- Fields by the library's conversions between numbers and bytes, through their halves. Assumes nothing.
+use Rattle.std.specs.Prelude.{◌≡◌, refl, ℕ, zero, suc, ◌+◌, ◌*◌, ◌/◌, ◌%◌, ◌≤◌, ◌<◌, ◌^◌, true, false, List, [], ◌∷◌, eqb, length, get_or}
+use Rattle.std.specs.Int.{w16, w32, w64, from_le_bytes, from_be_bytes, byte_at, bytes_low_first, bytes_high_first}
+use Rattle.std.proofs.Common.{sym, ap, ◌∙◌, add_assoc, arith, pow-add}
+use Rattle.std.proofs.lemmas.Nat.{mul-add-lt, div-mul-add, mod-mul-add}
 use Rattle.octets.specs.Logic.{choose}
-use Rattle.octets.specs.Bytes.{little_order, low_bytes, low_number, turned, bytes_of, number_in, low_number_low_bytes, Octets}
-use Rattle.octets.specs.Put.{cut, cut_none, cut_ahead, put}
-use Rattle.octets.specs.Field.{field, put_field}
+use Rattle.octets.specs.Bytes.{little_order, ordered, ordered_low, ordered_high, Octets}
+use Rattle.octets.specs.Put.{cut, cut_one, cut_add, cut_all, length_cut, put, put_put, set_one, length_put}
+use Rattle.octets.specs.Field.{field, field_one, field_halves, put_field, put_one, put_halves}
 
--- ---- the bytes of a field
+-- the bytes of a field that is halved k times
+abbrev pub width : ℕ → ℕ
+width zero = 1
+width (suc k) = width k + width k
+
+-- the number whose halves, each below m, stand as a and b
+abbrev whole : ℕ → ℕ → ℕ → ℕ → ℕ
+whole o m a b = ordered o a b + m * ordered o b a
+
+-- the number of the bytes from index at on, which are halved k times
+abbrev joined : ℕ → ℕ → ℕ → List ℕ → ℕ
+joined o zero at s = get_or s at 0
+joined o (suc k) at s = whole o (2 ^ (8 * width k)) (joined o k at s) (joined o k (at + width k) s)
+
+-- ---- as it is read
+
+-- A field is its halves joined, in either order and for each width.
+joined_field : (o k at : ℕ) (s : List ℕ) → at + width k ≤ length s → joined o k at s ≡ field o at (width k) s
+joined_field o zero at s h = field_one o s at (omega arith)
+joined_field o (suc k) at s h =
+    field_halves o s at (width k) _ _ h refl refl (joined_field o k at s (omega arith)) (joined_field o k (at + width k) s (omega arith))
 
 -- n elements of s from index at + k on
 abbrev pub row : ℕ → ℕ → ℕ → List ℕ → List ℕ
 row zero k at s = []
 row (suc n) k at s = get_or s (at + k) 0 ∷ row n (k + 1) at s
 
-cut_row : (n k at : ℕ) (s : List ℕ) → at + (k + n) ≤ length s → cut (at + k) n s ≡ row n k at s
-cut_row zero k at s h = cut_none s (at + k)
-cut_row (suc n) k at s h =
-    let e : suc n ≡ 1 + n = omega arith in
-    let f : at + k + 1 ≡ at + (k + 1) = omega arith in
-    ap (λ (m : ℕ). cut (at + k) m s) e ∙ cut_ahead s (at + k) n (omega arith)
-    ∙ ap (λ (m : ℕ). get_or s (at + k) 0 ∷ cut m n s) f ∙ ap (λ (l : List ℕ). get_or s (at + k) 0 ∷ l) (cut_row n (k + 1) at s (omega arith))
+-- Least significant first, the first of two is taken,
+take_first : {o : ℕ} → o ≡ little_order → (a b : ℕ) → ordered o a b ≡ a
+take_first e a b = sym (ordered_low _ a b e)
 
--- the first, and n behind it
-front : (n at : ℕ) (s : List ℕ) → at + (1 + n) ≤ length s → cut at (1 + n) s ≡ get_or s at 0 ∷ row n 1 at s
-front n at s h = cut_ahead s at n (omega arith) ∙ ap (λ (l : List ℕ). get_or s at 0 ∷ l) (cut_row n 1 at s (omega arith))
+-- and otherwise the second.
+take_second : {o : ℕ} → (o ≡ little_order → ⊥) → (a b : ℕ) → ordered o a b ≡ b
+take_second e a b = sym (ordered_high _ a b e)
 
-module _ (o at n : ℕ) (s : List ℕ) where
-  field_low : o ≡ little_order → low_number (cut at n s) ≡ field o at n s
-  unfolding field number_in turned choose
-  field_low e = simp (eq-eqb o little_order e)
-
-  field_high : (o ≡ little_order → ⊥) → low_number (reverse (cut at n s)) ≡ field o at n s
-  unfolding field number_in turned choose
-  field_high e = simp (ne_eqb o little_order e)
-
-module _ (o n x : ℕ) where
-  written_low : o ≡ little_order → low_bytes n x ≡ bytes_of o n x
-  unfolding bytes_of turned choose
-  written_low e = simp (eq-eqb o little_order e)
-
-  written_high : (o ≡ little_order → ⊥) → reverse (low_bytes n x) ≡ bytes_of o n x
-  unfolding bytes_of turned choose
-  written_high e = simp (ne_eqb o little_order e)
-
--- ---- what the library reads
-
-le_2 : (a b : ℕ) → from_le_bytes w16 (a ∷ b ∷ []) ≡ low_number (a ∷ b ∷ [])
-unfolding low_number
-le_2 a b = omega arith
-
-be_2 : (a b : ℕ) → from_be_bytes w16 (a ∷ b ∷ []) ≡ low_number (b ∷ a ∷ [])
-unfolding low_number
-be_2 a b = omega arith
-
-le_4 : (a b c d : ℕ) → from_le_bytes w32 (a ∷ b ∷ c ∷ d ∷ []) ≡ low_number (a ∷ b ∷ c ∷ d ∷ [])
-unfolding low_number
-le_4 a b c d = omega arith
-
-be_4 : (a b c d : ℕ) → from_be_bytes w32 (a ∷ b ∷ c ∷ d ∷ []) ≡ low_number (d ∷ c ∷ b ∷ a ∷ [])
-unfolding low_number
-be_4 a b c d = omega arith
-
-le_8 : (a b c d e f g h : ℕ) → from_le_bytes w64 (a ∷ b ∷ c ∷ d ∷ e ∷ f ∷ g ∷ h ∷ []) ≡ low_number (a ∷ b ∷ c ∷ d ∷ e ∷ f ∷ g ∷ h ∷ [])
-unfolding low_number
-le_8 a b c d e f g h = omega arith
-
-be_8 : (a b c d e f g h : ℕ) → from_be_bytes w64 (a ∷ b ∷ c ∷ d ∷ e ∷ f ∷ g ∷ h ∷ []) ≡ low_number (h ∷ g ∷ f ∷ e ∷ d ∷ c ∷ b ∷ a ∷ [])
-unfolding low_number
-be_8 a b c d e f g h = omega arith
-
+-- What the library reads is the halves joined, halved once, twice or three times.
 module _ (o at : ℕ) (s : List ℕ) {r : ℕ} where
-  pub read_le_2 : at + 2 ≤ length s → o ≡ little_order → r ≡ from_le_bytes w16 (get_or s at 0 ∷ get_or s (at + 1) 0 ∷ []) → r ≡ field o at 2 s
-  read_le_2 h e p = p ∙ le_2 _ _ ∙ ap low_number (sym (front 1 at s h)) ∙ field_low o at 2 s e
+  pub read_le_2 : at + 2 ≤ length s → o ≡ little_order → r ≡ from_le_bytes w16 (get_or s at 0 ∷ row 1 1 at s) → r ≡ field o at 2 s
+  read_le_2 h e p = let q = simp (take_first e) at (joined_field o 1 at s h) in omega arith
 
-  pub read_be_2 : at + 2 ≤ length s → (o ≡ little_order → ⊥) → r ≡ from_be_bytes w16 (get_or s at 0 ∷ get_or s (at + 1) 0 ∷ []) → r ≡ field o at 2 s
-  read_be_2 h e p = p ∙ be_2 _ _ ∙ ap (λ (l : List ℕ). low_number (reverse l)) (sym (front 1 at s h)) ∙ field_high o at 2 s e
+  pub read_be_2 : at + 2 ≤ length s → (o ≡ little_order → ⊥) → r ≡ from_be_bytes w16 (get_or s at 0 ∷ row 1 1 at s) → r ≡ field o at 2 s
+  read_be_2 h e p = let q = simp (take_second e) at (joined_field o 1 at s h) in omega arith
 
   pub read_le_4 : at + 4 ≤ length s → o ≡ little_order → r ≡ from_le_bytes w32 (get_or s at 0 ∷ row 3 1 at s) → r ≡ field o at 4 s
-  read_le_4 h e p = p ∙ le_4 _ _ _ _ ∙ ap low_number (sym (front 3 at s h)) ∙ field_low o at 4 s e
+  read_le_4 h e p = let q = simp (take_first e, add_assoc) at (joined_field o 2 at s h) in omega arith
 
   pub read_be_4 : at + 4 ≤ length s → (o ≡ little_order → ⊥) → r ≡ from_be_bytes w32 (get_or s at 0 ∷ row 3 1 at s) → r ≡ field o at 4 s
-  read_be_4 h e p = p ∙ be_4 _ _ _ _ ∙ ap (λ (l : List ℕ). low_number (reverse l)) (sym (front 3 at s h)) ∙ field_high o at 4 s e
+  read_be_4 h e p = let q = simp (take_second e, add_assoc) at (joined_field o 2 at s h) in omega arith
 
   pub read_le_8 : at + 8 ≤ length s → o ≡ little_order → r ≡ from_le_bytes w64 (get_or s at 0 ∷ row 7 1 at s) → r ≡ field o at 8 s
-  read_le_8 h e p = p ∙ le_8 _ _ _ _ _ _ _ _ ∙ ap low_number (sym (front 7 at s h)) ∙ field_low o at 8 s e
+  read_le_8 h e p = let q = simp (take_first e, add_assoc) at (joined_field o 3 at s h) in omega arith
 
   pub read_be_8 : at + 8 ≤ length s → (o ≡ little_order → ⊥) → r ≡ from_be_bytes w64 (get_or s at 0 ∷ row 7 1 at s) → r ≡ field o at 8 s
-  read_be_8 h e p = p ∙ be_8 _ _ _ _ _ _ _ _ ∙ ap (λ (l : List ℕ). low_number (reverse l)) (sym (front 7 at s h)) ∙ field_high o at 8 s e
+  read_be_8 h e p = let q = simp (take_second e, add_assoc) at (joined_field o 3 at s h) in omega arith
 
--- ---- what the library writes
+-- ---- as it is written
 
-bytes : (n x : ℕ) → Octets (low_bytes n x)
-unfolding low_bytes
-bytes zero x i = omega arith
-bytes (suc n) x zero = omega arith
-bytes (suc n) x (suc i) = bytes n (x / 256) i
+-- Ordered twice, two halves stand as before.
+ordered_twice : (o a b : ℕ) → ordered o (ordered o a b) (ordered o b a) ≡ a
+unfolding ordered choose
+ordered_twice o a b = elim (eqb o little_order) as (λ t. choose t (choose t a b) (choose t b a) ≡ a) [ true ↦ refl | false ↦ refl ]
 
-backwards : (l : List ℕ) → Octets l → Octets (reverse l)
-backwards l h i = go (dec_lt i (length l))
-  where
-    go : Dec (i < length l) → get_or (reverse l) i 0 < 256
-    go (yes p) = rw (get_or-reverse l i 0 p) (h (length l - 1 - i))
-    go (no n) =
-        let z : length (reverse l) ≤ i = omega (arith, length-reverse l, n) in
-        rw (get_or-eq_default (reverse l) 0 z) (omega arith)
+-- What both halves are below, either half is below.
+ordered_below : (o m a b : ℕ) → a < m → b < m → ordered o a b < m
+unfolding ordered choose
+ordered_below o m a b h f = elim (eqb o little_order) as (λ t. choose t a b < m) [ true ↦ h | false ↦ f ]
 
-module _ (x : ℕ) where
-  pub wrote_le_2 : x < 2 ^ 16 → to_le_bytes w16 x ≡ low_bytes 2 x
-  unfolding low_bytes
-  wrote_le_2 h = le_bytes_2 _ x refl (bytes 2 x) (sym (le_2 _ _ ∙ low_number_low_bytes 2 x h))
+module _ (o m a b : ℕ) (h : a < m) (f : b < m) where
+  -- The product stands first, as the library's laws have it.
+  split : whole o m a b ≡ ordered o b a * m + ordered o a b
+  split = omega arith
 
-  pub wrote_be_2 : x < 2 ^ 16 → to_be_bytes w16 x ≡ reverse (low_bytes 2 x)
-  unfolding low_bytes
-  wrote_be_2 h = be_bytes_2 _ x refl (backwards (low_bytes 2 x) (bytes 2 x)) (sym (be_2 _ _ ∙ low_number_low_bytes 2 x h))
+  -- The low half is the rest by m,
+  low : ordered o a b ≡ whole o m a b % m
+  low = sym (rw split (mod-mul-add (ordered o b a) m (ordered o a b) (ordered_below o m a b h f)))
 
-  pub wrote_le_4 : x < 2 ^ 32 → to_le_bytes w32 x ≡ low_bytes 4 x
-  unfolding low_bytes
-  wrote_le_4 h = le_bytes_4 _ x refl (bytes 4 x) (sym (le_4 _ _ _ _ ∙ low_number_low_bytes 4 x h))
+  -- the high one the quotient,
+  high : ordered o b a ≡ whole o m a b / m
+  high = sym (rw split (div-mul-add (ordered o b a) m (ordered o a b) (ordered_below o m a b h f)))
 
-  pub wrote_be_4 : x < 2 ^ 32 → to_be_bytes w32 x ≡ reverse (low_bytes 4 x)
-  unfolding low_bytes
-  wrote_be_4 h = be_bytes_4 _ x refl (backwards (low_bytes 4 x) (bytes 4 x)) (sym (be_4 _ _ _ _ ∙ low_number_low_bytes 4 x h))
+  -- so the order says which of them stands first,
+  first : a ≡ ordered o (whole o m a b % m) (whole o m a b / m)
+  first = sym (ordered_twice o a b) ∙ (λ k. ordered o (low k) (high k))
 
-  pub wrote_le_8 : x < 2 ^ 64 → to_le_bytes w64 x ≡ low_bytes 8 x
-  unfolding low_bytes
-  wrote_le_8 h = le_bytes_8 _ x refl (bytes 8 x) (sym (le_8 _ _ _ _ _ _ _ _ ∙ low_number_low_bytes 8 x h))
+  -- and which second,
+  second : b ≡ ordered o (whole o m a b / m) (whole o m a b % m)
+  second = sym (ordered_twice o b a) ∙ (λ k. ordered o (high k) (low k))
 
-  pub wrote_be_8 : x < 2 ^ 64 → to_be_bytes w64 x ≡ reverse (low_bytes 8 x)
-  unfolding low_bytes
-  wrote_be_8 h =
-      be_bytes_8 _ x refl (backwards (low_bytes 8 x) (bytes 8 x))
-      (sym (be_8 _ _ _ _ _ _ _ _ ∙ low_number_low_bytes 8 x h))
+  -- and the number is below the square.
+  below : whole o m a b < m * m
+  below = rw split (mul-add-lt (ordered o b a) m (ordered o a b) m (ordered_below o m b a f h) (ordered_below o m a b h f))
 
-module _ (o : ℕ) (s : List ℕ) (at n x : ℕ) {v s' : List ℕ} where
-  pub put_low : o ≡ little_order → s' ≡ put s at v → v ≡ low_bytes n x → s' ≡ put_field o s at n x
-  unfolding put_field
-  put_low e p q = p ∙ ap (put s at) (q ∙ written_low o n x e)
+module _ (o : ℕ) (v : List ℕ) (h : Octets v) where
+  -- Bytes join to a number that fits them.
+  joined_below : (k i : ℕ) → joined o k i v < 2 ^ (8 * width k)
+  joined_below zero i = h i
+  joined_below (suc k) i =
+      let e : 8 * (width k + width k) ≡ 8 * width k + 8 * width k = omega arith in
+      rw (e, pow-add 2 (8 * width k) (8 * width k)) (below o _ _ _ (joined_below k i) (joined_below k (i + width k)))
 
-  pub put_high : (o ≡ little_order → ⊥) → s' ≡ put s at v → v ≡ reverse (low_bytes n x) → s' ≡ put_field o s at n x
-  unfolding put_field
-  put_high e p q = p ∙ ap (put s at) (q ∙ written_high o n x e)
+  -- To put bytes is to write the halves that they join to, in either order and for each width.
+  joined_put : (k i : ℕ) (s : List ℕ) (at : ℕ) → i + width k ≤ length v → at + width k ≤ length s → put s at (cut i (width k) v) ≡ put_field o s at (width k) (joined o k i v)
+  joined_put zero i s at f g =
+      ap (put s at) (cut_one v i (omega arith)) ∙ sym (set_one s at (get_or v i 0) (omega arith)) ∙ put_one o s at (get_or v i 0) (omega arith) (h i)
+  joined_put (suc k) i s at f g =
+      let n : ℕ = width k in
+      let a : joined o k i v < 2 ^ (8 * n) = joined_below k i in
+      let b : joined o k (i + n) v < 2 ^ (8 * n) = joined_below k (i + n) in
+      let p : length (cut i n v) ≡ n = length_cut i n v (omega arith) in
+      ap (put s at) (cut_add i n n v)
+      ∙ sym (put_put s at n (cut i n v) (cut (i + n) n v) p (omega (arith, length_cut (i + n) n v (omega arith))))
+      ∙ put_halves o s (put s at (cut i n v)) _ at n _ g (first o _ _ _ a b) (second o _ _ _ a b) (joined_put k i s at (omega arith) (omega arith))
+      (joined_put k (i + n) (put s at (cut i n v)) (at + n) (omega arith) (omega (arith, length_put s at (cut i n v) (omega arith))))
+
+-- Whatever the number, each of its bytes is below 256,
+octet : (i x : ℕ) → byte_at i x < 256
+octet zero x = omega arith
+octet (suc i) x = omega arith
+
+-- so what the library writes are bytes, the lowest first
+pub octets_low : (i k x : ℕ) → Octets (bytes_low_first i k x)
+octets_low i zero x j = omega arith
+octets_low i (suc k) x zero = octet i x
+octets_low i (suc k) x (suc j) = octets_low (suc i) k x j
+
+-- or the highest.
+pub octets_high : (k x : ℕ) → Octets (bytes_high_first k x)
+octets_high zero x j = omega arith
+octets_high (suc k) x zero = octet k x
+octets_high (suc k) x (suc j) = octets_high k x j
+
+-- Bytes w put over a field are a write of the number that is read from them.
+pub bytes_put : (o k : ℕ) (s : List ℕ) (at : ℕ) {x : ℕ} {v w s' : List ℕ} → at + width k ≤ length s → s' ≡ put s at v → v ≡ w → Octets w → length w ≡ width k
+    → x ≡ field o 0 (width k) w → s' ≡ put_field o s at (width k) x
+bytes_put o k s at {w = w} h p q b l r =
+    let c : w ≡ cut 0 (width k) w = sym (ap (λ (n : ℕ). cut 0 n w) (sym l) ∙ cut_all w) in
+    p ∙ ap (put s at) (q ∙ c) ∙ joined_put o w b k 0 s at (omega arith) h ∙ ap (put_field o s at (width k)) (joined_field o k 0 w (omega arith) ∙ sym r)

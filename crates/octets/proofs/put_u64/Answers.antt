@@ -1,9 +1,12 @@
-use Rattle.std.proofs.Common.{◌∙◌}
-use Rattle.octets.proofs.Numbers.{wrote_le_8, wrote_be_8, put_low, put_high}
+use Rattle.std.proofs.Common.{refl, sym, arith}
+use Rattle.std.proofs.lemmas.Nat.{from_le_bytes-to_le_bytes_8, from_be_bytes-to_be_bytes_8}
+use Rattle.octets.proofs.Numbers.{read_le_8, read_be_8, octets_low, octets_high, bytes_put}
 use Rattle.octets.proofs.put_u64.Goals as goal
 
 pub returns-then-order-eq-LITTLE : goal.returns-then-order-eq-LITTLE
-returns-then-order-eq-LITTLE c = put_low _ _ _ 8 _ c.if-order-eq-LITTLE.true c.copy_bytes.ensures (c.to_le_bytes.ensures ∙ wrote_le_8 _ c.ranges.x.fits)
+returns-then-order-eq-LITTLE c =
+    bytes_put _ 3 _ _ c.requires c.copy_bytes.ensures c.to_le_bytes.ensures (octets_low 0 8 _) refl (read_le_8 _ 0 _ (omega arith) c.if-order-eq-LITTLE.true (sym (from_le_bytes-to_le_bytes_8 _ c.ranges.x.fits)))
 
 pub returns : goal.returns
-returns c = put_high _ _ _ 8 _ c.if-order-eq-LITTLE.false c.copy_bytes-2.ensures (c.to_be_bytes.ensures ∙ wrote_be_8 _ c.ranges.x.fits)
+returns c =
+    bytes_put _ 3 _ _ c.requires c.copy_bytes-2.ensures c.to_be_bytes.ensures (octets_high 8 _) refl (read_be_8 _ 0 _ (omega arith) c.if-order-eq-LITTLE.false (sym (from_be_bytes-to_be_bytes_8 _ c.ranges.x.fits)))
