@@ -1,4 +1,4 @@
-use Rattle.std.proofs.Common.{◌≡◌, refl, sym, ap, ◌∙◌, ℕ, ◌+◌, ◌-◌, ◌*◌, ◌/◌, ◌%◌, ◌≤◌, List, arith, zero-add, length, take, drop}
+use Rattle.std.proofs.Common.{◌≡◌, sym, ap, ◌∙◌, ℕ, ◌+◌, ◌-◌, ◌%◌, ◌≤◌, List, arith, zero-add, length, take, drop}
 use Rattle.octets.specs.Put.{put, cut, cut_all}
 use Rattle.octets.specs.Moves.{copy_none, copy_on}
 use Rattle.octets.proofs.moves.copy_in.Goals as goal
