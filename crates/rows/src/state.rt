@@ -43,6 +43,8 @@ fn unfit() -> Connection
     }
 }
 
+// The last number is tested apart from the three before it, so that an edit that must fail can turn it
+// alone.
 #[tactic(auto, unfolding(crate::specs::State::connection_of, crate::specs::State::fits, octets::specs::Logic::both, octets::specs::Logic::choose))]
 pub fn connection(s: &[u64]) -> Connection
     ensures { result ≡ connection_of s.now }

@@ -75,6 +75,8 @@ fn requests_at(bytes: &[u8], at: usize) -> Option<usize>
     Some(end)
 }
 
+// Whether each byte is the code of a request. One pass without an early exit, so that it is
+// vectorised.
 fn are_codes(bytes: &[u8]) -> bool
     ensures { result ≡ list_all is_code bytes.now }
 {
